@@ -8,7 +8,7 @@ use Rattle.a_terms.specs.Meaning.{AHeap, AWord}
 use Rattle.a_terms.specs.Tree.{AConsts}
 use Rattle.h_terms.specs.Meaning.{HWord, HWords, MoreHWords, NoHWords, hheld, hhold, hone_more, hsize}
 
-none_some : {A : Type 0} (x : A) → None ≡ Some x → ⊥
+pub none_some : {A : Type 0} (x : A) → None ≡ Some x → ⊥
 none_some x e = cc
 
 some_same : {A : Type 0} (o : Option A) (x y : A) → o ≡ Some x → o ≡ Some y → x ≡ y

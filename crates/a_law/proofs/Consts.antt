@@ -1,6 +1,6 @@
 -- The numbers of data.
-use Rattle.std.proofs.Common.{◌≡◌, ℕ, zero, suc, ◌+◌, List, [], ◌∷◌, ◌++◌, length, Some, None, refl, sym, ap, ◌∙◌}
-use Rattle.std.proofs.Common.{arith, length-append}
+use Rattle.std.proofs.Common.{◌≡◌, ℕ, suc, ◌+◌, List, [], ◌∷◌, ◌++◌, length, Some, refl, sym, ap, ◌∙◌, arith}
+use Rattle.std.proofs.Common.{length-append}
 use Rattle.std.specs.Prelude.{Bool, true, false, ◌&&◌, slice_get}
 use Rattle.a_law.specs.Allocate.{Known, are_const, arg_depth, arg_levels, atypes, d_next, d_types, data_all}
 use Rattle.a_law.specs.Allocate.{data_block, data_d, data_t, data_v, data_vs, datum_of, known_of, n_all, n_block, n_d}
@@ -10,6 +10,7 @@ use Rattle.a_terms.specs.Tree.{AConsts, ATy}
 use Rattle.a_terms.specs.Typing.{types_of}
 use Rattle.h_terms.specs.H.{HApply, HArith, HBlk, HBlks, HCall, HCell, HDecl, HGet, HHalt, HIf, HInt, HLabel, HLet}
 use Rattle.h_terms.specs.H.{HName, HPack, HProj, HSet, HTm, HTuple, HUnpack, HVal, HVals, HVar, MoreHVals, NoHVals}
+use Rattle.a_law.proofs.Rel.{nth_more}
 
 pub both_true : (a b : Bool) → a && b ≡ true → (a ≡ true) × (b ≡ true)
 both_true true b e = (refl, e)
@@ -22,14 +23,6 @@ both_true false b e = absurd (impossible e)
 abbrev pub Within : {A : Type 0} → List A → ℕ → List A → Type 0
 Within {A} D b xs = (i : ℕ) (x : A) → slice_get xs i ≡ Some x → slice_get D (b + i) ≡ Some x
 
-nth_front : {A : Type 0} (xs ys : List A) (i : ℕ) (x : A) → slice_get xs i ≡ Some x → slice_get (xs ++ ys) i ≡ Some x
-nth_front [] ys i x e = absurd (impossible e)
-  where
-    impossible : None ≡ Some x → ⊥
-    impossible q = cc
-nth_front (z ∷ xs) ys zero x e = e
-nth_front (z ∷ xs) ys (suc i) x e = nth_front xs ys i x e
-
 nth_back : {A : Type 0} (xs ys : List A) (i : ℕ) → slice_get (xs ++ ys) (length xs + i) ≡ slice_get ys i
 nth_back [] ys i = let e : 0 + i ≡ i = omega arith in ap (slice_get ys) e
 nth_back (x ∷ xs) ys i =
@@ -37,7 +30,7 @@ nth_back (x ∷ xs) ys i =
     ap (slice_get (x ∷ (xs ++ ys))) e ∙ nth_back xs ys i
 
 pub front : {A : Type 0} (D : List A) (b : ℕ) (xs ys : List A) → Within D b (xs ++ ys) → Within D b xs
-front D b xs ys w i x e = w i x (nth_front xs ys i x e)
+front D b xs ys w i x e = w i x (nth_more xs ys i x e)
 
 pub back : {A : Type 0} (D : List A) (b c : ℕ) (xs ys : List A) → c ≡ b + length xs → Within D b (xs ++ ys) →
     Within D c ys

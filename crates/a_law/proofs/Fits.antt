@@ -5,7 +5,8 @@ use Rattle.std.specs.Prelude.{max}
 use Rattle.a_law.proofs.CLaws.{CLaws}
 use Rattle.a_law.proofs.Regs.{alloc_small}
 use Rattle.a_law.proofs.Thirds.{length_all, thirds_all, thirds_t}
-use Rattle.a_law.proofs.Typing.{all_of, mixed, program_typed}
+use Rattle.a_law.proofs.Agree.{all_of, mixed}
+use Rattle.a_law.proofs.Typing.{program_typed}
 use Rattle.h_terms.specs.Laws.{HTypedIsAny}
 use Rattle.a_law.specs.Statements.{AllocFits, AllocTypesKept}
 use Rattle.a_law.specs.Allocate.{afull, atype, atypes, n_all}

@@ -1,3 +1,4 @@
+mod Agree
 mod Asking
 mod CLaws
 mod Cells
@@ -6,6 +7,7 @@ mod Data
 mod Endings
 mod FilledAlike
 mod Fits
+mod Inside
 mod Known
 mod Meaning
 mod OneAllocating
@@ -23,3 +25,4 @@ mod Standing
 mod Thirds
 mod Types
 mod Typing
+mod Values

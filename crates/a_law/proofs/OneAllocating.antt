@@ -1,37 +1,23 @@
 -- What stands for a hoisted program is one program, but for the types of its mallocs and the numbers of equal data.
 use Rattle.std.proofs.Common.{◌≡◌, ⊎_elim, ℕ, suc, ◌+◌, List, [], ◌∷◌, ◌++◌, length, None, refl, sym, ap, ap₂, ◌∙◌}
 use Rattle.std.proofs.Common.{subst, append-nil, arith}
-use Rattle.h_terms.specs.H.{HVal, HTuple, HVals, NoHVals, MoreHVals, HName, HProj, HArith, HUnpack, HCell, HGet, HSet}
-use Rattle.h_terms.specs.H.{HTm, HLet, HCall, HIf, HHalt, HBlks}
-use Rattle.a_terms.specs.Tree.{ATys, NoATys, MoreATys, AVal, Var, ATm, Let, Call, If0, Halt, Value, Proj, Arith, Unpack}
-use Rattle.a_terms.specs.Tree.{Malloc, Init, ABlk, arity}
+use Rattle.h_terms.specs.H.{HVal, HTuple, HVals, HName, HProj, HArith, HUnpack, HCell, HGet, HSet, HTm, HLet, HCall}
+use Rattle.h_terms.specs.H.{HIf, HHalt, HBlks}
+use Rattle.a_terms.specs.Tree.{ATys, NoATys, MoreATys, AVal, Var, ATm, Let, Call, If0, Halt, Value, Proj, Arith}
+use Rattle.a_terms.specs.Tree.{Unpack, Malloc, Init, ABlk, arity}
 use Rattle.a_law.specs.Allocate.{atypes}
 use Rattle.a_law.specs.Constants.{Constants, constant, of_args, tuples_in}
 use Rattle.a_law.specs.OneAllocation.{unnumbered, all_unnumbered, untyped, plain_term, plain_blocks, OneAllocation}
-use Rattle.a_law.specs.Stands.{Thing, Is, Gone, listed, takes, all_take, Stands_v, Stands_vs, Any, Stands_t, Stands_all}
-use Rattle.a_law.specs.Stands.{arg_things}
+use Rattle.a_law.specs.Stands.{Thing, Is, Gone, listed, takes, all_take, Stands_v, Stands_vs, Any, Stands_t}
+use Rattle.a_law.specs.Stands.{Stands_all, arg_things}
 use Rattle.a_law.proofs.Endings.{Ends, Makes, begins, all_there}
-use Rattle.a_law.proofs.FilledAlike.{alike, apart, cancel, count_fields}
+use Rattle.a_law.proofs.FilledAlike.{head_is, alike, apart, cancel, count_fields}
 use Rattle.a_law.proofs.OneValue.{Good, good_none, good_gone, good_is, one_value, as_many}
 use Rattle.a_law.proofs.Posts.{things_posts, first_posts, fields_of, to_come_filled}
+use Rattle.a_law.proofs.Inside.{inside, first_value, more_values, no_values}
 
 none_more : {A : Type 0} (x : A) (xs : List A) → [] ≡ x ∷ xs → ⊥
 none_more x xs e = cc
-
-first_is : {A : Type 0} {x y : A} {xs ys : List A} → x ∷ xs ≡ y ∷ ys → x ≡ y
-first_is e = cc
-
-inside : {vs ws : HVals} → HTuple vs ≡ HTuple ws → vs ≡ ws
-inside e = cc
-
-first_value : {v w : HVal} {vs ws : HVals} → MoreHVals v vs ≡ MoreHVals w ws → v ≡ w
-first_value e = cc
-
-more_values : {v w : HVal} {vs ws : HVals} → MoreHVals v vs ≡ MoreHVals w ws → vs ≡ ws
-more_values e = cc
-
-no_values : {v : HVal} {vs : HVals} → NoHVals ≡ MoreHVals v vs → ⊥
-no_values e = cc
 
 one_list : (xs ys : List HVal) → listed xs ≡ listed ys → xs ≡ ys
 one_list [] [] e = refl
@@ -106,8 +92,8 @@ module _ (ds : List HVal) where
         let gs = fields_of ds n.2 h os [] n.1 [] made old k n.5 in
         let p = to_come_filled ds m.2 h os [] m.1 [] made old k m.5 refl in
         let q = to_come_filled ds n.2 h os [] n.1 [] made old k n.5 refl in
-        let pt = first_is (cancel (things_posts os made) (HTuple (listed fs) ∷ p.0) (t ∷ rs) (p.1 ∙ sym eq)) in
-        let qt = first_is (cancel (things_posts os made) (HTuple (listed gs) ∷ q.0) (t ∷ rs) (q.1 ∙ sym eq)) in
+        let pt = head_is (cancel (things_posts os made) (HTuple (listed fs) ∷ p.0) (t ∷ rs) (p.1 ∙ sym eq)) in
+        let qt = head_is (cancel (things_posts os made) (HTuple (listed gs) ∷ q.0) (t ∷ rs) (q.1 ∙ sym eq)) in
         let same = one_list fs gs (inside (pt ∙ sym qt)) in
         let c = count_fields ds os k h m.2 [] m.1 [] made old m.5 in
         let d = count_fields ds os k h n.2 [] n.1 [] made old n.5 in

@@ -1,13 +1,13 @@
 -- A value that stands for a hoisted one is one value, but for the numbers of its data.
-use Rattle.std.proofs.Common.{◌≡◌, ◌<◌, ◌-◌, ℕ, ℤ, zero, suc, List, [], ◌∷◌, length, Option, Some, None, inl, inr, ◌⊎◌}
+use Rattle.std.proofs.Common.{◌≡◌, ◌<◌, ◌-◌, ℕ, zero, suc, List, [], ◌∷◌, length, Option, Some, None, inl, inr, ◌⊎◌}
 use Rattle.std.proofs.Common.{refl, sym, ap, ap₂, ◌∙◌, subst, arith}
-use Rattle.c_terms.specs.C.{CTys, CTy}
 use Rattle.h_terms.specs.H.{HVal, HVar, HInt, HLabel, HTuple, HApply, HPack}
 use Rattle.a_terms.specs.Tree.{AVal, Var, Num, Lab, Data, Apply, Pack}
 use Rattle.a_law.specs.Allocate.{atype, atypes}
 use Rattle.a_law.specs.Constants.{Constants, constant}
 use Rattle.a_law.specs.OneAllocation.{unnumbered}
 use Rattle.a_law.specs.Stands.{Thing, Is, Made, Gone, thing_at, Means, tuple_of, takes, made_at, Stands_v}
+use Rattle.a_law.proofs.Inside.{integer, label, applied, types, hidden, content, shape}
 
 -- each variable and each tuple stands at one place
 abbrev Real : Thing → Type 0
@@ -150,28 +150,6 @@ nothing x e = cc
 only : (x y : Thing) → x ∷ [] ≡ y ∷ [] → x ≡ y
 only x y e = cc
 
--- what is in a value
-integer : {m n : ℤ} → HInt m ≡ HInt n → m ≡ n
-integer e = cc
-
-label : {l m : ℕ} → HLabel l ≡ HLabel m → l ≡ m
-label e = cc
-
-applied : {v w : HVal} {ts us : CTys} → HApply v ts ≡ HApply w us → v ≡ w
-applied e = cc
-
-types : {v w : HVal} {ts us : CTys} → HApply v ts ≡ HApply w us → ts ≡ us
-types e = cc
-
-hidden : {v w : HVal} {a b c d : CTy} → HPack a v b ≡ HPack c w d → a ≡ c
-hidden e = cc
-
-packed : {v w : HVal} {a b c d : CTy} → HPack a v b ≡ HPack c w d → v ≡ w
-packed e = cc
-
-shape : {v w : HVal} {a b c d : CTy} → HPack a v b ≡ HPack c w d → b ≡ d
-shape e = cc
-
 module _ (ds : List HVal) (os : Constants) (env : List Thing) (k : ℕ) (good : Good env k) where
   one_var : (x y : Thing) (i j : ℕ) (w : HVal) → thing_at env i ≡ x → thing_at env j ≡ y → Means os x k w →
       Means os y k w → tuple_of x ≡ tuple_of y → i ≡ j
@@ -252,7 +230,7 @@ module _ (ds : List HVal) (os : Constants) (env : List Thing) (k : ℕ) (good : 
       absurd (differs 5 4 w (ap form s.3) (ap form r.2) (λ e. omega (arith, e)))
   one_value (Pack h1 v1 s1) (Pack h2 v2 s2) w s r t =
       let e = sym s.3 ∙ r.3 in
-      let inner = subst (λ z. Stands_v ds os env k v2 z) (sym (packed e)) r.6 in
+      let inner = subst (λ z. Stands_v ds os env k v2 z) (sym (content e)) r.6 in
       ap (λ z. Pack z (unnumbered v1) s1) (sym s.4 ∙ ap atype (hidden e) ∙ r.4)
       ∙ ap₂ (Pack h2) (one_value v1 v2 s.1 s.6 inner t) (sym s.5 ∙ ap atype (shape e) ∙ r.5)
 

@@ -1,45 +1,25 @@
 -- The words of values that stand for hoisted ones, and of the constants in the data.
 use Rattle.std.proofs.Common.{◌≡◌, ◌<◌, ℕ, zero, suc, ◌-◌, List, [], ◌∷◌, Option, Some, None, refl, sym, ap, ap₂, ◌∙◌}
-use Rattle.std.proofs.Common.{subst}
-use Rattle.std.proofs.Common.{arith}
+use Rattle.std.proofs.Common.{subst, arith}
 use Rattle.std.specs.Prelude.{map, option_map, slice_get, Bool, true, false, ◌&&◌, not}
 use Rattle.c_terms.specs.C.{CTy, CTys}
 use Rattle.h_terms.specs.H.{HVal, HVar, HInt, HLabel, HTuple, HApply, HPack, HVals, NoHVals, MoreHVals}
 use Rattle.h_terms.specs.Meaning.{HWord, HWords, MoreHWords, NoHWords, YTuple, hat, hv_value, hvs_value}
-use Rattle.a_terms.specs.Meaning.{AHeap, AWord, ZInt, ZLabel, ZTuple, datum, pick, value, values, with_first, with_more}
+use Rattle.a_terms.specs.Meaning.{AHeap, AWord, ZInt, ZLabel, ZTuple, datum, pick, value, values, with_first}
+use Rattle.a_terms.specs.Meaning.{with_more}
 use Rattle.a_terms.specs.Tree.{AConsts, AVal, Var, Num, Lab, Data, Apply, Pack}
 use Rattle.a_law.specs.Allocate.{all_closed, atype, atypes, closed, is_label}
 use Rattle.a_law.specs.Constants.{Constants, constant, constant_at, constants, is_package, packed, two}
 use Rattle.a_law.specs.Stands.{Thing, Is, Made, Gone, thing_at, Means, Stands_v, Stands_vs, Shows, Shows_fields}
-use Rattle.a_law.specs.Stands.{Shows_v}
-use Rattle.a_law.specs.Stands.{listed}
+use Rattle.a_law.specs.Stands.{Shows_v, listed}
 use Rattle.a_law.proofs.Consts.{both_true}
 use Rattle.a_law.proofs.OneValue.{form}
 use Rattle.a_law.proofs.Rel.{Holds, Moves, Rel, Rels, rel_moves}
-
-none_some : {A : Type 0} (x : A) → None ≡ Some x → ⊥
-none_some x e = cc
+use Rattle.a_law.proofs.Inside.{inside, applied, content, first_value, more_values, no_values}
+use Rattle.a_law.proofs.Cells.{none_some}
 
 some_is : {A : Type 0} {x y : A} → Some x ≡ Some y → x ≡ y
 some_is e = cc
-
-no_values : {v : HVal} {vs : HVals} → NoHVals ≡ MoreHVals v vs → ⊥
-no_values e = cc
-
-first_value : {v w : HVal} {vs ws : HVals} → MoreHVals v vs ≡ MoreHVals w ws → v ≡ w
-first_value e = cc
-
-more_values : {v w : HVal} {vs ws : HVals} → MoreHVals v vs ≡ MoreHVals w ws → vs ≡ ws
-more_values e = cc
-
-inside : {vs ws : HVals} → HTuple vs ≡ HTuple ws → vs ≡ ws
-inside e = cc
-
-applied : {v w : HVal} {ts us : CTys} → HApply v ts ≡ HApply w us → v ≡ w
-applied e = cc
-
-content : {v w : HVal} {a b c d : CTy} → HPack a v b ≡ HPack c w d → v ≡ w
-content e = cc
 
 -- equal values have one form
 other : (v w : HVal) → v ≡ w → (form v ≡ form w → ⊥) → ⊥

@@ -3,7 +3,8 @@ use Rattle.std.proofs.lemmas.Result.{err_from_is_err_and}
 use Rattle.text_core.specs.Table.{Nt}
 use Rattle.f_grammar.specs.Machine.{LE}
 use Rattle.f_reader.proofs.Reaching.{stops}
-use Rattle.f_reader.proofs.Steps.{one_more, gen_begun}
+use Rattle.f_reader.proofs.Steps.{one_more}
+use Rattle.f_reader.proofs.Beginning.{gen_begun}
 use Rattle.f_reader.proofs.begin.begin_gen.Goals as goal
 
 pub returns-in_err-name : goal.returns-in_err-name

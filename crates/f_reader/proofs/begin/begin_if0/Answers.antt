@@ -6,7 +6,8 @@ use Rattle.text_core.proofs.Going.{is_next, is_of}
 use Rattle.f_grammar.specs.Machine.{table}
 use Rattle.f_reader.proofs.Reaching.{stops_deep}
 use Rattle.f_reader.proofs.Follows.{branches_owed, after_paren}
-use Rattle.f_reader.proofs.Steps.{one_more, no_branches, branches_open, test_begun}
+use Rattle.f_reader.proofs.Steps.{one_more}
+use Rattle.f_reader.proofs.Beginning.{no_branches, branches_open, test_begun}
 use Rattle.f_reader.proofs.begin.begin_if0.Goals as goal
 
 pub returns-in_err-expect : goal.returns-in_err-expect

@@ -4,7 +4,8 @@ use Rattle.text_core.specs.Table.{Tm}
 use Rattle.f_grammar.specs.Machine.{LE, MakeLet, body_owed}
 use Rattle.f_grammar.specs.declared.cursor.Wanted.TheVariants as want
 use Rattle.f_reader.proofs.Reaching.{stops_deep, stops_token}
-use Rattle.f_reader.proofs.Steps.{one_more, let_word, let_owes, let_open, let_named, let_begun}
+use Rattle.f_reader.proofs.Steps.{one_more}
+use Rattle.f_reader.proofs.Beginning.{let_word, let_owes, let_open, let_named, let_begun}
 use Rattle.f_reader.proofs.begin.begin_let.Goals as goal
 
 pub returns-in_err-reader : goal.returns-in_err-reader

@@ -5,8 +5,9 @@ use Rattle.f_grammar.specs.Machine.{LE, LNames, MakeOpen, body_owed}
 use Rattle.f_grammar.specs.declared.cursor.Wanted.TheVariants as want
 use Rattle.f_reader.proofs.Follows.{names_owed}
 use Rattle.f_reader.proofs.Reaching.{stops_deep, stops_token}
-use Rattle.f_reader.proofs.Steps.{one_more, no_names, open_word, open_owes, open_open, names_word, names_owes, open_1}
-use Rattle.f_reader.proofs.Steps.{open_2, open_3, open_4, open_5, open_begun}
+use Rattle.f_reader.proofs.Steps.{one_more}
+use Rattle.f_reader.proofs.Beginning.{no_names, open_word, open_owes, open_open, names_word, names_owes, open_1}
+use Rattle.f_reader.proofs.Beginning.{open_2, open_3, open_4, open_5, open_begun}
 use Rattle.f_reader.proofs.begin.begin_open.Goals as goal
 
 pub returns-in_err-reader : goal.returns-in_err-reader

@@ -6,8 +6,9 @@ use Rattle.f_grammar.specs.declared.cursor.Wanted.TheVariants as want
 use Rattle.f_reader.specs.Frames.{shape_owed}
 use Rattle.f_reader.proofs.Follows.{hidden_owed}
 use Rattle.f_reader.proofs.Reaching.{stops, stops_deep, stops_token}
-use Rattle.f_reader.proofs.Steps.{one_more, no_hidden, pack_open, hidden_word, hidden_owes, hidden_open, hidden_typed}
-use Rattle.f_reader.proofs.Steps.{pack_begun}
+use Rattle.f_reader.proofs.Steps.{one_more}
+use Rattle.f_reader.proofs.Beginning.{no_hidden, pack_open, hidden_word, hidden_owes, hidden_open, hidden_typed}
+use Rattle.f_reader.proofs.Beginning.{pack_begun}
 use Rattle.f_reader.proofs.begin.begin_pack.Goals as goal
 
 pub returns-in_err-expect : goal.returns-in_err-expect

@@ -4,7 +4,8 @@ use Rattle.text_core.specs.Table.{Tm, Nt, Do, Mark}
 use Rattle.f_grammar.specs.Machine.{LE, LP, MakeParen}
 use Rattle.f_grammar.specs.declared.cursor.Wanted.TheVariants as want
 use Rattle.f_reader.proofs.Reaching.{stops_deep}
-use Rattle.f_reader.proofs.Steps.{one_more, paren_begun}
+use Rattle.f_reader.proofs.Steps.{one_more}
+use Rattle.f_reader.proofs.Beginning.{paren_begun}
 use Rattle.f_reader.proofs.begin.begin_paren.Goals as goal
 
 pub returns-in_err-reader : goal.returns-in_err-reader

@@ -1,6 +1,6 @@
 use Rattle.std.proofs.Common.{refl, sym, ◌∙◌}
 use Rattle.f_reader.proofs.Follows.{none_of}
-use Rattle.f_reader.proofs.Steps.{no_part, no_part_end}
+use Rattle.f_reader.proofs.Beginning.{no_part, no_part_end}
 use Rattle.f_reader.proofs.begin.begin_part.Goals as goal
 
 pub returns-in-None : goal.returns-in-None

@@ -4,7 +4,8 @@ use Rattle.text_core.specs.Table.{Tm, Nt, Do, Mark}
 use Rattle.f_grammar.specs.Machine.{LP, MakeProj}
 use Rattle.f_grammar.specs.declared.cursor.Wanted.TheVariants as want
 use Rattle.f_reader.proofs.Reaching.{stops_deep, stops_token}
-use Rattle.f_reader.proofs.Steps.{one_more, proj_open, proj_begun}
+use Rattle.f_reader.proofs.Steps.{one_more}
+use Rattle.f_reader.proofs.Beginning.{proj_open, proj_begun}
 use Rattle.f_reader.proofs.begin.begin_proj.Goals as goal
 
 pub returns-in_err-reader : goal.returns-in_err-reader

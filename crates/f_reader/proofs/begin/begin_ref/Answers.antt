@@ -3,7 +3,8 @@ use Rattle.std.proofs.lemmas.Result.{err_from_is_err_and}
 use Rattle.text_core.specs.Table.{Nt, Do, Mark}
 use Rattle.f_grammar.specs.Machine.{LP, MakeRef}
 use Rattle.f_reader.proofs.Reaching.{stops_deep}
-use Rattle.f_reader.proofs.Steps.{one_more, ref_begun}
+use Rattle.f_reader.proofs.Steps.{one_more}
+use Rattle.f_reader.proofs.Beginning.{ref_begun}
 use Rattle.f_reader.proofs.begin.begin_ref.Goals as goal
 
 pub returns-in_err-reader : goal.returns-in_err-reader

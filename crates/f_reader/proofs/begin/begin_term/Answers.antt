@@ -1,5 +1,6 @@
 use Rattle.std.proofs.Common.{refl, sym, arith}
-use Rattle.f_reader.proofs.Steps.{one_more, sum_begun}
+use Rattle.f_reader.proofs.Steps.{one_more}
+use Rattle.f_reader.proofs.Beginning.{sum_begun}
 use Rattle.f_reader.proofs.begin.begin_term.Goals as goal
 
 pub returns : goal.returns

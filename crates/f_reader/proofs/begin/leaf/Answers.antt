@@ -1,5 +1,6 @@
 use Rattle.std.proofs.Common.{refl, arith}
-use Rattle.f_reader.proofs.Steps.{leaf_given, leaf_children}
+use Rattle.f_reader.proofs.Steps.{leaf_children}
+use Rattle.f_reader.proofs.Beginning.{leaf_given}
 use Rattle.f_reader.proofs.begin.leaf.Goals as goal
 
 pub put-requires : goal.put-requires

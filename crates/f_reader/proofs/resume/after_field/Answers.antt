@@ -2,7 +2,8 @@ use Rattle.std.proofs.Common.{◌≡◌, ◌-◌, ◌+◌, refl, sym, arith}
 use Rattle.std.proofs.lemmas.Result.{err_from_is_err_and}
 use Rattle.f_grammar.specs.declared.cursor.Wanted.TheVariants as want
 use Rattle.f_reader.proofs.Reaching.{stops_token}
-use Rattle.f_reader.proofs.Steps.{one_more, has_mark, next_begun, fields_end, tuple_given}
+use Rattle.f_reader.proofs.Steps.{one_more, has_mark}
+use Rattle.f_reader.proofs.Resuming.{next_begun, fields_end, tuple_given}
 use Rattle.f_reader.proofs.resume.after_field.Goals as goal
 
 pub returns-in-Some : goal.returns-in-Some

@@ -1,6 +1,7 @@
 use Rattle.std.proofs.Common.{[], ◌∷◌, ◌++◌, ap, ◌∙◌}
 use Rattle.f_grammar.specs.Machine.{OfToken}
-use Rattle.f_reader.proofs.Steps.{got_are, first_field}
+use Rattle.f_reader.proofs.Steps.{got_are}
+use Rattle.f_reader.proofs.Resuming.{first_field}
 use Rattle.f_reader.proofs.resume.after_first.Goals as goal
 
 pub after_field-requires : goal.after_field-requires

@@ -1,5 +1,6 @@
 use Rattle.std.proofs.Common.{refl, arith}
-use Rattle.f_reader.proofs.Steps.{has_mark, one_child, fix_given}
+use Rattle.f_reader.proofs.Steps.{has_mark, one_child}
+use Rattle.f_reader.proofs.Resuming.{fix_given}
 use Rattle.f_reader.proofs.resume.after_fix.Goals as goal
 
 pub overflow_sub-reader : goal.overflow_sub-reader

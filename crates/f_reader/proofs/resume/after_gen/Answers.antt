@@ -1,5 +1,6 @@
 use Rattle.std.proofs.Common.{refl, arith}
-use Rattle.f_reader.proofs.Steps.{has_mark, got_are, one_child, gen_given}
+use Rattle.f_reader.proofs.Steps.{has_mark, got_are, one_child}
+use Rattle.f_reader.proofs.Resuming.{gen_given}
 use Rattle.f_reader.proofs.resume.after_gen.Goals as goal
 
 pub overflow_sub-reader : goal.overflow_sub-reader

@@ -2,7 +2,8 @@ use Rattle.std.proofs.Common.{refl, arith}
 use Rattle.std.proofs.lemmas.Result.{err_from_is_err_and}
 use Rattle.f_grammar.specs.declared.cursor.Wanted.TheVariants as want
 use Rattle.f_reader.proofs.Reaching.{stops_token}
-use Rattle.f_reader.proofs.Steps.{one_more, has_mark, got_are, let_body_begun}
+use Rattle.f_reader.proofs.Steps.{one_more, has_mark, got_are}
+use Rattle.f_reader.proofs.Resuming.{let_body_begun}
 use Rattle.f_reader.proofs.resume.after_let.Goals as goal
 
 pub returns-in_err-expect : goal.returns-in_err-expect

@@ -1,5 +1,6 @@
 use Rattle.std.proofs.Common.{refl, arith}
-use Rattle.f_reader.proofs.Steps.{got_are, two_children, let_given}
+use Rattle.f_reader.proofs.Steps.{got_are, two_children}
+use Rattle.f_reader.proofs.Resuming.{let_given}
 use Rattle.f_reader.proofs.resume.after_let_body.Goals as goal
 
 pub put-requires : goal.put-requires

@@ -1,4 +1,5 @@
-use Rattle.f_reader.proofs.Steps.{got_are, next_field}
+use Rattle.f_reader.proofs.Steps.{got_are}
+use Rattle.f_reader.proofs.Resuming.{next_field}
 use Rattle.f_reader.proofs.resume.after_next.Goals as goal
 
 pub after_field-requires : goal.after_field-requires

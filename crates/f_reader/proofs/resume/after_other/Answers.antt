@@ -2,7 +2,8 @@ use Rattle.std.proofs.Common.{refl, arith}
 use Rattle.std.proofs.lemmas.Result.{err_from_is_err_and}
 use Rattle.f_grammar.specs.declared.cursor.Wanted.TheVariants as want
 use Rattle.f_reader.proofs.Reaching.{stops_token}
-use Rattle.f_reader.proofs.Steps.{has_mark, got_are, three_children, if0_given}
+use Rattle.f_reader.proofs.Steps.{has_mark, got_are, three_children}
+use Rattle.f_reader.proofs.Resuming.{if0_given}
 use Rattle.f_reader.proofs.resume.after_other.Goals as goal
 
 pub returns-in_err-close : goal.returns-in_err-close

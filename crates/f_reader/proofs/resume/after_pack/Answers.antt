@@ -4,7 +4,8 @@ use Rattle.text_core.specs.Table.{Nt, Do}
 use Rattle.f_grammar.specs.Machine.{LT, MakePack}
 use Rattle.f_grammar.specs.declared.cursor.Wanted.TheVariants as want
 use Rattle.f_reader.proofs.Reaching.{stops, stops_token}
-use Rattle.f_reader.proofs.Steps.{has_mark, got_are, one_child, pack_closed, pack_as, pack_given}
+use Rattle.f_reader.proofs.Steps.{has_mark, got_are, one_child}
+use Rattle.f_reader.proofs.Resuming.{pack_closed, pack_as, pack_given}
 use Rattle.f_reader.proofs.resume.after_pack.Goals as goal
 
 pub returns-in_err-expect : goal.returns-in_err-expect

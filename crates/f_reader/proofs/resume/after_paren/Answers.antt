@@ -3,7 +3,8 @@ use Rattle.std.proofs.lemmas.Result.{err_from_is_err_and}
 use Rattle.f_grammar.specs.declared.cursor.Wanted.TheVariants as want
 use Rattle.f_grammar.specs.Machine.{OfToken}
 use Rattle.f_reader.proofs.Reaching.{stops_token}
-use Rattle.f_reader.proofs.Steps.{has_mark, got_are, paren_given}
+use Rattle.f_reader.proofs.Steps.{has_mark, got_are}
+use Rattle.f_reader.proofs.Resuming.{paren_given}
 use Rattle.f_reader.proofs.resume.after_paren.Goals as goal
 
 pub returns-in_err-right : goal.returns-in_err-right

@@ -5,8 +5,8 @@ use Rattle.f_grammar.specs.Machine.{LT, MoreParts, MakeInst}
 use Rattle.f_grammar.specs.declared.cursor.Wanted.TheVariants as want
 use Rattle.f_reader.proofs.Follows.{bracket_owed}
 use Rattle.f_reader.proofs.Reaching.{stops, stops_token, stops_deep}
-use Rattle.f_reader.proofs.Steps.{one_more, got_are, one_child, bracket, bracket_is, bracket_owes, bracket_opened}
-use Rattle.f_reader.proofs.Steps.{bracket_typed, inst_given}
+use Rattle.f_reader.proofs.Steps.{one_more, got_are, one_child}
+use Rattle.f_reader.proofs.Operands.{bracket, bracket_is, bracket_owes, bracket_opened, bracket_typed, inst_given}
 use Rattle.f_reader.proofs.resume.bracket.Goals as goal
 
 pub returns-in_err-inner : goal.returns-in_err-inner

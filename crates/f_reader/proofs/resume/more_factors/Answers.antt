@@ -1,5 +1,6 @@
 use Rattle.std.proofs.Common.{[], refl, sym, arith}
-use Rattle.f_reader.proofs.Steps.{one_more, got_are, star_begun, factors_end}
+use Rattle.f_reader.proofs.Steps.{one_more, got_are}
+use Rattle.f_reader.proofs.Operands.{star_begun, factors_end}
 use Rattle.f_reader.proofs.resume.more_factors.Goals as goal
 
 pub returns-in_ok-push-in-Some-3 : goal.returns-in_ok-push-in-Some-3

@@ -1,5 +1,6 @@
 use Rattle.std.proofs.Common.{[], ◌≡◌, slice_get, refl, sym, ◌∙◌, arith, Some}
-use Rattle.f_reader.proofs.Steps.{one_more, got_are, part_begun, parts_end}
+use Rattle.f_reader.proofs.Steps.{one_more, got_are}
+use Rattle.f_reader.proofs.Operands.{part_begun, parts_end}
 use Rattle.f_reader.specs.Reads.{argument_next}
 use Rattle.f_reader.specs.declared.heads.Argument.TheVariants.{Part}
 use Rattle.f_reader.proofs.resume.more_parts.Goals as goal

@@ -3,7 +3,8 @@ ghost use Rattle.std.specs.Prelude.{◌≡◌, Some, codes, is_some, map, string
 ghost use Rattle.std.specs.Option.{option_map};
 ghost use Rattle.clap.specs.Words.{first_of, found_of, kind_of, one_of, rows_of, subcommand_rows_of};
 ghost use Rattle.clap.specs.declared.error.kind.ErrorKind.TheVariants.{OutOfMemory};
-ghost use Rattle.words.specs.Command.{asked_in, asked_of, asked_within, form_in, number_in};
+ghost use Rattle.words.specs.Command.{asked_between, asked_in, asked_of, asked_with, asked_within, form_in, number_in};
+ghost use Rattle.words.specs.Command.{Evaluates, Generates, Runs, Shows, Upgrades};
 ghost use Rattle.words.specs.Reads.{asked_by, AsksFor, Reads};
 
 use crate::command::{Command, NoCommand};
@@ -59,6 +60,64 @@ fn compiling<'a>(matches: &ArgMatches<'a>) -> Option<Command<'a>>
     })
 }
 
+// What `run` asks for.
+fn running<'a>(matches: &ArgMatches<'a>) -> Option<Command<'a>>
+    ensures { option_map asked_by result ≡ asked_with Runs (first_of (codes "IN") (rows_of (found_of matches.now)))
+        (number_in (codes "fuel") (rows_of (found_of matches.now))) }
+{
+    let (input, fuel) = (value(matches, "IN")?, number(matches, "fuel")?);
+    Some(Command::Run { input, fuel })
+}
+
+// What `eval` asks for.
+fn evaluating<'a>(matches: &ArgMatches<'a>) -> Option<Command<'a>>
+    ensures { option_map asked_by result ≡ asked_with Evaluates (first_of (codes "IN") (rows_of (found_of matches.now)))
+        (number_in (codes "turns") (rows_of (found_of matches.now))) }
+{
+    let (input, turns) = (value(matches, "IN")?, number(matches, "turns")?);
+    Some(Command::Eval { input, turns })
+}
+
+// What `gen` asks for.
+fn generating<'a>(matches: &ArgMatches<'a>) -> Option<Command<'a>>
+    ensures { option_map asked_by result ≡ asked_with (λ output seed. Generates seed output)
+        (first_of (codes "OUT") (rows_of (found_of matches.now)))
+        (number_in (codes "seed") (rows_of (found_of matches.now))) }
+{
+    let (output, seed) = (value(matches, "OUT")?, number(matches, "seed")?);
+    Some(Command::Gen { seed, output })
+}
+
+// What `upgrade` asks for.
+fn upgrading<'a>(matches: &ArgMatches<'a>) -> Option<Command<'a>>
+    ensures { option_map asked_by result ≡ asked_with Upgrades (first_of (codes "IN") (rows_of (found_of matches.now)))
+        (first_of (codes "OUT") (rows_of (found_of matches.now))) }
+{
+    let input = value(matches, "IN")?;
+    let output = value(matches, "OUT")?;
+    Some(Command::Upgrade { input, output })
+}
+
+// What `trace` asks for.
+fn tracing<'a>(matches: &ArgMatches<'a>) -> Option<Command<'a>>
+    ensures { option_map asked_by result ≡ asked_between (first_of (codes "IN") (rows_of (found_of matches.now)))
+        (number_in (codes "from") (rows_of (found_of matches.now)))
+        (number_in (codes "to") (rows_of (found_of matches.now))) }
+{
+    let (input, from) = (value(matches, "IN")?, number(matches, "from")?);
+    let to = number(matches, "to")?;
+    Some(Command::Trace { input, from, to })
+}
+
+// What `show` asks for.
+fn showing<'a>(matches: &ArgMatches<'a>) -> Option<Command<'a>>
+    ensures { option_map asked_by result ≡ asked_with Shows (first_of (codes "IN") (rows_of (found_of matches.now)))
+        (form_in (rows_of (found_of matches.now))) }
+{
+    let (input, form) = (value(matches, "IN")?, form(matches)?);
+    Some(Command::Show { input, form })
+}
+
 // What the subcommand that was entered asks for.
 fn entered<'a>(name: &str, matches: &ArgMatches<'a>) -> Option<Command<'a>>
     ensures { option_map asked_by result ≡ asked_in name.now (rows_of (found_of matches.now)) }
@@ -71,34 +130,26 @@ fn entered<'a>(name: &str, matches: &ArgMatches<'a>) -> Option<Command<'a>>
         return Some(Command::Check { input });
     }
     if name == "run" {
-        let (input, fuel) = (value(matches, "IN")?, number(matches, "fuel")?);
-        return Some(Command::Run { input, fuel });
+        return running(matches);
     }
     if name == "typeof" {
         let input = value(matches, "IN")?;
         return Some(Command::Typeof { input });
     }
     if name == "eval" {
-        let (input, turns) = (value(matches, "IN")?, number(matches, "turns")?);
-        return Some(Command::Eval { input, turns });
+        return evaluating(matches);
     }
     if name == "gen" {
-        let (output, seed) = (value(matches, "OUT")?, number(matches, "seed")?);
-        return Some(Command::Gen { seed, output });
+        return generating(matches);
     }
     if name == "upgrade" {
-        let input = value(matches, "IN")?;
-        let output = value(matches, "OUT")?;
-        return Some(Command::Upgrade { input, output });
+        return upgrading(matches);
     }
     if name == "trace" {
-        let (input, from) = (value(matches, "IN")?, number(matches, "from")?);
-        let to = number(matches, "to")?;
-        return Some(Command::Trace { input, from, to });
+        return tracing(matches);
     }
     if name == "show" {
-        let (input, form) = (value(matches, "IN")?, form(matches)?);
-        return Some(Command::Show { input, form });
+        return showing(matches);
     }
     if name == "explain" {
         let input = value(matches, "IN")?;

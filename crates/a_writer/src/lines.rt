@@ -3,7 +3,7 @@ ghost use Rattle.std.specs.Prelude.{◌≡◌, ◌≤◌, ◌++◌, length, OnOk
 ghost use Rattle.a_terms.specs.NodeTrees.{a_values, no_value};
 ghost use Rattle.a_terms.specs.Read.{atrees};
 ghost use Rattle.a_terms.specs.Row.{others, top};
-ghost use Rattle.a_terms.specs.declared.nodes.AForm.TheVariants.{Arith, Init, Proj, Unpack};
+ghost use Rattle.a_terms.specs.declared.nodes.AForm.TheVariants.{Arith, Halt, If0, Init, Proj, Unpack, Value};
 ghost use Rattle.a_writer.specs.Notation.{call_text, let_text, malloc_text};
 ghost use Rattle.a_writer.specs.Scopes.{form_text, least};
 
@@ -21,6 +21,17 @@ fn write_let(text: &mut Vec<u8>, names: u64) -> Result<(), OutOfMemory>
     text.extend_from_slice(b"let ")?;
     write_value_name(text, names)?;
     text.extend_from_slice(b" = ")?;
+    Ok(())
+}
+
+// A declaration of a value as it stands.
+fn write_named(text: &mut Vec<u8>, values: &[AValue], scope: &Scope) -> Result<(), OutOfMemory>
+    requires { 1 ≤ length values.now }
+    ensures { OnOk result (text.new.items ≡
+        text.old.items ++ form_text scope.now.types scope.now.names Value (a_values values.now)) }
+{
+    write_let(text, scope.names)?;
+    write_first(text, values, scope.types, scope.names)?;
     Ok(())
 }
 
@@ -122,6 +133,28 @@ fn write_call(
     Ok(())
 }
 
+// The line before both branches.
+fn write_if0(text: &mut Vec<u8>, values: &[AValue], scope: &Scope) -> Result<(), OutOfMemory>
+    requires { 1 ≤ length values.now }
+    ensures { OnOk result (text.new.items ≡
+        text.old.items ++ form_text scope.now.types scope.now.names If0 (a_values values.now)) }
+{
+    text.extend_from_slice(b"if0 ")?;
+    write_first(text, values, scope.types, scope.names)?;
+    text.extend_from_slice(b" then")?;
+    Ok(())
+}
+
+fn write_halt(text: &mut Vec<u8>, values: &[AValue], scope: &Scope) -> Result<(), OutOfMemory>
+    requires { 1 ≤ length values.now }
+    ensures { OnOk result (text.new.items ≡
+        text.old.items ++ form_text scope.now.types scope.now.names Halt (a_values values.now)) }
+{
+    text.extend_from_slice(b"halt ")?;
+    write_first(text, values, scope.types, scope.names)?;
+    Ok(())
+}
+
 /// What a node says on its line. An error is want of memory.
 pub(crate) fn write_form(
     text: &mut Vec<u8>,
@@ -134,45 +167,14 @@ pub(crate) fn write_form(
         text.old.items ++ form_text scope.now.types scope.now.names form.now (a_values values.now)) }
 {
     match form {
-        AForm::Value => {
-            write_let(text, scope.names)?;
-            write_first(text, values, scope.types, scope.names)?;
-            Ok(())
-        }
-        AForm::Proj(field) => {
-            write_proj(text, *field, values, scope)?;
-            Ok(())
-        }
-        AForm::Arith(op) => {
-            write_arith(text, *op, values, scope)?;
-            Ok(())
-        }
-        AForm::Unpack => {
-            write_unpack(text, values, scope)?;
-            Ok(())
-        }
-        AForm::Malloc(types) => {
-            write_malloc(text, types, scope)?;
-            Ok(())
-        }
-        AForm::Init(field) => {
-            write_init(text, *field, values, scope)?;
-            Ok(())
-        }
-        AForm::Call(types) => {
-            write_call(text, types, values, scope)?;
-            Ok(())
-        }
-        AForm::If0 => {
-            text.extend_from_slice(b"if0 ")?;
-            write_first(text, values, scope.types, scope.names)?;
-            text.extend_from_slice(b" then")?;
-            Ok(())
-        }
-        AForm::Halt => {
-            text.extend_from_slice(b"halt ")?;
-            write_first(text, values, scope.types, scope.names)?;
-            Ok(())
-        }
+        AForm::Value => write_named(text, values, scope),
+        AForm::Proj(field) => write_proj(text, *field, values, scope),
+        AForm::Arith(op) => write_arith(text, *op, values, scope),
+        AForm::Unpack => write_unpack(text, values, scope),
+        AForm::Malloc(types) => write_malloc(text, types, scope),
+        AForm::Init(field) => write_init(text, *field, values, scope),
+        AForm::Call(types) => write_call(text, types, values, scope),
+        AForm::If0 => write_if0(text, values, scope),
+        AForm::Halt => write_halt(text, values, scope),
     }
 }

@@ -1,5 +1,5 @@
 // What a node says on its line, by the texts of its values.
-ghost use Rattle.std.specs.Prelude.{◌≡◌, ◌≤◌, ◌<◌, [], ◌++◌, length, OnOk};
+ghost use Rattle.std.specs.Prelude.{◌≡◌, ◌≤◌, ◌<◌, [], ◌++◌, codes, length, OnOk};
 ghost use Rattle.h_terms.specs.Row.{others, top};
 ghost use Rattle.h_terms.specs.declared.node.HForm.TheVariants.{Arith, Proj, Set, Unpack};
 ghost use Rattle.h_writer.specs.Notation.{let_text};
@@ -50,6 +50,17 @@ fn write_let(text: &mut Vec<u8>, names: u64) -> Result<(), OutOfMemory>
     text.extend_from_slice(b"let ")?;
     write_value_name(text, names)?;
     text.extend_from_slice(b" = ")?;
+    Ok(())
+}
+
+// A declaration of a value as it stands.
+fn write_name(text: &mut Vec<u8>, values: &[Vec<u8>], scope: &Scope) -> Result<(), OutOfMemory>
+    requires { 1 ≤ length values.now }
+    ensures { OnOk result (text.new.items ≡
+        text.old.items ++ (let_text scope.now.names ++ top [] (texts_of values.now))) }
+{
+    write_let(text, scope.names)?;
+    write_first(text, values)?;
     Ok(())
 }
 
@@ -150,6 +161,28 @@ fn write_worded(
     Ok(())
 }
 
+// The line before both branches.
+fn write_if0(text: &mut Vec<u8>, values: &[Vec<u8>]) -> Result<(), OutOfMemory>
+    requires { 1 ≤ length values.now }
+    ensures { OnOk result (text.new.items ≡
+        text.old.items ++ (codes "if0 " ++ (top [] (texts_of values.now) ++ codes " then"))) }
+{
+    text.extend_from_slice(b"if0 ")?;
+    write_first(text, values)?;
+    text.extend_from_slice(b" then")?;
+    Ok(())
+}
+
+fn write_halt(text: &mut Vec<u8>, values: &[Vec<u8>]) -> Result<(), OutOfMemory>
+    requires { 1 ≤ length values.now }
+    ensures { OnOk result (text.new.items ≡
+        text.old.items ++ (codes "halt " ++ top [] (texts_of values.now))) }
+{
+    text.extend_from_slice(b"halt ")?;
+    write_first(text, values)?;
+    Ok(())
+}
+
 /// What a node says on its line, by the texts of its values. An error is want of memory.
 pub(crate) fn write_form(
     text: &mut Vec<u8>,
@@ -162,49 +195,15 @@ pub(crate) fn write_form(
         text.old.items ++ form_line scope.now.types scope.now.names form.now (texts_of values.now)) }
 {
     match form {
-        HForm::Name => {
-            write_let(text, scope.names)?;
-            write_first(text, values)?;
-            Ok(())
-        }
-        HForm::Proj(field) => {
-            write_proj(text, *field, values, scope)?;
-            Ok(())
-        }
-        HForm::Arith(op) => {
-            write_arith(text, *op, values, scope)?;
-            Ok(())
-        }
-        HForm::Unpack => {
-            write_unpack(text, values, scope)?;
-            Ok(())
-        }
-        HForm::Cell => {
-            write_worded(text, b"ref ", values, scope)?;
-            Ok(())
-        }
-        HForm::Get => {
-            write_worded(text, b"!", values, scope)?;
-            Ok(())
-        }
-        HForm::Set => {
-            write_set(text, values, scope)?;
-            Ok(())
-        }
-        HForm::Call(types) => {
-            write_call(text, types, values, scope)?;
-            Ok(())
-        }
-        HForm::If0 => {
-            text.extend_from_slice(b"if0 ")?;
-            write_first(text, values)?;
-            text.extend_from_slice(b" then")?;
-            Ok(())
-        }
-        HForm::Halt => {
-            text.extend_from_slice(b"halt ")?;
-            write_first(text, values)?;
-            Ok(())
-        }
+        HForm::Name => write_name(text, values, scope),
+        HForm::Proj(field) => write_proj(text, *field, values, scope),
+        HForm::Arith(op) => write_arith(text, *op, values, scope),
+        HForm::Unpack => write_unpack(text, values, scope),
+        HForm::Cell => write_worded(text, b"ref ", values, scope),
+        HForm::Get => write_worded(text, b"!", values, scope),
+        HForm::Set => write_set(text, values, scope),
+        HForm::Call(types) => write_call(text, types, values, scope),
+        HForm::If0 => write_if0(text, values),
+        HForm::Halt => write_halt(text, values),
     }
 }

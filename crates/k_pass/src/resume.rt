@@ -1,9 +1,9 @@
 // A term has ended: what comes then.
-ghost use Rattle.std.specs.Prelude.{◌≡◌, ℕ, ◌<◌, ◌++◌, ◌∷◌, IfOk, OnOk, map};
+ghost use Rattle.std.specs.Prelude.{◌≡◌, ℕ, ◌++◌, ◌∷◌, IfOk, OnOk, map};
 ghost use Rattle.f_terms.specs.Noted.{Noted};
 ghost use Rattle.k_terms.specs.Stream.{NName, NEnd};
 ghost use Rattle.k_terms.specs.Read.{knode, ktree};
-ghost use Rattle.k_pass.specs.Machine.{Nodes, ResumeIs, Follows, KeptIn, Inside, NextIn};
+ghost use Rattle.k_pass.specs.Machine.{Nodes, ResumeIs, Follows, PendingIn, KeptIn, Inside, NextIn};
 ghost use Rattle.k_pass.specs.declared.work.Pending.TheVariants as pendings;
 
 use crate::access::{deeper, leave, leave_type, put};
@@ -32,58 +32,51 @@ pub(crate) fn resume<'a>(alloc: Global, work: &mut Work<'a>) -> Result<Option<Co
 {
     match work.pending.pop() {
         None => Ok(None),
-        Some(
-            Pending::Fix {
-                depth,
-                types,
-                arg,
-                res,
-            },
-        ) => Ok(Some(name_fix(alloc, work, depth, types, arg, res)?)),
-        Some(Pending::Gen { depth, types, ty }) => {
-            Ok(Some(name_gen(alloc, work, depth, types, ty)?))
-        }
-        Some(
-            Pending::Other {
-                node,
-                depth,
-                types,
-                level,
-            },
-        ) => Ok(Some(walk_other(work, node, depth, types, level)?)),
-        Some(
-            Pending::If0 {
-                test,
-                zero,
-                other,
-                depth,
-                types,
-                ty,
-            },
-        ) => {
-            let next = walk_test(alloc, work, test, zero, other, depth, types, ty)?;
+        Some(pending) => {
+            let next = follow(alloc, work, pending)?;
             Ok(Some(next))
         }
-        Some(Pending::End) => {
-            put(&mut work.out, KNode::End)?;
-            Ok(Some(Control::Ended))
-        }
-        Some(Pending::Leave) => {
-            leave(&mut work.names);
-            Ok(Some(Control::Ended))
-        }
-        Some(Pending::LeaveType) => {
-            leave_type(&mut work.levels);
-            Ok(Some(Control::Ended))
-        }
-        Some(Pending::Enter { atom }) => {
-            work.names.push(atom)?;
-            Ok(Some(Control::Ended))
-        }
-        Some(Pending::EnterType { level }) => {
-            work.levels.push(level)?;
-            Ok(Some(Control::Ended))
-        }
+    }
+}
+
+// What was kept for later, and was taken off, comes.
+#[inline(always)]
+fn follow<'a>(
+    alloc: Global,
+    work: &mut Work<'a>,
+    pending: Pending<'a>,
+) -> Result<Control, OutOfMemory>
+    ensures steps { IfOk result (λ r. (t : ℕ → Noted) → Follows t work.old pending.entry work.new r) }
+    ensures inside { IfOk result (λ r. (m : ℕ) →
+        PendingIn m pending.entry → KeptIn m work.old → Inside m work.new r) }
+{
+    match pending {
+        Pending::Fix {
+            depth,
+            types,
+            arg,
+            res,
+        } => name_fix(alloc, work, depth, types, arg, res),
+        Pending::Gen { depth, types, ty } => name_gen(alloc, work, depth, types, ty),
+        Pending::Other {
+            node,
+            depth,
+            types,
+            level,
+        } => walk_other(work, node, depth, types, level),
+        Pending::If0 {
+            test,
+            zero,
+            other,
+            depth,
+            types,
+            ty,
+        } => walk_test(alloc, work, test, zero, other, depth, types, ty),
+        Pending::End => put_end(work),
+        Pending::Leave => leave_name(work),
+        Pending::LeaveType => leave_type_name(work),
+        Pending::Enter { atom } => enter_name(work, atom),
+        Pending::EnterType { level } => enter_type_name(work, level),
     }
 }
 
@@ -98,7 +91,8 @@ fn name_fix<'a>(
 ) -> Result<Control, OutOfMemory>
     ensures steps { IfOk result (λ r. (t : ℕ → Noted) →
         Follows t work.old (pendings.Fix depth types arg.entry res.entry) work.new r) }
-    ensures inside { IfOk result (λ r. (m : ℕ) → KeptIn m work.old → Inside m work.new r) }
+    ensures inside { IfOk result (λ r. (m : ℕ) →
+        PendingIn m (pendings.Fix depth types arg.entry res.entry) → KeptIn m work.old → Inside m work.new r) }
 {
     leave(&mut work.names);
     leave(&mut work.names);
@@ -122,7 +116,8 @@ fn name_gen<'a>(
 ) -> Result<Control, OutOfMemory>
     ensures steps { IfOk result (λ r. (t : ℕ → Noted) →
         Follows t work.old (pendings.Gen depth types ty.entry) work.new r) }
-    ensures inside { IfOk result (λ r. (m : ℕ) → KeptIn m work.old → Inside m work.new r) }
+    ensures inside { IfOk result (λ r. (m : ℕ) →
+        PendingIn m (pendings.Gen depth types ty.entry) → KeptIn m work.old → Inside m work.new r) }
 {
     let under = deeper(types)?;
     let ty = gen_type(alloc, ty, under, &work.levels)?;
@@ -146,7 +141,8 @@ fn walk_other<'a>(
 ) -> Result<Control, OutOfMemory>
     ensures steps { IfOk result (λ r. (t : ℕ → Noted) →
         Follows t work.old (pendings.Other node depth types level) work.new r) }
-    ensures inside { IfOk result (λ r. (m : ℕ) → node < m → KeptIn m work.old → Inside m work.new r) }
+    ensures inside { IfOk result (λ r. (m : ℕ) →
+        PendingIn m (pendings.Other node depth types level) → KeptIn m work.old → Inside m work.new r) }
 {
     let mark = KNode::Else { depth: types };
     put(&mut work.out, mark)?;
@@ -167,8 +163,8 @@ fn walk_test<'a>(
 ) -> Result<Control, OutOfMemory>
     ensures steps { IfOk result (λ r. (t : ℕ → Noted) →
         Follows t work.old (pendings.If0 test zero other depth types ty.entry) work.new r) }
-    ensures inside { IfOk result (λ r. (m : ℕ) → test < m → zero < m → other < m → KeptIn m work.old →
-        Inside m work.new r) }
+    ensures inside { IfOk result (λ r. (m : ℕ) →
+        PendingIn m (pendings.If0 test zero other depth types ty.entry) → KeptIn m work.old → Inside m work.new r) }
 {
     work.types = types;
     let ty = rest_type(alloc, ty, types, &work.levels)?;
@@ -180,4 +176,59 @@ fn walk_test<'a>(
         level: depth,
     };
     enter(&mut work.frames, frame, test, inside)
+}
+
+// The body of a code has ended.
+#[inline(always)]
+fn put_end<'a>(work: &mut Work<'a>) -> Result<Control, OutOfMemory>
+    ensures steps { IfOk result (λ r. (t : ℕ → Noted) → Follows t work.old pendings.End work.new r) }
+    ensures inside { IfOk result (λ r. (m : ℕ) →
+        PendingIn m pendings.End → KeptIn m work.old → Inside m work.new r) }
+{
+    put(&mut work.out, KNode::End)?;
+    Ok(Control::Ended)
+}
+
+// The innermost name goes.
+#[inline(always)]
+fn leave_name<'a>(work: &mut Work<'a>) -> Result<Control, OutOfMemory>
+    ensures steps { IfOk result (λ r. (t : ℕ → Noted) → Follows t work.old pendings.Leave work.new r) }
+    ensures inside { IfOk result (λ r. (m : ℕ) →
+        PendingIn m pendings.Leave → KeptIn m work.old → Inside m work.new r) }
+{
+    leave(&mut work.names);
+    Ok(Control::Ended)
+}
+
+// The innermost type name goes.
+#[inline(always)]
+fn leave_type_name<'a>(work: &mut Work<'a>) -> Result<Control, OutOfMemory>
+    ensures steps { IfOk result (λ r. (t : ℕ → Noted) → Follows t work.old pendings.LeaveType work.new r) }
+    ensures inside { IfOk result (λ r. (m : ℕ) →
+        PendingIn m pendings.LeaveType → KeptIn m work.old → Inside m work.new r) }
+{
+    leave_type(&mut work.levels);
+    Ok(Control::Ended)
+}
+
+// A name is the innermost one again.
+#[inline(always)]
+fn enter_name<'a>(work: &mut Work<'a>, atom: Atom) -> Result<Control, OutOfMemory>
+    ensures steps { IfOk result (λ r. (t : ℕ → Noted) → Follows t work.old (pendings.Enter atom) work.new r) }
+    ensures inside { IfOk result (λ r. (m : ℕ) →
+        PendingIn m (pendings.Enter atom) → KeptIn m work.old → Inside m work.new r) }
+{
+    work.names.push(atom)?;
+    Ok(Control::Ended)
+}
+
+// A type name is the innermost one again.
+#[inline(always)]
+fn enter_type_name<'a>(work: &mut Work<'a>, level: u64) -> Result<Control, OutOfMemory>
+    ensures steps { IfOk result (λ r. (t : ℕ → Noted) → Follows t work.old (pendings.EnterType level) work.new r) }
+    ensures inside { IfOk result (λ r. (m : ℕ) →
+        PendingIn m (pendings.EnterType level) → KeptIn m work.old → Inside m work.new r) }
+{
+    work.levels.push(level)?;
+    Ok(Control::Ended)
 }

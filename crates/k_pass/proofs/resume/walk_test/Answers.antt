@@ -14,4 +14,4 @@ returns-clause-steps c =
 pub returns-clause-inside : goal.returns-clause-inside
 returns-clause-inside c =
     next_is c.enter.result (C.Walk c.args.test c.in_ok-inside.inside) _ c.enter.ensures
-    (λ waits m low zero other kept. (low, all_push (FrameIn m) _ _ _ waits kept.0 (zero, other), kept.1))
+    (λ waits m here kept. (here.0, all_push (FrameIn m) _ _ _ waits kept.0 (here.1, here.2), kept.1))

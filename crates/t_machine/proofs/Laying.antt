@@ -76,9 +76,6 @@ adds_both m n p Q R S a b f g r k h =
     (λ (x : R r). inr (g r x))
     (b r k h)
 
-pub adds_as : (m n : PlaceList) (Q S : ℕ → Type 0) → Adds m n Q → ((r : ℕ) → Q r → S r) → Adds m n S
-adds_as m n Q S a f r k h = ⊎_elim (λ (x : HasPlace m r). inl x) (λ (x : Q r). inr (f r x)) (a r k h)
-
 in_more : (cs : List ESeq) (c : ESeq) (r : ℕ) → InBlocks cs r → InBlocks (cs ++ c ∷ []) r
 in_more [] c r h = absurd h
 in_more (d ∷ cs) c r h = ⊎_elim (λ (x : InBlock d r). inl x) (λ (x : InBlocks cs r). inr (in_more cs c r x)) h

@@ -1,5 +1,6 @@
 pub mod Loads
-pub mod Cells
+pub mod Tuples
+pub mod Paired
 pub mod Registers
 pub mod Inverses
 pub mod Laying

@@ -16,6 +16,7 @@ use Rattle.t_rules.specs.Erase.{ESeq, EThen, EHeap, ERegs, EAt, EStep, EGoes, ba
 use Rattle.t_rules.specs.Erase.{on_full, enter, estep}
 use Rattle.t_machine.specs.Places.{PlaceList, place_of, ArePlaces}
 use Rattle.t_machine.specs.Words.{word, held, regs_of}
+use Rattle.t_machine.specs.Cells.{cells_of}
 use Rattle.t_machine.specs.Heap.{IsHeap, HasField, cell_of, field_of}
 use Rattle.t_machine.specs.Action.{Action, Arith, Bnz, Ld, Malloc, Mov, St, Jmp, Halt}
 use Rattle.t_machine.specs.Code.{IsBase, IsNumber, IsEntry, IsTarget, IsInstr, IsEnd, HoldsBlocks}
@@ -30,7 +31,7 @@ use Rattle.t_machine.specs.declared.code.Target.{Target}
 use Rattle.t_machine.specs.declared.code.Target.TheVariants as target
 use Rattle.t_machine.specs.declared.code.Instruction.{Instruction}
 use Rattle.t_machine.proofs.Loads.{at_entry}
-use Rattle.t_machine.proofs.Cells.{has_field, field_is, stored, grown, tuple_count}
+use Rattle.t_machine.proofs.Tuples.{has_field, field_is, stored, grown, tuple_count}
 use Rattle.t_machine.proofs.Registers.{held_int, held_address, held_label, held_word, held_full, is_integer, reads}
 use Rattle.t_machine.proofs.Registers.{in_range, place_in_range, operand_in_range, placed, operand, number, writes}
 use Rattle.t_machine.proofs.Registers.{set_count}
@@ -313,7 +314,7 @@ module _ (blocks : List ESeq) (m : PlaceList) (os : List Instruction) (es : List
                 (get_or two.0 i EEmpty) there),
           ),
           (λ y us a n leads.
-              let cells = leads.1 ∙ ap (λ z. slice_set x.cells.items (cell_of x z i) (at_place ws s)) to_is in
+              let cells = leads.1 ∙ ap (λ z. slice_set (cells_of x.cells) (cell_of x z i) (at_place ws s)) to_is in
               record {
                 way = Next;
                 tuples = slice_set h one.0 (slice_set two.0 i (word (at_place ws s)));

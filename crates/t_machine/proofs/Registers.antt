@@ -1,9 +1,8 @@
 -- Registers that are read and written.
 use Rattle.std.proofs.Common.{◌≡◌, ◌≢◌, ℕ, zero, suc, ◌<◌, ◌≤◌, List, [], ◌∷◌, length, Option, Some, None, refl, sym}
-use Rattle.std.proofs.Common.{ap, ◌∙◌, subst, arith, cond, nat_eq, true, false, slice_get, slice_set, get_or}
+use Rattle.std.proofs.Common.{ap, ◌∙◌, subst, arith, cond, nat_eq, true, false, slice_get, slice_set}
 use Rattle.std.proofs.Common.{option_and_then, replicate, inl, inr, ◌⊎◌, ⊎_elim}
 use Rattle.std.proofs.lemmas.Bool.{cases_lt}
-use Rattle.std.proofs.lemmas.Option.{get_or_from_slice_get, slice_get_read, slice_get-get_or}
 use Rattle.std.proofs.Math.Path.{fun_ext}
 use Rattle.std.proofs.lemmas.Bool.Decides.{nat_tests}
 use Rattle.std.specs.Prelude.{ℤ}
@@ -158,13 +157,6 @@ module _ (m : PlaceList) (ws : List Word) where
         NumberInRange (length ws) v × (number_of ws v ≡ Int i)
     number (N.Register k) b i h e = (place_in_range k b h, held_int (at_place ws k) i (placed k b (EInt i) h e))
     number (N.Int j) b i h e = (tt, ap Int (number_int j b i h e))
-
--- a word that is read
-pub read_at : (ws : List Word) (k : ℕ) (w : Word) → k < length ws → w ≡ get_or ws k w → at_place ws k ≡ w
-read_at ws k w lt is = get_or_from_slice_get ws k w Empty (slice_get_read ws (length ws) k w refl lt is)
-
-pub read_by : (ws : List Word) (k : ℕ) (d : Word) → k < length ws → at_place ws k ≡ get_or ws k d
-read_by ws k d lt = get_or_from_slice_get ws k (get_or ws k d) Empty (slice_get-get_or ws k d lt)
 
 pub set_count : (ws : List Word) (d : ℕ) (v : Word) → length (slice_set ws d v) ≡ length ws
 set_count [] d v = refl

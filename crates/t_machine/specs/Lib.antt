@@ -1,5 +1,6 @@
 pub mod Action
 pub mod Along
+pub mod Cells
 pub mod Code
 pub mod Heap
 pub mod Laid
@@ -10,6 +11,7 @@ pub mod ProgramLaws
 pub mod Room
 pub mod Runs
 pub mod Seldom
+pub mod Spare
 pub mod State
 pub mod Steps
 pub mod Words

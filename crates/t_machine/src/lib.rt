@@ -2,6 +2,7 @@
 //! then run a number of steps at a time.
 #![tactic(auto)]
 
+mod cells;
 mod code;
 mod executing;
 mod heap;

@@ -1,4 +1,4 @@
-use Rattle.std.proofs.Common.{◌≡◌, List, ◌∷◌, [], ◌++◌, ◌∙◌, length, map, take, ap, sym, append_assoc, arith}
+use Rattle.std.proofs.Common.{List, ◌∷◌, [], ◌++◌, ◌∙◌, map, take, ap, sym, append_assoc}
 use Rattle.std.proofs.lemmas.List.{map-append, append-nil, take_all}
 use Rattle.idx_core.specs.declared.span.Span.{Span}
 use Rattle.t_types.specs.declared.types.TType.{TType}
@@ -6,19 +6,18 @@ use Rattle.t_terms.specs.declared.value.Value.{Value}
 use Rattle.t_terms.specs.Read.{data_fields}
 use Rattle.t_terms.specs.Spanned.{plain_fields}
 use Rattle.t_rules.specs.Erase.{EWord, erase_datum}
+use Rattle.t_machine.specs.Cells.{cells_of}
 use Rattle.t_machine.specs.Words.{word}
 use Rattle.t_machine.specs.declared.word.Word.{Word}
-use Rattle.t_machine.proofs.Cells.{tuple_added}
+use Rattle.t_machine.proofs.Tuples.{tuple_added}
 use Rattle.t_machine.proofs.Loads.{words_taken}
 use Rattle.t_machine.proofs.loading.load_tuple.Goals as goal
 
 pub loop-field-init : goal.loop-field-init
 loop-field-init c =
-    let same : c.len.result ≡ length c.args.heap.now.cells.items =
-    omega (arith, c.len.ensures, c.args.heap.now.cells.ok.0) in
     record {
-      starts = c.in_ok-push.ensures.items ∙ ap (λ n. c.args.heap.now.starts.items ++ n ∷ []) same;
-      cells = sym (append-nil (map word c.args.heap.now.cells.items));
+      starts = c.in_ok-push.ensures.items ∙ ap (λ n. c.args.heap.now.starts.items ++ n ∷ []) c.len.ensures;
+      cells = sym (append-nil (map word (cells_of c.args.heap.now.cells)));
     }
 
 pub loop-field-preserved : goal.loop-field-preserved
@@ -29,14 +28,14 @@ loop-field-preserved c =
     record {
       starts = l.invariant.starts;
       cells =
-          ap (λ (ws : List Word). map word ws) c.in_ok-push-2.ensures.items
-          ∙ map-append word l.heap.cells.items (c.data_word.result ∷ [])
+          ap (λ (ws : List Word). map word ws) c.in_ok-push-2.ensures
+          ∙ map-append word (cells_of l.heap.cells) (c.data_word.result ∷ [])
           ∙ ap (λ ws. ws ++ word c.data_word.result ∷ []) l.invariant.cells
-          ∙ append_assoc (map word c.args.heap.now.cells.items)
+          ∙ append_assoc (map word (cells_of c.args.heap.now.cells))
           (map erase_datum (plain_fields (data_fields (take l.field-index xs)))) (word c.data_word.result ∷ [])
-          ∙ ap (λ w. map word c.args.heap.now.cells.items ++
+          ∙ ap (λ w. map word (cells_of c.args.heap.now.cells) ++
           (map erase_datum (plain_fields (data_fields (take l.field-index xs))) ++ w ∷ [])) c.data_word.ensures
-          ∙ ap (λ ws. map word c.args.heap.now.cells.items ++ ws)
+          ∙ ap (λ ws. map word (cells_of c.args.heap.now.cells) ++ ws)
           (sym (words_taken xs l.field-index c.field-item.result c.loop-field-test.true c.field-item.is));
     }
 
@@ -46,5 +45,5 @@ returns c =
     let all = take_all l.field-index c.args.fields.now c.loop-field-test.false in
     λ h is.
     tuple_added c.args.heap.now l.heap h (map erase_datum (plain_fields (data_fields c.args.fields.now))) is
-    (l.invariant.cells ∙ ap (λ (xs : List (Value × TType × Span)). map word c.args.heap.now.cells.items ++ map
+    (l.invariant.cells ∙ ap (λ (xs : List (Value × TType × Span)). map word (cells_of c.args.heap.now.cells) ++ map
     erase_datum (plain_fields (data_fields xs))) all) l.invariant.starts

@@ -2,12 +2,13 @@ use Rattle.std.proofs.Common.{◌≡◌, ◌∷◌, [], ◌++◌, length, map, t
 use Rattle.t_terms.specs.Read.{data_fields}
 use Rattle.t_terms.specs.Spanned.{plain_fields}
 use Rattle.t_rules.specs.Erase.{erase_datum}
+use Rattle.t_machine.specs.Cells.{cells_of}
 use Rattle.t_machine.specs.Words.{word}
 use Rattle.t_machine.proofs.loading.load_tuple.Given as goal
 
 abbrev pub invariant-loop-field : goal.invariant-loop-field
 invariant-loop-field l = record {
-  starts : l.heap.starts.items ≡ l.fn.heap.starts.items ++ length l.fn.heap.cells.items ∷ [];
-  cells : map word l.heap.cells.items ≡ map word l.fn.heap.cells.items ++ map erase_datum (plain_fields (data_fields
-      (take l.field-index l.fields)));
+  starts : l.heap.starts.items ≡ l.fn.heap.starts.items ++ length (cells_of l.fn.heap.cells) ∷ [];
+  cells : map word (cells_of l.heap.cells) ≡ map word (cells_of l.fn.heap.cells)
+      ++ map erase_datum (plain_fields (data_fields (take l.field-index l.fields)));
 }

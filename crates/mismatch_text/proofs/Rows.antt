@@ -4,7 +4,7 @@ use Rattle.std.specs.Fmt.{digits}
 use Rattle.f_terms.specs.Ty.{TInt, TVar, TAll, TTuple, NoTys, MoreTys}
 use Rattle.f_check.specs.Mismatch.{WType, WFunction, WField, WOutside}
 use Rattle.t_types.specs.Tree.{IntTy, CodeTy, TupleTy, NoRegs, MoreRegs, NoFields, MoreFields}
-use Rattle.t_check.specs.Mismatch.{Types, NoPackage, Register}
+use Rattle.t_mismatch.specs.Mismatch.{Types, NoPackage, Register}
 use Rattle.mismatch_text.specs.Line.{source_line, not_int_line, assembly_line}
 
 none : source_line None ≡ []

@@ -2,13 +2,13 @@
 ghost use Rattle.std.specs.Prelude.{◌≡◌, ◌++◌, IfOk, OnOk, option_map, codes};
 ghost use Rattle.t_types.specs.Read.{tree};
 ghost use Rattle.t_trace.specs.Line.{text_at};
-ghost use Rattle.t_check.specs.ReadMismatch.{mismatch_or_none};
+ghost use Rattle.t_mismatch.specs.ReadMismatch.{mismatch_or_none};
 ghost use Rattle.mismatch_text.specs.Line.{line, assembly_line, known_text, register_text};
 
 use idx_core::OutOfMemory;
 use itoa::Buffer;
 use std::alloc::Global;
-use t_check::Mismatch;
+use t_mismatch::Mismatch;
 use t_trace::type_at;
 use t_types::TType;
 

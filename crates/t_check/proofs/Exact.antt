@@ -9,14 +9,14 @@ use Rattle.t_terms.specs.declared.fault.TFault.TheVariants as fault
 use Rattle.t_rules.specs.Rules.{Accepted}
 use Rattle.t_rules.specs.Faults.{ProgramFault}
 use Rattle.t_rules.specs.LawsFaults.{NoFaultWhereAccepted, AtMostOneFault}
-use Rattle.t_check.specs.Mismatch.{ProgramNoted, ProgramFaultWith, MismatchIsOfTheFault, AtMostOneMismatch}
-use Rattle.t_check.specs.Mismatch as plain
-use Rattle.t_check.specs.ReadMismatch.{mismatch, mismatch_or_none}
-use Rattle.t_check.specs.Refusals.{SaysWith, IsMismatchOf, fault_of}
+use Rattle.t_mismatch.specs.Mismatch.{ProgramNoted, ProgramFaultWith, MismatchIsOfTheFault, AtMostOneMismatch}
+use Rattle.t_mismatch.specs.Mismatch as plain
+use Rattle.t_mismatch.specs.ReadMismatch.{mismatch, mismatch_or_none}
+use Rattle.t_mismatch.specs.Refusals.{SaysWith, IsMismatchOf, fault_of}
 use Rattle.t_check.specs.Verdict.{Says}
-use Rattle.t_check.specs.declared.mismatch.Mismatch.{Mismatch}
-use Rattle.t_check.specs.declared.refusal.Refusal.{Refusal}
-use Rattle.t_check.specs.declared.refusal.Refusal.TheVariants.{Memory, Refused, AtOdds, Untold}
+use Rattle.t_mismatch.specs.declared.mismatch.Mismatch.{Mismatch}
+use Rattle.t_mismatch.specs.declared.refusal.Refusal.{Refusal}
+use Rattle.t_mismatch.specs.declared.refusal.Refusal.TheVariants.{Memory, Refused, AtOdds, Untold}
 
 module _ (P : SProg) where
   -- what callers see of a refusal

@@ -1,13 +1,5 @@
-mod Depth
-mod Rising
-mod FilePlaces
-mod Fitted
-mod Noting
-mod Tuples
-mod Filling
 mod Blocks
 mod Typing
-mod Sets
 mod Places
 mod Loads
 mod Numbering
@@ -16,8 +8,4 @@ mod Bodies
 mod Exact
 mod Applying
 mod Walking
-mod Decided
-mod Beside
-mod FirstWith
 mod Missing
-mod RowsMismatch

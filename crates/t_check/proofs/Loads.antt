@@ -11,16 +11,16 @@ use Rattle.t_types.proofs.FitsLaws.{field_over}
 use Rattle.t_types.specs.WellFormed.{max_names}
 use Rattle.t_terms.specs.declared.fault.TCode.{TCode}
 use Rattle.t_terms.specs.declared.fault.TCode.TheVariants.{T09, T11, T19}
-use Rattle.t_check.specs.Mismatch.{Note, Types, FaultWith, bare, fitting, register, integer, tuple, field_at}
+use Rattle.t_mismatch.specs.Mismatch.{Note, Types, FaultWith, bare, fitting, register, integer, tuple, field_at}
 use Rattle.t_intern.specs.Marks.{marked_fields}
 use Rattle.t_intern.specs.Nodes.{at, fields_at}
-use Rattle.t_check.specs.Bounds.{Bounded}
-use Rattle.t_check.specs.Known.{own, seen, IsEntry}
-use Rattle.t_check.specs.declared.registers.Entry.{Entry}
-use Rattle.t_check.proofs.Depth.{bounded, bounded_shift, shift_fits, field_shallow}
-use Rattle.t_check.specs.Marks.{marks}
-use Rattle.t_check.proofs.Sets.{tuple_marked, marked_field, marked_absent}
-use Rattle.t_check.proofs.Tuples as tuples
+use Rattle.t_registers.specs.Bounds.{Bounded}
+use Rattle.t_registers.specs.Known.{own, seen, IsEntry}
+use Rattle.t_registers.specs.declared.registers.Entry.{Entry}
+use Rattle.t_registers.proofs.Depth.{bounded, bounded_shift, shift_fits, field_shallow}
+use Rattle.t_registers.specs.Marks.{marks}
+use Rattle.t_registers.proofs.Sets.{tuple_marked, marked_field, marked_absent}
+use Rattle.t_registers.proofs.Tuples as tuples
 
 -- a field that is not there is not there after a walk
 none_over : (f : At Ty) (d : ℕ) (fs : TFields) (i : ℕ) → field fs i ≡ None → field (over_fields f d fs) i ≡ None

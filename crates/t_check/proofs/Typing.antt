@@ -12,22 +12,22 @@ use Rattle.t_terms.specs.Tree.{TBase, TValue, Plain, Pack, Reg, Arith, Bnz, Mov,
 use Rattle.t_terms.specs.Spanned.{SDatum, plain_datum}
 use Rattle.t_terms.specs.declared.fault.TCode.{TCode}
 use Rattle.t_terms.specs.declared.fault.TCode.TheVariants.{T09, T13, T14, T15, T16}
-use Rattle.t_check.specs.declared.refusal.Refusal.{Refusal}
-use Rattle.t_check.specs.declared.refusal.Refusal.TheVariants.{Memory, Refused, AtOdds, Untold}
+use Rattle.t_mismatch.specs.declared.refusal.Refusal.{Refusal}
+use Rattle.t_mismatch.specs.declared.refusal.Refusal.TheVariants.{Memory, Refused, AtOdds, Untold}
 use Rattle.t_rules.specs.Registers.{no_types, inst_file, with_reg}
 use Rattle.t_rules.specs.Rules.{BaseHas, Has, Enters, DatumAccepted}
-use Rattle.t_check.specs.Mismatch.{Note, Types, NoPackage, FaultWith, bare, at_odds, fitting, if_code, if_exists}
-use Rattle.t_check.specs.Mismatch.{PackFaultWith, ValueFaultWith, FileFaultWith, EnterFaultWith, InstrFaultWith}
-use Rattle.t_check.specs.Mismatch.{DatumFaultWith}
-use Rattle.t_check.specs.ReadMismatch.{mismatch}
-use Rattle.t_check.specs.Bounds.{Bounded, OwedFile}
+use Rattle.t_mismatch.specs.Mismatch.{Note, Types, NoPackage, FaultWith, bare, at_odds, fitting, if_code, if_exists}
+use Rattle.t_mismatch.specs.Mismatch.{PackFaultWith, ValueFaultWith, FileFaultWith, EnterFaultWith, InstrFaultWith}
+use Rattle.t_mismatch.specs.Mismatch.{DatumFaultWith}
+use Rattle.t_mismatch.specs.ReadMismatch.{mismatch}
+use Rattle.t_registers.specs.Bounds.{Bounded, OwedFile}
 use Rattle.t_intern.specs.Grown.{IsNumber}
-use Rattle.t_check.specs.Known.{own, seen, known, IsEntry, IsSound}
-use Rattle.t_check.specs.Refusals.{SaysWith}
+use Rattle.t_registers.specs.Known.{own, seen, known, IsEntry, IsSound}
+use Rattle.t_mismatch.specs.Refusals.{SaysWith}
 use Rattle.t_check.specs.Verdict.{IsTypeOf, IsPacked, IsFileFit, IsEntered, IsStep}
-use Rattle.t_check.specs.declared.registers.Entry.{Entry}
-use Rattle.t_check.specs.declared.registers.Registers.{Registers}
-use Rattle.t_check.proofs.Depth.{shallow, bounded, bounded_shift}
+use Rattle.t_registers.specs.declared.registers.Entry.{Entry}
+use Rattle.t_registers.specs.declared.registers.Registers.{Registers}
+use Rattle.t_registers.proofs.Depth.{shallow, bounded, bounded_shift}
 
 -- a fault of a part is one of the whole
 pub says_map : (f : Refusal) (F G : FaultWith) → ((c : Note) (p : Span) → F c p → G c p) → SaysWith f F → SaysWith f G

@@ -34,21 +34,21 @@ use Rattle.t_rules.specs.Known.{KnownFrom, KnownAt, seq_from, code_at}
 use Rattle.t_rules.specs.Rules.{Typed, Accepted}
 use Rattle.t_rules.specs.LawsSound.{PlacesAreTyped}
 use Rattle.idx_core.specs.Over.{BelowAt, AnyDepth}
-use Rattle.t_check.specs.Bounds.{ShallowAt, ShallowBelow, Shallow, OwedAt, OwedBelow, Bounded}
-use Rattle.t_check.specs.Fitted.{RisesFrom, Rises}
-use Rattle.t_check.specs.Known.{seen, entry_of, known, IsEntry, IsSound}
+use Rattle.t_registers.specs.Bounds.{ShallowAt, ShallowBelow, Shallow, OwedAt, OwedBelow, Bounded}
+use Rattle.t_registers.specs.Fitted.{RisesFrom, Rises}
+use Rattle.t_registers.specs.Known.{seen, entry_of, known, IsEntry, IsSound}
 use Rattle.t_check.specs.Labels.{AreLabels}
 use Rattle.t_check.specs.Walks.{IsFileOf, IsStand, IsWalk}
 use Rattle.t_check.specs.declared.labels.Labels.{Labels}
 use Rattle.t_check.specs.declared.walk.Stand.{Stand}
 use Rattle.t_check.specs.declared.walk.Walk.{Walk}
 use Rattle.t_intern.specs.Grown.{Grown}
-use Rattle.t_check.proofs.Noting.{known_grown, sound_grown}
+use Rattle.t_registers.proofs.Noting.{known_grown, sound_grown}
 use Rattle.t_check.proofs.Numbering.{labels_grown}
-use Rattle.t_check.specs.declared.registers.Entry.{Entry}
-use Rattle.t_check.specs.declared.registers.Registers.{Registers}
+use Rattle.t_registers.specs.declared.registers.Entry.{Entry}
+use Rattle.t_registers.specs.declared.registers.Registers.{Registers}
 use Rattle.t_check.proofs.Blocks.{block_at, formed_at}
-use Rattle.t_check.proofs.Depth.{weaker, weaker_file}
+use Rattle.t_registers.proofs.Depth.{weaker, weaker_file}
 use Rattle.t_check.proofs.Typing.{entry_bounded}
 
 abbrev pub Steps : Type 0

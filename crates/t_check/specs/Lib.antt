@@ -1,11 +1,4 @@
-pub mod Bounds
 pub mod Checked
-pub mod Fitted
-pub mod Known
 pub mod Labels
-pub mod Marks
-pub mod Mismatch
-pub mod ReadMismatch
-pub mod Refusals
 pub mod Verdict
 pub mod Walks

@@ -1,10 +1,8 @@
 -- What the parts of the checker answer.
-use Rattle.std.specs.Prelude.{◌≡◌, ◌≢◌, ℕ, ◌-◌, ◌<◌, List, length, Bool, IsTrue, ◌↔◌, Option, Some, None, Result, Ok}
-use Rattle.std.specs.Prelude.{Err, IfOk}
-use Rattle.idx_core.specs.declared.memory.OutOfMemory.{OutOfMemory}
+use Rattle.std.specs.Prelude.{◌≡◌, ◌≢◌, ℕ, ◌-◌, ◌<◌, List, length, Bool, Some, Result, Ok, Err}
 use Rattle.idx_core.specs.declared.span.Span.{Span}
 use Rattle.text_core.specs.Refusals.{nothing, check}
-use Rattle.t_types.specs.Tree.{Ty, IntTy, CodeTy, ExistsTy, TupleTy, TFile, TFields, put}
+use Rattle.t_types.specs.Tree.{Ty, IntTy, ExistsTy, TupleTy, TFile, TFields, put}
 use Rattle.t_types.specs.Fields.{AField, field}
 use Rattle.t_types.specs.Fits.{Fits, FitsFile, RegTypes}
 use Rattle.t_terms.specs.Tree.{TBase, TValue, Plain, TInstr, TEnd, TBlock, TProg, names_after}
@@ -22,22 +20,20 @@ use Rattle.t_rules.specs.Registers.{inst_file}
 use Rattle.t_rules.specs.Rules.{BaseHas, Has, Enters, Typed, EndTyped, BlockAccepted, BlocksAccepted, DatumAccepted}
 use Rattle.t_rules.specs.Rules.{DataAccepted, HeapAccepted, Accepted}
 use Rattle.t_rules.specs.Faults.{Fault, ProgramFault}
-use Rattle.t_check.specs.Bounds.{Bounded, OwedFile}
+use Rattle.t_registers.specs.Bounds.{Bounded, OwedFile}
 use Rattle.t_check.specs.Checked.{checked_program}
-use Rattle.t_check.specs.Fitted.{KnownFits, FitsPlace, AgreesAt, SinceAgree}
-use Rattle.t_check.specs.Mismatch.{Register, at_odds, register, integer, tuple, field_at, BaseFaultWith, PackFaultWith}
-use Rattle.t_check.specs.Mismatch.{ValueFaultWith, FileFaultWith, EnterFaultWith, StoreFaultWith, InstrFaultWith}
-use Rattle.t_check.specs.Mismatch.{EndFaultWith, BlockFaultWith, BlocksFaultWith, DatumFaultWith, DataFaultWith}
-use Rattle.t_check.specs.Mismatch.{HeapFaultWith, ProgramNoted}
-use Rattle.t_check.specs.Refusals.{SaysWith}
+use Rattle.t_mismatch.specs.Mismatch.{KnownFits, Register, at_odds, register, integer, tuple, field_at, BaseFaultWith}
+use Rattle.t_mismatch.specs.Mismatch.{PackFaultWith, ValueFaultWith, FileFaultWith, EnterFaultWith, StoreFaultWith}
+use Rattle.t_mismatch.specs.Mismatch.{InstrFaultWith, EndFaultWith, BlockFaultWith, BlocksFaultWith, DatumFaultWith}
+use Rattle.t_mismatch.specs.Mismatch.{DataFaultWith, HeapFaultWith, ProgramNoted}
+use Rattle.t_mismatch.specs.Refusals.{SaysWith}
 use Rattle.t_intern.specs.Grown.{AreRegs, IsNumber}
-use Rattle.t_intern.specs.Nodes.{at, regs_at, RegsBelow}
-use Rattle.t_check.specs.Known.{known, IsSound}
+use Rattle.t_intern.specs.Nodes.{at}
+use Rattle.t_registers.specs.Known.{known, IsSound}
 use Rattle.t_check.specs.Labels.{AreLabels}
 use Rattle.t_check.specs.declared.checked.Checked.{Checked}
-use Rattle.t_check.specs.declared.parts.CodeParts.{CodeParts}
-use Rattle.t_check.specs.declared.refusal.Refusal.{Refusal}
-use Rattle.t_check.specs.declared.registers.Registers.{Registers}
+use Rattle.t_mismatch.specs.declared.refusal.Refusal.{Refusal}
+use Rattle.t_registers.specs.declared.registers.Registers.{Registers}
 use Rattle.t_check.specs.declared.checker.Checker.{Checker}
 
 -- the fault is want of memory, or the one that is described
@@ -66,27 +62,6 @@ FormedDatum p x = WellFormedDatum (length p.blocks.items) (length p.heap.items) 
 
 abbrev pub FormedData : TProgram → List SDatum → Type 0
 FormedData p xs = WellFormedData (length p.blocks.items) (length p.heap.items) (plain_fields xs)
-
--- the parts of the type of a number, where it has that form
-abbrev pub IsCode : List Ty → ℕ → Option CodeParts → Type 0
-IsCode ts n (Some p) = (at ts n ≡ CodeTy p.owes (regs_at ts p.regs.items)) × RegsBelow (length ts) p.regs.items
-IsCode ts n None = (owes : ℕ) (f : TFile) → at ts n ≢ CodeTy owes f
-
-abbrev pub IsRegsOf : List Ty → ℕ → List (ℕ × ℕ) → Type 0
-IsRegsOf ts n regs = ((owes : ℕ) × (at ts n ≡ CodeTy owes (regs_at ts regs))) × RegsBelow (length ts) regs
-
--- a register with the number of its type, as one with its type
-abbrev pub with_type : List Ty → ℕ × ℕ → ℕ × Ty
-with_type ts x = (x.0, at ts x.1)
-
-abbrev pub IsExists : List Ty → ℕ → Option ℕ → Type 0
-IsExists ts n (Some body) = (at ts n ≡ ExistsTy (at ts body)) × (body < length ts)
-IsExists ts n None = (body : Ty) → at ts n ≢ ExistsTy body
-
--- how many types the code of a number owes
-abbrev pub IsOwing : List Ty → ℕ → Option ℕ → Type 0
-IsOwing ts n (Some owes) = (f : TFile) × (at ts n ≡ CodeTy owes f)
-IsOwing ts n None = (owes : ℕ) (f : TFile) → at ts n ≢ CodeTy owes f
 
 -- Under n type names, where g is known of the registers, the number of the type of a base, or its first fault. The
 -- types us are those after the call.
@@ -129,28 +104,6 @@ IsStored n g rd i rs s (Ok flag) =
     (fs : TFields) × (t : Ty) × (w : Ty) × (g rd ≡ Some (TupleTy fs))
     × (field fs i ≡ Some (AField t flag)) × (g rs ≡ Some w) × Fits w t
 IsStored n g rd i rs s (Err f) = SaysWith f (StoreFaultWith n g s rd i rs)
-
--- the answer, if there is one, tells whether what is known of the registers fits the file
-abbrev pub TellsFile : RegTypes → TFile → Result Bool OutOfMemory → Type 0
-TellsFile g f r = IfOk r (λ b. IsTrue b ↔ FitsFile g f)
-
--- the same of the register at a place of the file, of one register and a type, of a register that the file may name,
--- and of those set from a place on
-abbrev pub TellsPlace : RegTypes → TFile → ℕ → Result Bool OutOfMemory → Type 0
-TellsPlace g f i a = IfOk a (λ b. IsTrue b ↔ FitsPlace g f i)
-
-abbrev pub TellsReg : RegTypes → ℕ → Ty → Result Bool OutOfMemory → Type 0
-TellsReg g r t a = IfOk a (λ b. IsTrue b ↔ KnownFits g r t)
-
-abbrev pub TellsAt : RegTypes → TFile → ℕ → Result Bool OutOfMemory → Type 0
-TellsAt g f r a = IfOk a (λ b. IsTrue b ↔ AgreesAt g f r)
-
-abbrev pub TellsSince : RegTypes → TFile → List ℕ → ℕ → Result Bool OutOfMemory → Type 0
-TellsSince g f rs i a = IfOk a (λ b. IsTrue b ↔ SinceAgree g f rs i)
-
--- and whether a type fits another one
-abbrev pub TellsFit : Ty → Ty → Result Bool OutOfMemory → Type 0
-TellsFit t u r = IfOk r (λ b. IsTrue b ↔ Fits t u)
 
 -- under n type names, the register is known by a type that fits t, or T18; and each register of the file, or the first
 abbrev pub IsRegFit : ℕ → RegTypes → Span → ℕ → Ty → Result (Unit {0}) Refusal → Type 0

@@ -8,20 +8,19 @@ ghost use Rattle.t_terms.specs.declared.fault.TCode as codes;
 ghost use Rattle.t_rules.specs.Rules.{Accepted};
 ghost use Rattle.t_rules.specs.Faults.{ProgramFault};
 ghost use Rattle.t_check.specs.Checked.{checked_program};
-ghost use Rattle.t_check.specs.Mismatch as odds;
-ghost use Rattle.t_check.specs.Mismatch.{ProgramFaultWith};
-ghost use Rattle.t_check.specs.ReadMismatch.{mismatch_or_none};
+ghost use Rattle.t_mismatch.specs.Mismatch as odds;
+ghost use Rattle.t_mismatch.specs.Mismatch.{ProgramFaultWith};
+ghost use Rattle.t_mismatch.specs.ReadMismatch.{mismatch_or_none};
 ghost use Rattle.t_check.specs.Verdict.{IsVerdict, AcceptsOrWants, RefusesOrWants};
 
 use crate::checked::Checked;
 use crate::labels::Labels;
-use crate::laws::{at_most_one_mismatch, mismatch_is_of_the_fault};
-use crate::mismatch::Mismatch;
 use crate::program::check_program;
-use crate::registers::Registers;
 use crate::salt::salt_of;
 use idx_core::{OutOfMemory, Salt};
 use std::alloc::Global;
+use t_mismatch::{Mismatch, at_most_one_mismatch, mismatch_is_of_the_fault};
+use t_registers::Registers;
 use t_rules::{at_most_one_fault, no_fault_where_accepted};
 use t_terms::{TFault, TProgram};
 

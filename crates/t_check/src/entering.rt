@@ -3,14 +3,15 @@ ghost use Rattle.std.specs.Prelude.{◌≡◌, List, OnOk};
 ghost use Rattle.t_types.specs.Tree.{Ty};
 ghost use Rattle.t_terms.specs.Read.{value};
 ghost use Rattle.t_intern.specs.Grown.{Grown};
-ghost use Rattle.t_check.specs.Known.{known, IsSound};
+ghost use Rattle.t_registers.specs.Known.{known, IsSound};
 ghost use Rattle.t_check.specs.Verdict.{FormedAt, IsPlace, EnteredAt};
 
 use crate::checker::Checker;
-use crate::parts::{owes_nothing, refused};
-use crate::refusal::Refusal;
+use crate::unfit::check_code;
 use idx_core::Span;
 use t_intern::Types;
+use t_mismatch::{Refusal, refused};
+use t_registers::owes_nothing;
 use t_terms::{TCode, Value};
 
 impl Checker<'_> {
@@ -38,6 +39,6 @@ impl Checker<'_> {
         if self.registers.fit(types, found)? {
             return Ok(());
         }
-        self.registers.check_code(types, found, span)
+        check_code(&self.registers, types, found, span)
     }
 }

@@ -8,17 +8,16 @@ ghost use Rattle.t_types.specs.Read.{types as type_trees};
 ghost use Rattle.t_terms.specs.Tree.{Arith, Bnz, Halt, Ld, Malloc, Mov, Plain, Reg, St, Unpack, names_after};
 ghost use Rattle.t_terms.specs.Read.{base as base_tree, value, instr, end_of};
 ghost use Rattle.t_intern.specs.Grown.{Grown};
-ghost use Rattle.t_check.specs.Known.{known, IsSound};
+ghost use Rattle.t_registers.specs.Known.{known, IsSound};
 ghost use Rattle.t_check.specs.Verdict.{FormedAt, FormedInstr, FormedEnd, IsPlace, EndedAt, StepsTo, IsInteger};
 ghost use Rattle.t_check.specs.Verdict.{IsFieldOf, IsStored};
 
 use crate::checker::Checker;
 use crate::labels::tuple_of;
-use crate::marking::flag_of;
-use crate::parts::{exists_body, is_int, refused};
-use crate::refusal::{Pair, Refusal, types_at_odds};
 use idx_core::Span;
 use t_intern::Types;
+use t_mismatch::{Pair, Refusal, refused, types_at_odds};
+use t_registers::{exists_body, flag_of, is_int};
 use t_terms::{Base, End, Instr, TCode, Value};
 use t_types::TType;
 

@@ -9,10 +9,10 @@ ghost use Rattle.t_intern.specs.Grown.{Grown, IsNumber, AreNumbers};
 ghost use Rattle.t_intern.specs.Spread.{types_at};
 ghost use Rattle.t_check.specs.Labels.{code_types, tuple_types, field_types, all_flagged, AreLabels};
 
-use crate::parts::intern;
 use idx_core::{OutOfMemory, Span};
 use std::alloc::Global;
 use t_intern::{Shape, Types};
+use t_registers::intern;
 use t_terms::{Block, Data, TProgram, Value};
 use t_types::TType;
 

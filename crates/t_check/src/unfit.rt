@@ -4,79 +4,88 @@ ghost use Rattle.std.specs.Prelude.{◌≡◌, ◌<◌, length};
 ghost use Rattle.t_types.specs.Tree.{TFile, CodeTy};
 ghost use Rattle.t_intern.specs.Grown.{Grown};
 ghost use Rattle.t_intern.specs.Nodes.{at, regs_at, RegsBelow};
-ghost use Rattle.t_check.specs.Known.{known, IsSound};
+ghost use Rattle.t_registers.specs.Known.{known, IsSound};
 ghost use Rattle.t_check.specs.Verdict.{IsRegFit, IsFileFit};
 
-use crate::parts::code_parts;
-use crate::refusal::{Refusal, Reg, register_at_odds};
-use crate::registers::Registers;
 use idx_core::Span;
 use t_intern::Types;
+use t_mismatch::{Refusal, Reg, register_at_odds};
+use t_registers::{Registers, code_parts};
 
-impl Registers {
-    // Whether each register of the code's file is known, by a type that fits.
-    pub(crate) fn check_code(&self, types: &mut Types, code: u64, span: Span) -> Result<(), Refusal>
-        requires sound { IsSound types.old self.now }
-        requires there { code < length types.old }
-        requires code { (f : TFile) × (at types.old code ≡ CodeTy 0 f) }
-        ensures grown { Grown types.old types.new }
-        ensures fit { (f : TFile) → at types.old code ≡ CodeTy 0 f →
-            IsFileFit self.now.names (known types.old self.now) span f result }
-    {
-        match code_parts(types, code)? {
-            Some(parts) => self.check_file(types, &parts.regs, span),
-            None => unreachable!(),
-        }
+// Whether each register of the code's file is known, by a type that fits.
+pub(crate) fn check_code(
+    registers: &Registers,
+    types: &mut Types,
+    code: u64,
+    span: Span,
+) -> Result<(), Refusal>
+    requires sound { IsSound types.old registers.now }
+    requires there { code < length types.old }
+    requires code { (f : TFile) × (at types.old code ≡ CodeTy 0 f) }
+    ensures grown { Grown types.old types.new }
+    ensures fit { (f : TFile) → at types.old code ≡ CodeTy 0 f →
+        IsFileFit registers.now.names (known types.old registers.now) span f result }
+{
+    match code_parts(types, code)? {
+        Some(parts) => check_file(registers, types, &parts.regs, span),
+        None => unreachable!(),
     }
+}
 
-    fn check_file(&self, types: &mut Types, regs: &[(u64, u64)], span: Span) -> Result<(), Refusal>
-        requires sound { IsSound types.old self.now }
-        requires regs { RegsBelow (length types.old) regs.now }
-        ensures grown { Grown types.old types.new }
-        ensures fit { IsFileFit self.now.names (known types.old self.now) span (regs_at types.old regs.now) result }
-    {
-        for reg in regs {
-            self.check_reg(types, reg.0, reg.1, span)?;
-        }
-        Ok(())
+fn check_file(
+    registers: &Registers,
+    types: &mut Types,
+    regs: &[(u64, u64)],
+    span: Span,
+) -> Result<(), Refusal>
+    requires sound { IsSound types.old registers.now }
+    requires regs { RegsBelow (length types.old) regs.now }
+    ensures grown { Grown types.old types.new }
+    ensures fit { IsFileFit registers.now.names (known types.old registers.now) span (regs_at types.old regs.now)
+        result }
+{
+    for reg in regs {
+        check_reg(registers, types, reg.0, reg.1, span)?;
     }
+    Ok(())
+}
 
-    // Whether the register is known, by a type that fits.
-    fn check_reg(
-        &self,
-        types: &mut Types,
-        register: u64,
-        wanted: u64,
-        span: Span,
-    ) -> Result<(), Refusal>
-        requires sound { IsSound types.old self.now }
-        requires wanted { wanted < length types.old }
-        ensures grown { Grown types.old types.new }
-        ensures fit { IsRegFit self.now.names (known types.old self.now) span register (at types.old wanted) result }
-    {
-        let names = self.names;
-        let entry = match self.find(register) {
-            Some(entry) => entry,
-            None => {
-                let missing = Reg {
-                    register,
-                    wanted,
-                    found: None,
-                    names,
-                };
-                return Err(register_at_odds(types, span, missing));
-            }
-        };
-        let found = self.shown(types, entry)?;
-        if types.fits_once(found, wanted) {
-            return Ok(());
+// Whether the register is known, by a type that fits.
+fn check_reg(
+    registers: &Registers,
+    types: &mut Types,
+    register: u64,
+    wanted: u64,
+    span: Span,
+) -> Result<(), Refusal>
+    requires sound { IsSound types.old registers.now }
+    requires wanted { wanted < length types.old }
+    ensures grown { Grown types.old types.new }
+    ensures fit { IsRegFit registers.now.names (known types.old registers.now) span register (at types.old wanted)
+        result }
+{
+    let names = registers.names;
+    let entry = match registers.find(register) {
+        Some(entry) => entry,
+        None => {
+            let missing = Reg {
+                register,
+                wanted,
+                found: None,
+                names,
+            };
+            return Err(register_at_odds(types, span, missing));
         }
-        let unfit = Reg {
-            register,
-            wanted,
-            found: Some(found),
-            names,
-        };
-        Err(register_at_odds(types, span, unfit))
+    };
+    let found = registers.shown(types, entry)?;
+    if types.fits_once(found, wanted) {
+        return Ok(());
     }
+    let unfit = Reg {
+        register,
+        wanted,
+        found: Some(found),
+        names,
+    };
+    Err(register_at_odds(types, span, unfit))
 }

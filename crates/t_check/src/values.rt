@@ -8,15 +8,15 @@ ghost use Rattle.t_terms.specs.Read.{base as base_tree, value};
 ghost use Rattle.t_intern.specs.Applied.{with_types};
 ghost use Rattle.t_intern.specs.Grown.{Grown, IsNumber};
 ghost use Rattle.t_intern.specs.Nodes.{at, regs_at, RegsBelow};
-ghost use Rattle.t_check.specs.Bounds.{Bounded, OwedFile};
+ghost use Rattle.t_registers.specs.Bounds.{Bounded, OwedFile};
 ghost use Rattle.t_check.specs.Verdict.{FormedAt, FormedBase, IsPlace, BaseTypedAt, TypedAt, AppliedAt, IsInstantiated};
 ghost use Rattle.t_check.specs.Verdict.{IsPacked};
 
 use crate::checker::Checker;
-use crate::parts::{code_parts, exists_body, intern, owed, refused};
-use crate::refusal::{Pair, Refusal, no_package, types_at_odds};
 use idx_core::{OutOfMemory, Span};
 use t_intern::{Shape, Types};
+use t_mismatch::{Pair, Refusal, no_package, refused, types_at_odds};
+use t_registers::{code_parts, exists_body, intern, owed};
 use t_terms::{Base, TCode, Value};
 use t_types::TType;
 

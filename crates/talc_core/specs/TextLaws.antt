@@ -4,7 +4,7 @@ use Rattle.f_terms.specs.Laws as typing
 use Rattle.t_terms.specs.Text as assembly
 use Rattle.t_rules.specs.LawsFaults as checking
 use Rattle.f_check.specs.Laws as source_at_odds
-use Rattle.t_check.specs.Mismatch as assembly_at_odds
+use Rattle.t_mismatch.specs.Mismatch as assembly_at_odds
 use Rattle.t_rules.specs.LawsSound.{OneRun, HaltingIsLast, HaltedOrOneStep, RunsOn, NothingSticks}
 
 pub record TextLaws : Type 0 where

@@ -65,8 +65,8 @@ fn mismatches_keep_laws()
 {
     f_check::mismatches_are_of_the_fault();
     f_check::faults_have_one_mismatch();
-    t_check::mismatch_is_of_the_fault();
-    t_check::at_most_one_mismatch();
+    t_mismatch::mismatch_is_of_the_fault();
+    t_mismatch::at_most_one_mismatch();
 }
 
 /// Two first faults of one text are equal, where the same is needed of it.

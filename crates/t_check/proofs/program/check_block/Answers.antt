@@ -10,12 +10,12 @@ use Rattle.t_terms.specs.ReadProgram.{program}
 use Rattle.t_terms.specs.Whole.{WellFormedSeq}
 use Rattle.t_terms.specs.declared.instr.Instr.{Instr}
 use Rattle.t_terms.specs.declared.program.TProgram.{TProgram}
-use Rattle.t_check.specs.Mismatch.{InstrFaultWith, BlockFaultWith}
+use Rattle.t_mismatch.specs.Mismatch.{InstrFaultWith, BlockFaultWith}
 use Rattle.t_intern.proofs.Growing.{grown_next, grown_same}
 use Rattle.t_check.specs.declared.labels.Labels.{Labels}
-use Rattle.t_check.specs.Known.{known}
+use Rattle.t_registers.specs.Known.{known}
 use Rattle.t_check.specs.Labels.{AreLabels}
-use Rattle.t_check.specs.Refusals.{SaysWith}
+use Rattle.t_mismatch.specs.Refusals.{SaysWith}
 use Rattle.t_check.specs.Verdict.{FormedInstr, FormedEnd, IsEnd}
 use Rattle.t_rules.specs.Rules.{Typed}
 use Rattle.t_check.proofs.Numbering.{labels_grown}

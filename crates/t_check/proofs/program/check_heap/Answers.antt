@@ -5,9 +5,9 @@ use Rattle.t_terms.specs.Read.{data_fields, spanned_data, spanned_heap}
 use Rattle.t_terms.specs.Spanned.{plain_fields}
 use Rattle.t_terms.specs.ReadProgram.{program}
 use Rattle.t_rules.specs.Rules.{DataAccepted}
-use Rattle.t_check.specs.Mismatch.{DataFaultWith, HeapFaultWith}
+use Rattle.t_mismatch.specs.Mismatch.{DataFaultWith, HeapFaultWith}
 use Rattle.t_intern.proofs.Growing.{grown_next}
-use Rattle.t_check.specs.Refusals.{SaysWith}
+use Rattle.t_mismatch.specs.Refusals.{SaysWith}
 use Rattle.t_check.specs.Verdict.{FormedData}
 use Rattle.t_check.proofs.Numbering.{labels_grown}
 use Rattle.t_check.proofs.Typing.{says_map}

@@ -7,7 +7,7 @@ use Rattle.t_rules.specs.Known.{KnownAt}
 use Rattle.t_rules.specs.Rules.{Typed}
 use Rattle.t_intern.proofs.Growing.{grown_next, grown_same}
 use Rattle.t_check.specs.declared.labels.Labels.{Labels}
-use Rattle.t_check.specs.Known.{known}
+use Rattle.t_registers.specs.Known.{known}
 use Rattle.t_check.specs.Labels.{AreLabels}
 use Rattle.t_check.specs.Verdict.{FormedInstr}
 use Rattle.t_check.proofs.Numbering.{labels_grown}

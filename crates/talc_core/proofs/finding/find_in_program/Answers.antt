@@ -1,5 +1,5 @@
 use Rattle.t_terms.specs.ReadProgram.{spanned_program}
-use Rattle.t_check.specs.ReadMismatch.{mismatch_or_none}
+use Rattle.t_mismatch.specs.ReadMismatch.{mismatch_or_none}
 use Rattle.talc_core.proofs.ExplainLemmas.{refused_program}
 use Rattle.talc_core.proofs.finding.find_in_program.Goals as goal
 

@@ -8,10 +8,10 @@ use Rattle.t_terms.specs.ReadProgram.{program}
 use Rattle.t_terms.specs.declared.fault.TCode.TheVariants.{T13}
 use Rattle.t_intern.specs.Nodes.{at}
 use Rattle.t_intern.proofs.Growing.{grown_at}
-use Rattle.t_check.specs.Known.{known}
-use Rattle.t_check.specs.Mismatch.{DatumFaultWith}
+use Rattle.t_registers.specs.Known.{known}
+use Rattle.t_mismatch.specs.Mismatch.{DatumFaultWith}
 use Rattle.t_check.specs.Verdict.{FormedValue}
-use Rattle.t_check.proofs.Noting.{empty_known}
+use Rattle.t_registers.proofs.Noting.{empty_known}
 use Rattle.t_check.proofs.Typing.{says_types, datum_ok, datum_unfit, datum_fault}
 use Rattle.t_check.proofs.checker.Checker.check_datum.Goals as goal
 

@@ -1,12 +1,12 @@
 use Rattle.std.proofs.Common.{subst, None, Some}
 use Rattle.std.proofs.Math.Logic.{∥∥₁_elim}
 use Rattle.t_terms.specs.Read.{instr}
-use Rattle.t_check.specs.Mismatch.{InstrFaultWith}
-use Rattle.t_check.specs.ReadMismatch.{mismatch}
-use Rattle.t_check.specs.Refusals.{SaysWith}
+use Rattle.t_mismatch.specs.Mismatch.{InstrFaultWith}
+use Rattle.t_mismatch.specs.ReadMismatch.{mismatch}
+use Rattle.t_mismatch.specs.Refusals.{SaysWith}
 use Rattle.t_check.specs.Verdict.{program_in, known_at}
-use Rattle.t_check.specs.declared.refusal.Refusal.{Refusal}
-use Rattle.t_check.proofs.FirstWith.{instr_beside}
+use Rattle.t_mismatch.specs.declared.refusal.Refusal.{Refusal}
+use Rattle.t_mismatch.proofs.FirstWith.{instr_beside}
 use Rattle.t_check.proofs.checker.Checker.pass_instr.Goals as goal
 
 pub unreachable-requires : goal.unreachable-requires

@@ -1,0 +1,4 @@
+mod Beside
+mod Decided
+pub mod FirstWith
+mod RowsMismatch

@@ -1,0 +1,3 @@
+pub mod Mismatch
+pub mod ReadMismatch
+pub mod Refusals

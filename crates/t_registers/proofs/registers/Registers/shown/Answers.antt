@@ -1,0 +1,24 @@
+use Rattle.std.proofs.Common.{◌-◌, ap, sym, subst, arith, IfOk}
+use Rattle.t_types.specs.Tree.{Ty, shift, ShiftFits}
+use Rattle.t_intern.specs.Grown.{IsNumber}
+use Rattle.t_intern.proofs.Growing.{grown_next}
+use Rattle.t_registers.specs.Known.{own}
+use Rattle.t_registers.proofs.Depth.{shift_fits}
+use Rattle.t_registers.proofs.registers.Registers.shown.Goals as goal
+
+pub shift-requires-clause-fits : goal.shift-requires-clause-fits
+shift-requires-clause-fits c =
+    let e = c.args.entry in
+    let by = c.args.self.now.names - e.names in
+    let le = c.requires.entry.1 in
+    let few = c.requires.few in
+    subst (λ (t : Ty). ShiftFits by 0 t) (sym c.in_ok-ty.ensures.number.1)
+    (shift_fits e.names by (own c.args.types.now e) (omega arith) c.requires.entry.2)
+
+pub returns-clause-grown : goal.returns-clause-grown
+returns-clause-grown c = grown_next _ _ _ c.in_ok-ty.ensures.grown c.shift.ensures.grown
+
+pub returns-clause-number : goal.returns-clause-number
+returns-clause-number c =
+    subst (λ (t : Ty). IfOk c.shift.result (IsNumber c.shift.new.self t))
+    (ap (shift (c.args.self.now.names - c.args.entry.names) 0) c.in_ok-ty.ensures.number.1) c.shift.ensures.number

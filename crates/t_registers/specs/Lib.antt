@@ -1,0 +1,6 @@
+pub mod Bounds
+pub mod Fitted
+pub mod Known
+pub mod Marks
+pub mod Parts
+pub mod Tells

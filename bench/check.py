@@ -3,7 +3,7 @@
 All read a program of 1000000 instructions in 10000 blocks (functions), and `talc` one half as large. Each line has its
 goal; a row that misses says so.
 """
-from measure import available, best, folder, program, ratio
+from measure import available, best, best_in_turn, folder, program, ratio
 
 BLOCKS = 10000
 MOST_OF_BINARY, MOST_OF_TEXT, MOST_TIMES = 1.8, 1, 2.2
@@ -40,10 +40,11 @@ def main():
             with open(f"{place}/p.wat", "w") as file:
                 file.write(module(BLOCKS, each))
             best([to_wasm, f"{place}/p.wat", "-o", f"{place}/p.wasm"], times=1)
-            ours = best([talc, "check", f"{place}/p.tal"], wanted=(0, "accepted\n"))
-            theirs = best([validate, f"{place}/p.wasm"])
-            text = best([to_wasm, f"{place}/p.wat", "-o", f"{place}/p.wasm"])
-            return ours, theirs, text
+            return best_in_turn(
+                ([talc, "check", f"{place}/p.tal"], (0, "accepted\n")),
+                ([validate, f"{place}/p.wasm"], None),
+                ([to_wasm, f"{place}/p.wat", "-o", f"{place}/p.wasm"], None),
+            )
 
         whole, half = times(100), times(50)
         print(

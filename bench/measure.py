@@ -66,16 +66,30 @@ class Run:
         self.rests = self.seconds
 
 
-def best(words, times=3, wanted=None):
-    """The run with the fewest processor seconds of several; each must end with the wanted status and text."""
-    runs = []
-    for _ in range(times):
-        run = Run(words)
-        status, text = wanted if wanted else (0, None)
-        if run.status != status or (text is not None and run.text != text):
-            sys.exit(f"{' '.join(words)}: status {run.status}, {run.text[:200]!r}")
-        runs.append(run)
+def checked(words, wanted=None):
+    """A run, which must end with the wanted status and text."""
+    run = Run(words)
+    status, text = wanted if wanted else (0, None)
+    if run.status != status or (text is not None and run.text != text):
+        sys.exit(f"{' '.join(words)}: status {run.status}, {run.text[:200]!r}")
+    return run
+
+
+def least(runs):
+    """The run with the fewest processor seconds."""
     return min(runs, key=lambda r: r.seconds)
+
+
+def best(words, times=3, wanted=None):
+    """The best of several runs."""
+    return least([checked(words, wanted) for _ in range(times)])
+
+
+def best_in_turn(*commands, times=5):
+    """The best of several runs of each command, whose words stand beside what is wanted of it. They are run in turn, so
+    that a minute in which the machine is slow tells against none of them."""
+    rounds = [[checked(words, wanted) for words, wanted in commands] for _ in range(times)]
+    return [least(runs) for runs in zip(*rounds)]
 
 
 class Spent:

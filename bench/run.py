@@ -3,7 +3,7 @@
 One loop makes 100000000 steps, the other allocates 10000000 small tuples. What is wanted: at most a twentieth of
 wasm-interp's time in the first, and a tenth in the second. A row that misses says so.
 """
-from measure import available, best, folder, program, ratio
+from measure import available, best, best_in_turn, folder, program, ratio
 
 MOST_OF_LOOP, MOST_OF_TUPLES = 0.05, 0.1
 
@@ -65,8 +65,10 @@ def main():
             with open(f"{place}/p.wat", "w") as file:
                 file.write(wat)
             best([to_wasm, f"{place}/p.wat", "-o", f"{place}/p.wasm"], times=1)
-            ours = best([talc, "run", f"{place}/p.tal", "--fuel", "1000000000"], wanted=(0, "int 0\n"))
-            theirs = best([interp, f"{place}/p.wasm", "--run-all-exports"])
+            ours, theirs = best_in_turn(
+                ([talc, "run", f"{place}/p.tal", "--fuel", "1000000000"], (0, "int 0\n")),
+                ([interp, f"{place}/p.wasm", "--run-all-exports"], None),
+            )
             print(
                 f"{name}: {ours.seconds:.2f} s, {steps / ours.seconds:.2e} instructions a second, "
                 f"{ours.peak / 1e6:.0f} MB, times wasm-interp's time: {ratio(ours, theirs, most)}"

@@ -6,7 +6,6 @@ use Rattle.idx_core.specs.declared.span.Span.{Span}
 use Rattle.t_types.specs.Fits.{RegTypes, lookup}
 use Rattle.t_types.specs.WellFormed.{max_names}
 use Rattle.t_types.specs.Tree.{NoRegs, BelowFile}
-use Rattle.t_types.specs.declared.types.TType.{TType}
 use Rattle.t_types.specs.Read.{file}
 use Rattle.t_terms.specs.Tree.{TEnd, TProg, names_after}
 use Rattle.t_terms.specs.Spanned.{seq_of, plain_datum, plain_fields}
@@ -16,11 +15,11 @@ use Rattle.t_terms.specs.ReadProgram.{program, spanned_program}
 use Rattle.t_terms.specs.Whole.{WellFormedInstr, WellFormedSeq, WellFormedEnd, WellFormedDatum, WellFormedData}
 use Rattle.t_terms.specs.declared.block.Block.{Block}
 use Rattle.t_terms.specs.declared.data.Data.{Data}
-use Rattle.t_terms.specs.declared.value.Value.{Value}
 use Rattle.t_terms.specs.declared.program.TProgram.{TProgram}
 use Rattle.t_terms.specs.declared.fault.TCode.TheVariants.{T20}
 use Rattle.t_terms.specs.declared.instr.Instr.{Instr}
 use Rattle.t_mismatch.specs.declared.refusal.Refusal.{Refusal}
+use Rattle.t_registers.specs.Labels.{Field}
 use Rattle.t_rules.specs.Rules.{Typed, EndTyped, SeqAccepted, BlockAccepted, BlocksAccepted, DatumAccepted}
 use Rattle.t_rules.specs.Rules.{DataAccepted, HeapAccepted, FirstTakesNothing}
 use Rattle.t_mismatch.specs.Mismatch.{Note, InstrFaultWith, EndFaultWith, BodyFaultWith, BlockFaultWith}
@@ -165,9 +164,6 @@ module _ (P : TProg) (xs : List Data) (i : ℕ) where
 
   pub data_end : length xs ≤ i → DataLeft P xs (drop i xs) → HeapAccepted P (data_of xs)
   data_end le left = left.accepted (subst (λ ys. HeapAccepted P (data_of ys)) (sym (drop_all i xs le)) tt)
-
-abbrev pub Field : Type 0
-Field = Value × TType × Span
 
 pub record WordsLeft (P : TProg) (xs left : List Field) : Type 0 where
   pub accepted : DataAccepted P (plain_fields (data_fields left)) → DataAccepted P (plain_fields (data_fields xs))

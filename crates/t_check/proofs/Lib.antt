@@ -2,7 +2,6 @@ mod Blocks
 mod Typing
 mod Places
 mod Loads
-mod Numbering
 mod Turns
 mod Bodies
 mod Exact

@@ -1,5 +1,5 @@
 -- The places of a program as a walk comes to them: their instructions, and what is known there as a file.
-use Rattle.std.proofs.Common.{◌≡◌, ℕ, zero, suc, ◌+◌, ◌-◌, ◌<◌, ◌≤◌, nat_eq, Bool, true, false, cond, List, [], ◌∷◌}
+use Rattle.std.proofs.Common.{◌≡◌, ℕ, zero, suc, ◌+◌, ◌<◌, ◌≤◌, nat_eq, Bool, true, false, cond, List, [], ◌∷◌}
 use Rattle.std.proofs.Common.{◌++◌, length, map, drop, get_or, Option, Some, None, refl, sym, ap, ◌∙◌, subst}
 use Rattle.std.proofs.Common.{arith, slice_get, option_and_then, All, inl, inr, ◌⊎◌, Bor, MatchOption}
 use Rattle.std.specs.Prelude.{option_map}
@@ -37,14 +37,14 @@ use Rattle.idx_core.specs.Over.{BelowAt, AnyDepth}
 use Rattle.t_registers.specs.Bounds.{ShallowAt, ShallowBelow, Shallow, OwedAt, OwedBelow, Bounded}
 use Rattle.t_registers.specs.Fitted.{RisesFrom, Rises}
 use Rattle.t_registers.specs.Known.{seen, entry_of, known, IsEntry, IsSound}
-use Rattle.t_check.specs.Labels.{AreLabels}
+use Rattle.t_registers.specs.Labels.{AreLabels}
 use Rattle.t_check.specs.Walks.{IsFileOf, IsStand, IsWalk}
-use Rattle.t_check.specs.declared.labels.Labels.{Labels}
+use Rattle.t_registers.specs.declared.labels.Labels.{Labels}
 use Rattle.t_check.specs.declared.walk.Stand.{Stand}
 use Rattle.t_check.specs.declared.walk.Walk.{Walk}
 use Rattle.t_intern.specs.Grown.{Grown}
 use Rattle.t_registers.proofs.Noting.{known_grown, sound_grown}
-use Rattle.t_check.proofs.Numbering.{labels_grown}
+use Rattle.t_registers.proofs.Numbering.{labels_grown}
 use Rattle.t_registers.specs.declared.registers.Entry.{Entry}
 use Rattle.t_registers.specs.declared.registers.Registers.{Registers}
 use Rattle.t_check.proofs.Blocks.{block_at, formed_at}

@@ -1,4 +1,3 @@
 pub mod Checked
-pub mod Labels
 pub mod Verdict
 pub mod Walks

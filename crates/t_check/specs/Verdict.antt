@@ -30,7 +30,7 @@ use Rattle.t_mismatch.specs.Refusals.{SaysWith}
 use Rattle.t_intern.specs.Grown.{AreRegs, IsNumber}
 use Rattle.t_intern.specs.Nodes.{at}
 use Rattle.t_registers.specs.Known.{known, IsSound}
-use Rattle.t_check.specs.Labels.{AreLabels}
+use Rattle.t_registers.specs.Labels.{AreLabels}
 use Rattle.t_check.specs.declared.checked.Checked.{Checked}
 use Rattle.t_mismatch.specs.declared.refusal.Refusal.{Refusal}
 use Rattle.t_registers.specs.declared.registers.Registers.{Registers}

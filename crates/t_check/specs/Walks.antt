@@ -9,7 +9,7 @@ use Rattle.t_rules.specs.Rules.{Typed, Accepted}
 use Rattle.t_rules.specs.Known.{KnownAt}
 use Rattle.t_registers.specs.Fitted.{Rises}
 use Rattle.t_registers.specs.Known.{known, IsSound}
-use Rattle.t_check.specs.Labels.{AreLabels}
+use Rattle.t_registers.specs.Labels.{AreLabels}
 use Rattle.t_check.specs.Verdict.{program_in, known_at}
 use Rattle.t_check.specs.declared.checker.Checker.{Checker}
 use Rattle.t_check.specs.declared.walk.Stand.{Stand}

@@ -14,14 +14,13 @@ ghost use Rattle.t_mismatch.specs.ReadMismatch.{mismatch_or_none};
 ghost use Rattle.t_check.specs.Verdict.{IsVerdict, AcceptsOrWants, RefusesOrWants};
 
 use crate::checked::Checked;
-use crate::labels::Labels;
 use crate::program::check_program;
-use crate::salt::salt_of;
 use idx_core::{OutOfMemory, Salt};
 use std::alloc::Global;
 use t_mismatch::{Mismatch, at_most_one_mismatch, mismatch_is_of_the_fault};
-use t_registers::Registers;
+use t_registers::{Labels, Registers};
 use t_rules::{at_most_one_fault, no_fault_where_accepted};
+use t_salt::salt_of;
 use t_terms::{TFault, TProgram};
 
 /// A program at a place of it: what is known there of the registers. Types are numbers of a table of the whole

@@ -13,11 +13,10 @@ ghost use Rattle.t_check.specs.Verdict.{FormedAt, FormedInstr, FormedEnd, IsPlac
 ghost use Rattle.t_check.specs.Verdict.{IsFieldOf, IsStored};
 
 use crate::checker::Checker;
-use crate::labels::tuple_of;
 use idx_core::Span;
 use t_intern::Types;
 use t_mismatch::{Pair, Refusal, refused, types_at_odds};
-use t_registers::{exists_body, flag_of, is_int};
+use t_registers::{exists_body, flag_of, is_int, tuple_of};
 use t_terms::{Base, End, Instr, TCode, Value};
 use t_types::TType;
 
@@ -126,6 +125,7 @@ impl Checker<'_> {
     }
 
     // The type and the flag of a field of the tuple in a register.
+    #[inline(always)]
     fn field_of(
         &self,
         types: &mut Types,

@@ -7,17 +7,16 @@ ghost use Rattle.t_terms.specs.Read.{block as block_tree, datum, data_fields, sp
 ghost use Rattle.t_terms.specs.ReadProgram.{program as program_of, spanned_program};
 ghost use Rattle.t_intern.specs.Grown.{Grown, IsNumber};
 ghost use Rattle.t_registers.specs.Known.{IsEmpty, IsOfBlock};
-ghost use Rattle.t_check.specs.Labels.{AreLabels};
+ghost use Rattle.t_registers.specs.Labels.{AreLabels};
 ghost use Rattle.t_check.specs.Verdict.{program_in, FormedBlock, FormedDatum, FormedData, IsPlace, IsBlock, AreBlocks};
 ghost use Rattle.t_check.specs.Verdict.{IsDatum, IsData, IsHeap, IsProgram};
 
 use crate::checker::Checker;
-use crate::labels::Labels;
 use idx_core::{OutOfMemory, Salt, Span};
 use std::alloc::Global;
 use t_intern::Types;
 use t_mismatch::{Pair, Refusal, refused, types_at_odds};
-use t_registers::{Registers, code_parts};
+use t_registers::{Labels, Registers, code_parts};
 use t_terms::{Block, Data, TCode, TProgram, Value};
 use t_types::TType;
 

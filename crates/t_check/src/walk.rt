@@ -11,21 +11,20 @@ ghost use Rattle.t_rules.specs.Rules.{Accepted};
 ghost use Rattle.t_intern.specs.Grown.{Grown};
 ghost use Rattle.t_check.specs.Checked.{checked_program};
 ghost use Rattle.t_registers.specs.Known.{known, IsSound};
-ghost use Rattle.t_check.specs.Labels.{AreLabels};
+ghost use Rattle.t_registers.specs.Labels.{AreLabels};
 ghost use Rattle.t_check.specs.Verdict.{FormedInstr, IsPlace, program_in};
 ghost use Rattle.t_check.specs.Walks.{IsFileOf, IsKnownFile, IsTyped, IsPassed, IsStand, IsStandAt, IsWalk, walked};
 
 use crate::checked::Checked;
 use crate::checker::Checker;
-use crate::labels::Labels;
 use crate::program::header;
-use crate::salt::salt_of;
 use idx_core::{OutOfMemory, Span};
 use std::alloc::Global;
 use t_intern::Types;
 use t_mismatch::Refusal;
-use t_registers::Registers;
+use t_registers::{Labels, Registers};
 use t_rules::{no_fault_where_typed, places_go_on};
+use t_salt::salt_of;
 use t_terms::{Instr, TProgram};
 use t_types::RegFile;
 

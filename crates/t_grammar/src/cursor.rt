@@ -137,6 +137,7 @@ pub fn expect_two(
 }
 
 /// The number of the register at a place, where one must stand, with its place in the text.
+#[inline(always)]
 pub fn expect_register(tokens: &Tokens, at: usize) -> Result<(u64, Span), Stopped>
     ensures { IsHeld (λ c. (register_of c.kind, c.span)) (tokens_of tokens.now) at want.Register result }
 {

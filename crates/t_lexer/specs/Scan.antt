@@ -1,16 +1,19 @@
 -- What the code finds at a place of an assembly text.
-use Rattle.std.specs.Prelude.{◌≡◌, ℕ, ◌-◌, pos, neg_ℤ, ◌&&◌, nat_le, if◌then◌else◌, Bool, true, false, List, [], ◌∷◌}
-use Rattle.std.specs.Prelude.{take, drop, codes, Option, Some, None}
+use Rattle.std.specs.Prelude.{◌≡◌, ℕ, ◌+◌, ◌-◌, pos, neg_ℤ, ◌&&◌, nat_le, if◌then◌else◌, Bool, true, false, List, []}
+use Rattle.std.specs.Prelude.{◌∷◌, take, drop, codes, Option, Some, None}
 use Rattle.std.specs.List.{prefix_len}
 use Rattle.text_core.specs.Byte.{of_word}
 use Rattle.text_core.specs.declared.lexeme.Digits.{Digits}
 use Rattle.text_core.specs.declared.lexeme.Found.{Found}
-use Rattle.text_core.specs.declared.lexeme.Found.TheVariants.{Read, Large}
-use Rattle.text_core.specs.Lexeme.{Within, IsValue, PWord, piece}
+use Rattle.text_core.specs.declared.lexeme.Found.TheVariants.{Skip, Read, Large}
+use Rattle.text_core.specs.Lexeme.{Within, IsValue, PWord, piece, IsFound}
 use Rattle.t_types.specs.WellFormed.{max_number}
 use Rattle.t_terms.specs.declared.token.Kind.{Kind}
 use Rattle.t_terms.specs.declared.token.Kind.TheVariants as k
-use Rattle.t_terms.specs.Tokens.{is_register, after_first}
+use Rattle.t_terms.specs.Tokens.{assembly, is_register, after_first}
+use Rattle.t_lexer.specs.declared.scan.Short.{Short}
+use Rattle.t_lexer.specs.declared.scan.Short.TheVariants as short
+use Rattle.t_lexer.specs.Kept.{kind_of}
 
 abbrev pub plain_found : Digits → Found Kind
 plain_found d = if d.fits && nat_le d.value max_number then Read (k.Plain (pos d.value)) d.end else Large d.end
@@ -61,3 +64,10 @@ IsRegisterAt text at (Some d) =
     Within text at d.end × (piece (drop at text) ≡ PWord (d.end - at))
     × (is_register (take (d.end - at) (drop at text)) ≡ true)
     × IsValue d.value d.fits (after_first (take (d.end - at) (drop at text)))
+
+-- what stands at a place where one of the shortest forms does, and nothing where another does
+abbrev pub IsShort : List ℕ → ℕ → Short → Type 0
+IsShort text at short.Blank = IsFound assembly text at (Skip (at + 1))
+IsShort text at (short.Sign tag) = IsFound assembly text at (Read (kind_of tag 0) (at + 1))
+IsShort text at (short.Register n) = IsFound assembly text at (Read (k.Register n) (at + 2))
+IsShort text at short.Other = Unit {0}

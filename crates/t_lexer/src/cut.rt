@@ -9,7 +9,8 @@ ghost use Rattle.t_lexer.specs.Kept.{tokens_of};
 ghost use Rattle.t_lexer.specs.Cut.{IsTokenFault, FirstTokenFault};
 
 use crate::kept::Tokens;
-use crate::scan::find;
+use crate::scan::{Short, find, short_at};
+use crate::tagged::Tag;
 use idx_core::Span;
 use std::alloc::Global;
 use t_terms::{TCode, TFault};
@@ -36,19 +37,32 @@ pub fn tokens(alloc: Global, text: &[u8]) -> Result<Tokens, TFault>
     ensures refused { (code : codes.TCode) (span : place.Span) → FirstTokenFault text.now code span →
         IsErrAnd result (λ f. f ≢ fault.Memory → f ≡ fault.Refused code span) }
 {
-    let mut out = Tokens::new(alloc);
+    let mut out = Tokens::with_room(alloc, text.len() / 2);
     let mut at = 0usize;
     while at < text.len() {
-        match find(text, at) {
-            Found::Skip(end) => {
-                at = end;
+        match short_at(text, at) {
+            Short::Blank => {
+                at += 1;
             }
-            Found::Read(kind, end) => {
-                out.push(kind, at, end)?;
-                at = end;
+            Short::Sign(tag) => {
+                out.push_short(tag, 0, 1, at)?;
+                at += 1;
             }
-            Found::Large(end) => return Err(refused(TCode::T02, at, end)),
-            Found::Bad => return Err(refused(TCode::T01, at, at + 1)),
+            Short::Register(number) => {
+                out.push_short(Tag::Register, number, 2, at)?;
+                at += 2;
+            }
+            Short::Other => match find(text, at) {
+                Found::Skip(end) => {
+                    at = end;
+                }
+                Found::Read(kind, end) => {
+                    out.push(kind, at, end)?;
+                    at = end;
+                }
+                Found::Large(end) => return Err(refused(TCode::T02, at, end)),
+                Found::Bad => return Err(refused(TCode::T01, at, at + 1)),
+            },
         }
     }
     Ok(out)

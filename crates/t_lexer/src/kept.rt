@@ -1,6 +1,6 @@
 // Tokens in 8 bytes each.
-ghost use Rattle.std.specs.Prelude.{◌≡◌, ◌≢◌, ◌<◌, ◌++◌, [], ◌∷◌, length, slice_get, get_or, OnOk, IfSome};
-ghost use Rattle.t_lexer.specs.Kept.{nothing, short_token, token_in, tokens_of, IsWhole};
+ghost use Rattle.std.specs.Prelude.{◌≡◌, ◌≢◌, ◌<◌, ◌+◌, ◌^◌, ◌++◌, [], ◌∷◌, length, slice_get, get_or, OnOk, IfSome};
+ghost use Rattle.t_lexer.specs.Kept.{kind_of, nothing, short_token, token_in, tokens_of, IsWhole};
 
 use crate::tagged::{Tag, Tagged, kind_of};
 use idx_core::{OutOfMemory, Span};
@@ -69,6 +69,15 @@ impl Tokens {
         }
     }
 
+    /// No tokens, with room for so many where memory allows; else they grow as they come.
+    pub fn with_room(alloc: Global, room: usize) -> Tokens
+        ensures { (tokens_of result ≡ []) × IsWhole result }
+    {
+        let mut tokens = Tokens::new(alloc);
+        let _ = tokens.words.reserve(room);
+        tokens
+    }
+
     /// How many tokens they are.
     #[inline(always)]
     pub fn len(&self) -> usize
@@ -126,6 +135,39 @@ impl Tokens {
             length: 0,
             number: 0,
             start: at as u32,
+        };
+        self.words.push(word)?;
+        Ok(())
+    }
+
+    // one token more, with a number and a length of one byte each
+    #[inline(always)]
+    pub(crate) fn push_short(
+        &mut self,
+        tag: Tag,
+        number: u8,
+        length: u8,
+        start: usize,
+    ) -> Result<(), OutOfMemory>
+        requires not_empty { length ≢ 0 }
+        requires end { start + length < 2 ^ 64 }
+        ensures { IsWhole self.old → OnOk result (IsWhole self.new × (tokens_of self.new ≡ tokens_of self.old
+            ++ record { kind = kind_of tag number; span = record { start = start; end = start + length } } ∷ [])) }
+    {
+        if start > u32::MAX as usize {
+            let start = start as u64;
+            let span = Span {
+                start,
+                end: start + length as u64,
+            };
+            let kind = kind_of(tag, number as u64);
+            return self.add(Token { kind, span });
+        }
+        let word = Word {
+            tag,
+            length,
+            number: number as u16,
+            start: start as u32,
         };
         self.words.push(word)?;
         Ok(())

@@ -7,7 +7,7 @@ ghost use Rattle.t_terms.specs.Tokens.{assembly, words, word_in, signs, is_regis
 ghost use Rattle.t_lexer.specs.Kept.{kind_of, of_tag};
 ghost use Rattle.t_lexer.specs.Scan.{plain_found, negative_found, register_found, word_at, IsRegisterAt};
 ghost use Rattle.t_lexer.specs.Scan.{goes_on, words_of_a, words_of_bcd, words_of_hij, words_of_lp};
-ghost use Rattle.t_lexer.specs.Scan.{words_of_m, words_of_s, words_of_tu};
+ghost use Rattle.t_lexer.specs.Scan.{words_of_m, words_of_s, words_of_tu, IsShort};
 
 use crate::digits::digits_at;
 use crate::tagged::{Tag, Tagged};
@@ -160,11 +160,11 @@ fn negative(digits: Digits) -> Found<Tagged>
     }
 }
 
-// whether a letter, a digit or an underscore stands at a place
+// Whether a letter, a digit or an underscore stands at a place. Most bytes that end a word are below all of these.
 fn goes_on(text: &[u8], at: usize) -> bool
     ensures { result ≡ goes_on (drop at text.now) }
 {
-    at < text.len() && is_of_word(text[at])
+    at < text.len() && text[at] >= b'0' && is_of_word(text[at])
 }
 
 // the digits of the register token at a place, where the word there is one: `r`, and digits to its end
@@ -229,6 +229,50 @@ fn find_other(text: &[u8], at: usize) -> Found<Tagged>
         return plain(digits_at(text, at));
     }
     find_rare(text, at)
+}
+
+/// What stands at a place, where that is one of the shortest forms, as most are: white space of one byte, a sign, or a
+/// register of one digit from 1 to 9.
+#[derive(Drop)]
+pub(crate) enum Short {
+    Blank,
+    Sign(Tag),
+    Register(u8),
+    Other,
+}
+
+// the register at a place, where one of one digit from 1 to 9 stands there
+#[inline(always)]
+fn short_register(text: &[u8], at: usize) -> Short
+    requires { at < length text.now }
+    ensures { IsShort text.now at result }
+{
+    if text[at] != b'r' || at + 1 >= text.len() {
+        return Short::Other;
+    }
+    let digit = text[at + 1];
+    if digit < b'1' || digit > b'9' {
+        return Short::Other;
+    }
+    if goes_on(text, at + 2) {
+        return Short::Other;
+    }
+    Short::Register(digit - b'0')
+}
+
+/// What stands at a place before the end of an assembly text, where that is one of the shortest forms.
+#[inline(always)]
+pub(crate) fn short_at(text: &[u8], at: usize) -> Short
+    requires { at < length text.now }
+    ensures { IsShort text.now at result }
+{
+    if is_space(text[at]) {
+        return Short::Blank;
+    }
+    match sign(text[at]) {
+        Some(tag) => Short::Sign(tag),
+        None => short_register(text, at),
+    }
 }
 
 /// What stands at a place before the end of an assembly text.

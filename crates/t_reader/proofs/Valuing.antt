@@ -25,7 +25,7 @@ use Rattle.t_shapes.specs.declared.raw.RawValue.{RawValue}
 use Rattle.t_shapes.specs.declared.raw.RawValue.TheVariants as RV
 use Rattle.t_shapes.specs.declared.raw.RawPack.{RawPack}
 use Rattle.t_shapes.specs.declared.raw.RawInstr.{RawInstr}
-use Rattle.t_shapes.specs.Raw.{raw_base, raw_value, raw_instr, raw_step}
+use Rattle.t_shapes.specs.Raw.{raw_base, raw_value, raw_pack, raw_instr, raw_step}
 use Rattle.t_reader.specs.Resolve.{StopsAt}
 use Rattle.t_terms.specs.declared.fault.TFault.{TFault}
 use Rattle.t_terms.specs.declared.fault.TFault.TheVariants.{Refused}
@@ -65,28 +65,34 @@ module _ (text : List ℕ) (ls : Labels) (a : List Name) (v : RawValue) where
           Valued text ls a v c (V.Plain b made)
       plain_whole made c g h = (h.0, rw (e, ← p) (none_both _ _ g.0 h.1), rw (e, ← p, g.1, h.2) refl)
 
-  module _ (box : Box RawPack Global) (pack : RawPack) (e : v ≡ RV.Pack box) (y : box.value ≡ pack) where
-    pub pack_1_stop : (s : TFault) → StopsAt (type_faults text a (raw pack.hidden)) s →
-        StopsAt (value_faults text ls a (raw_value v)) s
-    pack_1_stop s h = rw (e, y) (stop_left _ _ s h)
+pub pack_value : (v : RawValue) (box : Box RawPack Global) (pack : RawPack) → v ≡ RV.Pack box → box.value ≡ pack →
+    raw_value v ≡ raw_pack pack
+pack_value v box pack e y = rw (e, y) refl
 
-    module _ (b : List Name) (t : TType) (d : Done text a pack.hidden b t) where
-      pub pack_2_stop : (s : TFault) → StopsAt (value_faults text ls b (raw_value pack.inner)) s →
-          StopsAt (value_faults text ls a (raw_value v)) s
-      pack_2_stop s h = rw (e, y) (stop_right _ _ s d.1 (stop_left _ _ s (rw d.0 at h)))
+module _ (text : List ℕ) (ls : Labels) (a : List Name) (pack : RawPack) where
+  pub pack_1_stop : (s : TFault) → StopsAt (type_faults text a (raw pack.hidden)) s →
+      StopsAt (value_faults text ls a (raw_pack pack)) s
+  pack_1_stop s h = stop_left _ _ s h
 
-      module _ (c : List Name) (x : Value) (g : Valued text ls b pack.inner c x) where
-        pub pack_3_stop : (s : TFault) → StopsAt (type_faults text c (raw pack.shape)) s →
-            StopsAt (value_faults text ls a (raw_value v)) s
-        pack_3_stop s h = rw (e, y) (stop_right _ _ s d.1 (stop_right _ _ s (rw d.0 at g.1) (rw (g.0, d.0) at h)))
+  module _ (b : List Name) (t : TType) (d : Done text a pack.hidden b t) where
+    pub pack_2_stop : (s : TFault) → StopsAt (value_faults text ls b (raw_value pack.inner)) s →
+        StopsAt (value_faults text ls a (raw_pack pack)) s
+    pack_2_stop s h = stop_right _ _ s d.1 (stop_left _ _ s (rw d.0 at h))
 
-        pub pack_whole : (f : List Name) (u : TType) → Done text c pack.shape f u → (z : Value) →
-            read.value z ≡ Pack (tree t) (read.value x) (tree u) → Valued text ls a v f z
-        pack_whole f u h z q = (
-          h.0 ∙ (g.0 ∙ d.0),
-          rw (e, y) (none_both _ _ d.1 (none_both _ _ (rw d.0 at g.1) (rw (g.0, d.0) at h.1))),
-          q ∙ rw (e, y, d.2, rw d.0 at g.2, rw (g.0, d.0) at h.2) refl,
-        )
+    module _ (c : List Name) (x : Value) (g : Valued text ls b pack.inner c x) where
+      pub pack_3_stop : (s : TFault) → StopsAt (type_faults text c (raw pack.shape)) s →
+          StopsAt (value_faults text ls a (raw_pack pack)) s
+      pack_3_stop s h = stop_right _ _ s d.1 (stop_right _ _ s (rw d.0 at g.1) (rw (g.0, d.0) at h))
+
+      pub pack_whole : (f : List Name) (u : TType) → Done text c pack.shape f u → (z : Value) →
+          read.value z ≡ Pack (tree t) (read.value x) (tree u) →
+          (f ≡ a) × (value_faults text ls a (raw_pack pack) ≡ [])
+          × (read.value z ≡ value_of text ls a (raw_pack pack))
+      pack_whole f u h z q = (
+        h.0 ∙ (g.0 ∙ d.0),
+        none_both _ _ d.1 (none_both _ _ (rw d.0 at g.1) (rw (g.0, d.0) at h.1)),
+        q ∙ rw (d.2, rw d.0 at g.2, rw (g.0, d.0) at h.2) refl,
+      )
 
 -- a body, of which the instructions from k on are left
 pub record BodyLeft (text : List ℕ) (ls : Labels) (a : List Name) (xs : List (RawInstr × Span)) (k : ℕ) (b : List Name)

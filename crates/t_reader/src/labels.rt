@@ -77,12 +77,17 @@ fn keep_first<'a>(
 
 /// The labels of items with these heads, each of which names the first item that has it. The blocks count from 0 in
 /// text order, and so do the data.
-pub fn labels_from<'a>(alloc: Global, text: &'a [u8], heads: &[Head]) -> Result<Labels<'a>, TFault>
+pub fn labels_from<'a>(
+    alloc: Global,
+    text: &'a [u8],
+    heads: &[Head],
+    salt: Salt,
+) -> Result<Labels<'a>, TFault>
     ensures { MatchResult result
         (λ l. NameTheSame l (head_labels text.now heads.now))
         (λ e. e ≡ fault.Memory) }
 {
-    let mut targets = by_spelling(alloc, salt_of(text));
+    let mut targets = by_spelling(alloc, salt);
     let mut blocks = 0u64;
     let mut tuples = 0u64;
     for head in heads {
@@ -103,12 +108,17 @@ pub fn labels_from<'a>(alloc: Global, text: &'a [u8], heads: &[Head]) -> Result<
 }
 
 /// The labels of items, each of which names the first item that has it.
-pub fn labels_in<'a>(alloc: Global, text: &'a [u8], items: &[RawItem]) -> Result<Labels<'a>, TFault>
+pub fn labels_in<'a>(
+    alloc: Global,
+    text: &'a [u8],
+    items: &[RawItem],
+    salt: Salt,
+) -> Result<Labels<'a>, TFault>
     ensures { MatchResult result
         (λ l. NameTheSame l (labels_of text.now (raw_items items.now)))
         (λ e. e ≡ fault.Memory) }
 {
     let heads = heads_of(alloc, items)?;
-    let labels = labels_from(alloc, text, &heads)?;
+    let labels = labels_from(alloc, text, &heads, salt)?;
     Ok(labels)
 }

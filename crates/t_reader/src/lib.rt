@@ -11,4 +11,4 @@ mod target;
 mod types;
 
 pub use labels::salt_of;
-pub use reader::read;
+pub use reader::{read, read_salted};

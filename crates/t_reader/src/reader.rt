@@ -21,11 +21,11 @@ ghost use Rattle.t_reader.specs.Resolve.{block_numbered_faults, data_numbered_fa
 
 use crate::faults::refused;
 use crate::heads::{Head, head_of, heads_in, same_head};
-use crate::labels::{Labels, labels_from, labels_in};
+use crate::labels::{Labels, labels_from, labels_in, salt_of};
 use crate::resolve::{block_in, data_in};
 use crate::scope::spelling;
 use crate::target::Target;
-use idx_core::Span;
+use idx_core::{Salt, Span};
 use std::alloc::Global;
 use t_grammar::{Stopped, peek};
 use t_lexer::{Tokens, tokens};
@@ -164,13 +164,13 @@ fn taken_data(
 
 // The blocks and the data of a text with their names resolved. Each raw item is dropped as soon as its own is made, so
 // that the two trees are never both whole in memory.
-fn parts_in(alloc: Global, text: &[u8], raw: Vec<RawItem>) -> Result<Parts, TFault>
+fn parts_in(alloc: Global, text: &[u8], raw: Vec<RawItem>, salt: Salt) -> Result<Parts, TFault>
     ensures { MatchResult result
         (λ p. (program_faults text.now (raw_items raw.items) ≡ [])
         × (spanned_parts p.blocks.items p.heap.items ≡ program_of text.now (raw_items raw.items)))
         (λ e. StopsAt (program_faults text.now (raw_items raw.items)) e) }
 {
-    let labels = labels_in(alloc, text, &raw)?;
+    let labels = labels_in(alloc, text, &raw, salt)?;
     let mut blocks = Vec::new(alloc);
     let mut heap = Vec::new(alloc);
     for item in raw {
@@ -249,48 +249,48 @@ fn parts_by_heads(
 }
 
 // The same by the heads that stand among the tokens. A text without fault has no others.
-fn parts_in_turn(alloc: Global, text: &[u8], tokens: &Tokens) -> Result<Parts, TFault>
+fn parts_in_turn(alloc: Global, text: &[u8], tokens: &Tokens, salt: Salt) -> Result<Parts, TFault>
     ensures { IfOk result (λ p. AreParts text.now (tokens_of tokens.now) p.blocks.items p.heap.items) }
 {
     let heads = heads_in(alloc, tokens)?;
-    let labels = labels_from(alloc, text, &heads)?;
+    let labels = labels_from(alloc, text, &heads, salt)?;
     let parts = parts_by_heads(alloc, text, tokens, &labels, &heads)?;
     Ok(parts)
 }
 
 // the blocks and the data of a text, of which all raw trees are read first, or its first fault
-fn parts_at_once(alloc: Global, text: &[u8], tokens: &Tokens) -> Result<Parts, TFault>
+fn parts_at_once(alloc: Global, text: &[u8], tokens: &Tokens, salt: Salt) -> Result<Parts, TFault>
     requires { IsCut text.now (tokens_of tokens.now) }
     ensures { MatchResult result
         (λ p. AreParts text.now (tokens_of tokens.now) p.blocks.items p.heap.items)
         (λ f. IsFirstFault text.now f) }
 {
     let raw = shape(alloc, text, tokens)?;
-    let parts = parts_in(alloc, text, raw)?;
+    let parts = parts_in(alloc, text, raw, salt)?;
     Ok(parts)
 }
 
 // The blocks and the data of a text, or its first fault. A fault of the grammar comes before any of names, so a text
 // with a fault is read once more.
-fn parts_of(alloc: Global, text: &[u8], tokens: &Tokens) -> Result<Parts, TFault>
+fn parts_of(alloc: Global, text: &[u8], tokens: &Tokens, salt: Salt) -> Result<Parts, TFault>
     requires { IsCut text.now (tokens_of tokens.now) }
     ensures { MatchResult result
         (λ p. AreParts text.now (tokens_of tokens.now) p.blocks.items p.heap.items)
         (λ f. IsFirstFault text.now f) }
 {
-    match parts_in_turn(alloc, text, tokens) {
+    match parts_in_turn(alloc, text, tokens, salt) {
         Ok(parts) => Ok(parts),
         Err(TFault::Memory) => Err(TFault::Memory),
-        Err(_) => parts_at_once(alloc, text, tokens),
+        Err(_) => parts_at_once(alloc, text, tokens, salt),
     }
 }
 
 // the program or the first fault of a text
-fn reading(alloc: Global, text: &[u8]) -> Result<TProgram, TFault>
+fn reading(alloc: Global, text: &[u8], salt: Salt) -> Result<TProgram, TFault>
     ensures { MatchResult result (λ p. ReadsAs text.now (spanned_program p)) (λ f. IsFirstFault text.now f) }
 {
     let tokens = tokens(alloc, text)?;
-    let parts = parts_of(alloc, text, &tokens)?;
+    let parts = parts_of(alloc, text, &tokens, salt)?;
     Ok(TProgram {
         blocks: parts.blocks,
         heap: parts.heap,
@@ -307,8 +307,19 @@ pub fn read(alloc: Global, text: &[u8]) -> Result<TProgram, TFault>
     ensures refused { (code : codes.TCode) (span : place.Span) → FirstFault text.now code span →
         IsErrAnd result (λ f. f ≢ fault.Memory → f ≡ fault.Refused code span) }
 {
+    read_salted(alloc, text, salt_of(text))
+}
+
+/// The same, where the caller has what `salt_of` gives for the text. It makes no difference to the answer.
+pub fn read_salted(alloc: Global, text: &[u8], salt: Salt) -> Result<TProgram, TFault>
+    ensures right { MatchResult result (λ p. ReadsAs text.now (spanned_program p)) (λ f. IsFirstFault text.now f) }
+    ensures program { (P : SProg) → ReadsAs text.now P →
+        MatchResult result (λ p. spanned_program p ≡ P) (λ f. f ≡ fault.Memory) }
+    ensures refused { (code : codes.TCode) (span : place.Span) → FirstFault text.now code span →
+        IsErrAnd result (λ f. f ≢ fault.Memory → f ≡ fault.Refused code span) }
+{
     at_most_one_program();
     at_most_one_fault();
     no_fault_where_read();
-    reading(alloc, text)
+    reading(alloc, text, salt)
 }

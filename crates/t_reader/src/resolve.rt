@@ -7,7 +7,8 @@ ghost use Rattle.t_terms.specs.Names.{names_after, names_after_all};
 ghost use Rattle.t_terms.specs.NameFaults.{base_faults, value_faults, instr_faults, body_faults, end_faults};
 ghost use Rattle.t_terms.specs.NameFaults.{block_faults, datum_faults, data_faults};
 ghost use Rattle.t_terms.specs.Read as read;
-ghost use Rattle.t_shapes.specs.Raw.{raw_base, raw_value, raw_instr, raw_step, raw_end, raw_block, raw_datum, raw_data};
+ghost use Rattle.t_shapes.specs.Raw.{raw_base, raw_value, raw_pack, raw_instr, raw_step, raw_end};
+ghost use Rattle.t_shapes.specs.Raw.{raw_block, raw_datum, raw_data};
 ghost use Rattle.t_reader.specs.Labelled.{target_base};
 ghost use Rattle.t_reader.specs.Resolve.{StopsAt};
 ghost use Rattle.t_terms.specs.declared.fault.TFault.TheVariants as fault;
@@ -19,7 +20,7 @@ use crate::target::Target;
 use crate::types::{file_in, type_in, types_in};
 use idx_core::Span;
 use std::alloc::Global;
-use t_shapes::{RawBase, RawBlock, RawData, RawDatum, RawEnd, RawInstr, RawValue};
+use t_shapes::{RawBase, RawBlock, RawData, RawDatum, RawEnd, RawInstr, RawPack, RawValue};
 use t_terms::{Base, Block, Data, End, Instr, TCode, TFault, Value};
 use t_types::{RegFile, TType};
 
@@ -63,6 +64,8 @@ fn package(alloc: Global, hidden: TType, inner: Value, shape: TType) -> Result<V
 }
 
 /// The value that a value of a text is.
+#[cycle(values)]
+#[inline(always)]
 pub fn value_in<'a>(
     alloc: Global,
     text: &'a [u8],
@@ -82,15 +85,30 @@ pub fn value_in<'a>(
             let types = types_in(alloc, text, types, scope)?;
             Ok(Value::Plain { base, types })
         }
-        RawValue::Pack(pack) => {
-            let pack = &**pack;
-            let hidden = type_in(alloc, text, &pack.hidden, scope)?;
-            let inner = value_in(alloc, text, labels, &pack.inner, scope)?;
-            let shape = type_in(alloc, text, &pack.shape, scope)?;
-            let whole = package(alloc, hidden, inner, shape)?;
-            Ok(whole)
-        }
+        RawValue::Pack(pack) => packed_in(alloc, text, labels, pack, scope),
     }
+}
+
+// The value that a package of a text is. It stands apart, so that a value that is none is read where it is met.
+#[cycle(values)]
+fn packed_in<'a>(
+    alloc: Global,
+    text: &'a [u8],
+    labels: &Labels<'_>,
+    pack: &RawPack,
+    scope: &mut Scope<'a>,
+) -> Result<Value, TFault>
+    ensures { MatchResult result
+        (λ v. (scope.new ≡ scope.old)
+        × (value_faults text.now labels.now scope.old (raw_pack pack.now) ≡ [])
+        × (read.value v ≡ value_of text.now labels.now scope.old (raw_pack pack.now)))
+        (λ e. StopsAt (value_faults text.now labels.now scope.old (raw_pack pack.now)) e) }
+{
+    let hidden = type_in(alloc, text, &pack.hidden, scope)?;
+    let inner = value_in(alloc, text, labels, &pack.inner, scope)?;
+    let shape = type_in(alloc, text, &pack.shape, scope)?;
+    let whole = package(alloc, hidden, inner, shape)?;
+    Ok(whole)
 }
 
 /// The instruction that an instruction of a text is. An `unpack` leaves its name bound.

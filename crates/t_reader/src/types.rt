@@ -126,6 +126,7 @@ pub fn file_in<'a>(
 }
 
 /// The types of a list.
+#[inline(always)]
 pub fn types_in<'a>(
     alloc: Global,
     text: &'a [u8],

@@ -3,6 +3,7 @@ mod FilePlaces
 pub mod Filling
 pub mod Fitted
 pub mod Noting
+pub mod Numbering
 pub mod Rising
 pub mod Sets
 pub mod Tuples

@@ -35,6 +35,7 @@ pub(crate) fn set_of(types: &mut Types, set: Option<u64>) -> Result<u64, OutOfMe
 }
 
 // The number of a type with its marks.
+#[inline(always)]
 pub(crate) fn whole(types: &mut Types, n: u64, set: Option<u64>) -> Result<u64, OutOfMemory>
     requires there { n < length types.old }
     requires marks { IsMarks types.old set }

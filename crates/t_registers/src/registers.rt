@@ -104,12 +104,16 @@ impl Registers {
     }
 
     /// The number of an entry's type under the type names that are in scope now.
+    #[inline(always)]
     pub fn shown(&self, types: &mut Types, entry: Entry) -> Result<u64, OutOfMemory>
         requires few { self.now.names ≤ max_names }
         requires entry { IsEntry types.old self.now.names entry }
         ensures grown { Grown types.old types.new }
         ensures number { IfOk result (IsNumber types.new (seen types.old self.now.names entry)) }
     {
+        if entry.names == self.names {
+            return whole(types, entry.ty, entry.marks);
+        }
         let ty = whole(types, entry.ty, entry.marks)?;
         types.shift(ty, self.names - entry.names, 0)
     }

@@ -11,6 +11,7 @@ use Rattle.t_shapes.specs.declared.raw.RawBase.{RawBase}
 use Rattle.t_shapes.specs.declared.raw.RawBase.TheVariants as B
 use Rattle.t_shapes.specs.declared.raw.RawValue.{RawValue}
 use Rattle.t_shapes.specs.declared.raw.RawValue.TheVariants as V
+use Rattle.t_shapes.specs.declared.raw.RawPack.{RawPack}
 use Rattle.t_shapes.specs.declared.raw.RawInstr.{RawInstr}
 use Rattle.t_shapes.specs.declared.raw.RawInstr.TheVariants as I
 use Rattle.t_shapes.specs.declared.raw.RawEnd.{RawEnd}
@@ -44,6 +45,10 @@ raw_base (B.Label s) = RLabel s
 abbrev pub raw_value : RawValue → tree.RawValue
 raw_value (V.Plain b ts) = RPlain (raw_base b) (map raw ts.items)
 raw_value (V.Pack' p hidden inner shape) = RPack (raw hidden) (raw_value inner) (raw shape)
+
+-- a package by itself
+abbrev pub raw_pack : RawPack → tree.RawValue
+raw_pack p = RPack (raw p.hidden) (raw_value p.inner) (raw p.shape)
 
 abbrev pub raw_instr : RawInstr → tree.RawInstr
 raw_instr (I.Arith op rd rs v) = RArith op rd rs (raw_value v)

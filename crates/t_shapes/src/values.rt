@@ -105,6 +105,7 @@ fn plain(
 
 /// V ::= N | N [ T , .. , T ] | pack [ T , V ] as T
 #[cycle(values)]
+#[inline(always)]
 pub fn value(alloc: Global, tokens: &Tokens, at: usize, depth: u64) -> Result<FoundValue, Stopped>
     requires depth { depth ≤ most_open }
     requires at { at ≤ length (tokens_of tokens.now) }

@@ -23,7 +23,7 @@ use idx_core::OutOfMemory;
 use mismatch_text::{assembly_line, not_int_line, source_line};
 use std::alloc::Global;
 use t_check::check_salted;
-use t_reader::{read, salt_of};
+use t_reader::{read_salted, salt_of};
 use t_terms::{TFault, TProgram};
 
 /// What is found of a text that is looked at for its first fault.
@@ -111,8 +111,9 @@ fn find_in_program(alloc: Global, program: &TProgram, fault: TFault) -> Result<F
 pub(crate) fn find_in_assembly(alloc: Global, text: &[u8]) -> Result<Finding, OutOfMemory>
     ensures { IfOk result (IsFinding AnAssembly text.now) }
 {
-    match read(alloc, text) {
-        Ok(program) => match check_salted(alloc, program, salt_of(text)) {
+    let salt = salt_of(text);
+    match read_salted(alloc, text, salt) {
+        Ok(program) => match check_salted(alloc, program, salt) {
             Ok(_) => Ok(Finding::NoFault),
             Err((program, fault)) => find_in_program(alloc, &program, fault),
         },

@@ -9,10 +9,11 @@ use Rattle.t_mismatch.specs.Mismatch.{DataFaultWith, HeapFaultWith}
 use Rattle.t_intern.proofs.Growing.{grown_next}
 use Rattle.t_mismatch.specs.Refusals.{SaysWith}
 use Rattle.t_check.specs.Verdict.{FormedData}
-use Rattle.t_check.proofs.Numbering.{labels_grown}
+use Rattle.t_registers.specs.Labels.{Field}
+use Rattle.t_registers.proofs.Numbering.{labels_grown}
 use Rattle.t_check.proofs.Typing.{says_map}
 use Rattle.t_check.proofs.Blocks.{formed_data_at}
-use Rattle.t_check.proofs.Bodies.{Field, data_fault, data_more, data_end}
+use Rattle.t_check.proofs.Bodies.{data_fault, data_more, data_end}
 use Rattle.t_check.proofs.program.check_heap.Goals as goal
 
 pub check_data-requires-clause-formed : goal.check_data-requires-clause-formed

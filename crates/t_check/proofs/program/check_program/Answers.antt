@@ -11,7 +11,7 @@ use Rattle.t_mismatch.specs.Mismatch.{HeapFaultWith}
 use Rattle.t_mismatch.specs.Refusals.{SaysWith}
 use Rattle.t_check.specs.Verdict.{AreBlocks, IsProgram}
 use Rattle.t_check.proofs.Bodies.{first_takes, first_fault, heap_fault, program_is}
-use Rattle.t_check.proofs.Numbering.{labels_grown}
+use Rattle.t_registers.proofs.Numbering.{labels_grown}
 use Rattle.t_check.proofs.program.check_program.Goals as goal
 
 pub check_blocks-requires-clause-labels : goal.check_blocks-requires-clause-labels

@@ -1,9 +1,40 @@
+use Rattle.std.proofs.Common.{◌+◌}
 use Rattle.text_core.proofs.Walk.{skip, read, finish}
+use Rattle.t_terms.specs.declared.token.Kind.TheVariants as k
 use Rattle.t_terms.specs.Tokens.{assembly}
 use Rattle.t_terms.proofs.TokenLaws.{assembly_signs}
-use Rattle.t_lexer.specs.Kept.{tokens_of}
+use Rattle.t_lexer.specs.Kept.{kind_of, tokens_of}
 use Rattle.t_lexer.proofs.Exact.{at_most_one_cut, no_token_fault_where_cut, same_fault, is_bad, is_large}
 use Rattle.t_lexer.proofs.cut.tokens.Goals as goal
+
+pub loop-at-preserved-in-Blank : goal.loop-at-preserved-in-Blank
+loop-at-preserved-in-Blank c =
+    let l = c.loop-at in
+    let (w, e) = c.in-Blank.ensures in (
+      skip assembly assembly_signs c.args.text.now l.at (tokens_of l.out) l.invariant.0 c.loop-at-test.true
+          (l.at + 1) w e,
+      l.invariant.1,
+    )
+
+pub loop-at-preserved-in-Sign : goal.loop-at-preserved-in-Sign
+loop-at-preserved-in-Sign c =
+    let l = c.loop-at in
+    let (w, e, b) = c.in-Sign.ensures in
+    let (h, s) = c.in_ok-push_short-in-Sign.ensures l.invariant.1 in (
+      rw s (read assembly assembly_signs c.args.text.now l.at (tokens_of l.out) l.invariant.0 c.loop-at-test.true
+          (l.at + 1) (kind_of c.in-Sign.tag 0) w e b),
+      h,
+    )
+
+pub loop-at-preserved-in-Register : goal.loop-at-preserved-in-Register
+loop-at-preserved-in-Register c =
+    let l = c.loop-at in
+    let (w, e, b) = c.in-Register.ensures in
+    let (h, s) = c.in_ok-push_short-in-Register.ensures l.invariant.1 in (
+      rw s (read assembly assembly_signs c.args.text.now l.at (tokens_of l.out) l.invariant.0 c.loop-at-test.true
+          (l.at + 2) (k.Register c.in-Register.number) w e b),
+      h,
+    )
 
 pub loop-at-preserved-in-Skip : goal.loop-at-preserved-in-Skip
 loop-at-preserved-in-Skip c =

@@ -1,10 +1,24 @@
-use Rattle.std.proofs.Common.{◌-◌, ap, sym, subst, arith, IfOk}
+use Rattle.std.proofs.Common.{◌≡◌, ◌-◌, ◌∙◌, ℕ, List, ap, sym, subst, arith, IfOk}
+use Rattle.idx_core.specs.Laws.{shift_zero_law}
 use Rattle.t_types.specs.Tree.{Ty, shift, ShiftFits}
+use Rattle.t_types.specs.TreeLaws.{types_over}
 use Rattle.t_intern.specs.Grown.{IsNumber}
 use Rattle.t_intern.proofs.Growing.{grown_next}
-use Rattle.t_registers.specs.Known.{own}
+use Rattle.t_registers.specs.Known.{own, seen}
+use Rattle.t_registers.specs.declared.registers.Entry.{Entry}
 use Rattle.t_registers.proofs.Depth.{shift_fits}
 use Rattle.t_registers.proofs.registers.Registers.shown.Goals as goal
+
+-- an entry that was noted under the names in scope
+seen_still : (ts : List Ty) (n : ℕ) (e : Entry) → e.names ≡ n → own ts e ≡ seen ts n e
+seen_still ts n e same =
+    let none : n - e.names ≡ 0 = omega arith in
+    sym (ap (λ k. shift k 0 (own ts e)) none ∙ shift_zero_law types_over 0 (own ts e))
+
+pub returns-then-entry-self-clause-number : goal.returns-then-entry-self-clause-number
+returns-then-entry-self-clause-number c =
+    subst (λ (t : Ty). IfOk c.whole.result (IsNumber c.whole.new.types t))
+    (seen_still c.args.types.now c.args.self.now.names c.args.entry c.if-entry-self.true) c.whole.ensures.number
 
 pub shift-requires-clause-fits : goal.shift-requires-clause-fits
 shift-requires-clause-fits c =

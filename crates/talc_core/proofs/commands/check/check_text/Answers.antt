@@ -4,6 +4,6 @@ use Rattle.talc_core.proofs.commands.check.check_text.Goals as goal
 
 pub returns : goal.returns
 returns c =
-    let program = checked_program c.in_ok-_checked._checked in
+    let program = checked_program c.in_ok-checked.checked in
     accepted_shown c.accepted_programs_are_never_stuck.ensures.runs c.args.text.now c.in_ok-line.line.items program
-    program.whole c.in_ok-_checked.ensures c.in_ok-line.ensures.items
+    program.whole c.in_ok-checked.ensures c.in_ok-line.ensures.items

@@ -7,26 +7,27 @@ ghost use Rattle.t_terms.specs.Spanned.{plain_fields};
 ghost use Rattle.t_rules.specs.Rules.{data_type};
 ghost use Rattle.t_intern.specs.Grown.{Grown, IsNumber, AreNumbers};
 ghost use Rattle.t_intern.specs.Spread.{types_at};
-ghost use Rattle.t_check.specs.Labels.{code_types, tuple_types, field_types, all_flagged, AreLabels};
+ghost use Rattle.t_registers.specs.Labels.{code_types, tuple_types, field_types, all_flagged, AreLabels};
 
+use crate::parts::intern;
 use idx_core::{OutOfMemory, Span};
 use std::alloc::Global;
 use t_intern::{Shape, Types};
-use t_registers::intern;
 use t_terms::{Block, Data, TProgram, Value};
 use t_types::TType;
 
 /// The number of the type of integers, and those of the types of a program's blocks and of its data tuples, in their
 /// order.
 #[derive(Drop)]
-pub(crate) struct Labels {
-    pub(crate) int: u64,
-    pub(crate) blocks: Vec<u64>,
-    pub(crate) tuples: Vec<u64>,
+pub struct Labels {
+    pub int: u64,
+    pub blocks: Vec<u64>,
+    pub tuples: Vec<u64>,
 }
 
 impl Labels {
-    pub(crate) fn of_program(
+    /// Those of a program, each put into the table of its types where it is not there.
+    pub fn of_program(
         alloc: Global,
         types: &mut Types,
         program: &TProgram,
@@ -103,8 +104,8 @@ fn number_fields(
     Ok(made)
 }
 
-// The number of the tuple of these types, with this flag at each field.
-pub(crate) fn tuple_of(
+/// The number of the type of a tuple whose fields have the types of these numbers, each with this flag.
+pub fn tuple_of(
     alloc: Global,
     types: &mut Types,
     numbers: &[u64],

@@ -1,5 +1,5 @@
 use Rattle.t_reader.proofs.Answered.{by_program, by_fault}
-use Rattle.t_reader.proofs.reader.read.Goals as goal
+use Rattle.t_reader.proofs.reader.read_salted.Goals as goal
 
 pub returns-clause-program : goal.returns-clause-program
 returns-clause-program c =

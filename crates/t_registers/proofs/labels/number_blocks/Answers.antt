@@ -4,8 +4,8 @@ use Rattle.t_types.specs.Read.{file}
 use Rattle.t_types.specs.declared.types.TType.{TType}
 use Rattle.t_intern.specs.Grown.{IsNumber}
 use Rattle.t_intern.proofs.Growing.{grown_next, numbers_next, numbers_all}
-use Rattle.t_check.specs.Labels.{code_type}
-use Rattle.t_check.proofs.labels.number_blocks.Goals as goal
+use Rattle.t_registers.specs.Labels.{code_type}
+use Rattle.t_registers.proofs.labels.number_blocks.Goals as goal
 
 pub loop-block-preserved : goal.loop-block-preserved
 loop-block-preserved c =

@@ -3,9 +3,9 @@ use Rattle.t_types.specs.Tree.{Ty, TupleTy}
 use Rattle.t_intern.specs.Grown.{IsNumber}
 use Rattle.t_intern.specs.Spread.{types_at}
 use Rattle.t_intern.proofs.Growing.{grown_next}
-use Rattle.t_check.specs.Labels.{all_flagged}
-use Rattle.t_check.proofs.Numbering.{data_flagged}
-use Rattle.t_check.proofs.labels.number_tuple.Goals as goal
+use Rattle.t_registers.specs.Labels.{all_flagged}
+use Rattle.t_registers.proofs.Numbering.{data_flagged}
+use Rattle.t_registers.proofs.labels.number_tuple.Goals as goal
 
 pub tuple_of-requires : goal.tuple_of-requires
 tuple_of-requires c =

@@ -12,7 +12,7 @@ use Rattle.t_terms.specs.declared.data.Data.{Data}
 use Rattle.t_terms.specs.declared.program.TProgram.{TProgram}
 use Rattle.t_rules.specs.Rules.{data_type}
 use Rattle.t_intern.specs.Grown.{IsNumber, AreNumbers}
-use Rattle.t_check.specs.declared.labels.Labels.{Labels}
+use Rattle.t_registers.specs.declared.labels.Labels.{Labels}
 
 -- a block's label is code that owes what the block owes
 abbrev pub code_type : Block → Ty
@@ -28,10 +28,14 @@ tuple_type x = data_type (plain_fields (spanned_data x).fields)
 abbrev pub tuple_types : List Data → List Ty
 tuple_types xs = map tuple_type xs
 
-abbrev pub field_type : Value × TType × Span → Ty
+-- a word of data, with the type that is written for it and its place
+abbrev pub Field : Type 0
+Field = Value × TType × Span
+
+abbrev pub field_type : Field → Ty
 field_type x = tree x.1
 
-abbrev pub field_types : List (Value × TType × Span) → List Ty
+abbrev pub field_types : List Field → List Ty
 field_types xs = map field_type xs
 
 -- fields of these types, each with this flag

@@ -4,8 +4,8 @@ use Rattle.t_terms.specs.declared.block.Block.{Block}
 use Rattle.t_terms.specs.declared.data.Data.{Data}
 use Rattle.t_intern.specs.Grown.{AreNumbers}
 use Rattle.t_intern.proofs.Growing.{grown_next, grown_number, numbers_grown}
-use Rattle.t_check.specs.Labels.{code_types, tuple_types}
-use Rattle.t_check.proofs.labels.Labels.of_program.Goals as goal
+use Rattle.t_registers.specs.Labels.{code_types, tuple_types}
+use Rattle.t_registers.proofs.labels.Labels.of_program.Goals as goal
 
 pub returns-clause-grown : goal.returns-clause-grown
 returns-clause-grown c =

@@ -1,7 +1,7 @@
 use Rattle.std.proofs.Common.{take}
 use Rattle.t_intern.specs.Grown.{Grown, AreNumbers}
-use Rattle.t_check.specs.Labels.{code_types}
-use Rattle.t_check.proofs.labels.number_blocks.Given as goal
+use Rattle.t_registers.specs.Labels.{code_types}
+use Rattle.t_registers.proofs.labels.number_blocks.Given as goal
 
 abbrev pub invariant-loop-block : goal.invariant-loop-block
 invariant-loop-block l = record {

@@ -1,7 +1,7 @@
 use Rattle.std.proofs.Common.{take}
 use Rattle.t_intern.specs.Grown.{Grown, AreNumbers}
-use Rattle.t_check.specs.Labels.{field_types}
-use Rattle.t_check.proofs.labels.number_fields.Given as goal
+use Rattle.t_registers.specs.Labels.{field_types}
+use Rattle.t_registers.proofs.labels.number_fields.Given as goal
 
 abbrev pub invariant-loop-field : goal.invariant-loop-field
 invariant-loop-field l = record {

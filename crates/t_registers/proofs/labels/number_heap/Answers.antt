@@ -3,10 +3,9 @@ use Rattle.t_terms.specs.Read.{data_fields}
 use Rattle.t_terms.specs.Spanned.{plain_fields}
 use Rattle.t_rules.specs.Rules.{data_type}
 use Rattle.t_intern.specs.Grown.{IsNumber}
-use Rattle.t_check.proofs.Bodies.{Field}
 use Rattle.t_intern.proofs.Growing.{grown_next, numbers_next, numbers_all}
-use Rattle.t_check.specs.Labels.{tuple_type}
-use Rattle.t_check.proofs.labels.number_heap.Goals as goal
+use Rattle.t_registers.specs.Labels.{Field, tuple_type}
+use Rattle.t_registers.proofs.labels.number_heap.Goals as goal
 
 pub loop-tuple-preserved : goal.loop-tuple-preserved
 loop-tuple-preserved c =

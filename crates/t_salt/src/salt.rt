@@ -1,6 +1,4 @@
-// What the hashers of the table of types read first: a word that hangs on all of the program but its places in the
-// text. With no types can those whose hashes collide be searched out for it. What is read makes no difference but in
-// time, so nothing is said of it. All is read as words of 64 bits: after a part of a word a hasher goes byte by byte.
+// A program, as words of 64 bits alone: after a part of a word a hasher goes byte by byte.
 use idx_core::{Op, Salt};
 use std::hash::{DefaultHasher, Hasher};
 use t_terms::{Base, Block, Data, End, Instr, TProgram, Value};
@@ -9,8 +7,10 @@ use t_types::{RegFile, TType};
 // What is below it takes 18 bits.
 const SMALL: u64 = 262144;
 
-// The program, for the hashers of its types.
-pub(crate) fn salt_of(program: &TProgram) -> Salt {
+/// What the hashers of the table of a program's types read first (own choice): a word that hangs on all of the program
+/// but its places in the text, so that no types whose hashes collide can be searched out for it. It makes no difference
+/// but in time, so nothing is said of it.
+pub fn salt_of(program: &TProgram) -> Salt {
     let mut whole = DefaultHasher::new();
     for tuple in &program.heap {
         read_data(&mut whole, tuple);

@@ -1,6 +1,6 @@
 use Rattle.t_intern.proofs.Growing.{grown_next, numbers_next, numbers_all}
-use Rattle.t_check.specs.Labels.{field_type}
-use Rattle.t_check.proofs.labels.number_fields.Goals as goal
+use Rattle.t_registers.specs.Labels.{field_type}
+use Rattle.t_registers.proofs.labels.number_fields.Goals as goal
 
 pub loop-field-preserved : goal.loop-field-preserved
 loop-field-preserved c =

@@ -2,8 +2,8 @@ use Rattle.std.proofs.Common.{List, ℕ, Bool, ap, sym, subst, ◌∙◌, length
 use Rattle.t_types.specs.Tree.{Ty, TupleTy}
 use Rattle.t_intern.specs.Grown.{IsNumber}
 use Rattle.t_intern.specs.Nodes.{fields_at, FieldsBelow}
-use Rattle.t_check.proofs.Numbering.{all_at, all_below}
-use Rattle.t_check.proofs.labels.tuple_of.Goals as goal
+use Rattle.t_registers.proofs.Numbering.{all_at, all_below}
+use Rattle.t_registers.proofs.labels.tuple_of.Goals as goal
 
 pub intern-requires : goal.intern-requires
 intern-requires c =

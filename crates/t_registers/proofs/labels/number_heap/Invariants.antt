@@ -1,7 +1,7 @@
 use Rattle.std.proofs.Common.{take}
 use Rattle.t_intern.specs.Grown.{Grown, AreNumbers}
-use Rattle.t_check.specs.Labels.{tuple_types}
-use Rattle.t_check.proofs.labels.number_heap.Given as goal
+use Rattle.t_registers.specs.Labels.{tuple_types}
+use Rattle.t_registers.proofs.labels.number_heap.Given as goal
 
 abbrev pub invariant-loop-tuple : goal.invariant-loop-tuple
 invariant-loop-tuple l = record {

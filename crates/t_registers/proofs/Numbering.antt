@@ -6,18 +6,15 @@ use Rattle.std.proofs.lemmas.List.Elements.{All-head, All-tail}
 use Rattle.t_types.specs.Tree.{Ty, IntTy, MoreFields}
 use Rattle.t_types.specs.Fields.{empty_fields}
 use Rattle.t_types.specs.Read.{tree}
-use Rattle.idx_core.specs.declared.span.Span.{Span}
-use Rattle.t_types.specs.declared.types.TType.{TType}
 use Rattle.t_terms.specs.Read.{data_fields as data_of}
 use Rattle.t_terms.specs.Spanned.{plain_fields}
 use Rattle.t_terms.specs.declared.program.TProgram.{TProgram}
-use Rattle.t_terms.specs.declared.value.Value.{Value}
 use Rattle.t_rules.specs.Rules.{data_fields}
 use Rattle.t_intern.specs.Grown.{Grown, IsNumber, AreNumbers}
 use Rattle.t_intern.specs.Nodes.{at, fields_at, FieldsBelow}
 use Rattle.t_intern.proofs.Growing.{grown_number, numbers_grown, number_at}
-use Rattle.t_check.specs.Labels.{field_types, all_flagged, AreLabels}
-use Rattle.t_check.specs.declared.labels.Labels.{Labels}
+use Rattle.t_registers.specs.Labels.{Field, field_types, all_flagged, AreLabels}
+use Rattle.t_registers.specs.declared.labels.Labels.{Labels}
 
 -- fields that have all the same flag
 pub all_at : (ts : List Ty) (flag : Bool) (ns : List ℕ) →
@@ -33,8 +30,7 @@ pub empty_flagged : (ts : List Ty) → all_flagged false ts ≡ empty_fields ts
 empty_flagged [] = refl
 empty_flagged (t ∷ ts) = ap (MoreFields t false) (empty_flagged ts)
 
-pub data_flagged : (xs : List (Value × TType × Span)) →
-    all_flagged true (field_types xs) ≡ data_fields (plain_fields (data_of xs))
+pub data_flagged : (xs : List Field) → all_flagged true (field_types xs) ≡ data_fields (plain_fields (data_of xs))
 data_flagged [] = refl
 data_flagged (x ∷ xs) = ap (MoreFields (tree x.1) true) (data_flagged xs)
 

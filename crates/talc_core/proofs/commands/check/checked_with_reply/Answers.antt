@@ -1,6 +1,6 @@
 use Rattle.t_check.specs.Checked.{checked_program}
 use Rattle.talc_core.proofs.AssemblyLemmas.{accepted_shown}
-use Rattle.talc_core.proofs.commands.check.check_text.Goals as goal
+use Rattle.talc_core.proofs.commands.check.checked_with_reply.Goals as goal
 
 pub returns : goal.returns
 returns c =

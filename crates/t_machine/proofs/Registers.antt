@@ -32,32 +32,32 @@ pub held_int : (v : Word) (i : ℤ) → held v ≡ Some (EInt i) → v ≡ Int i
 held_int (Int j) i h = let e : j ≡ i = cc in ap Int e
 held_int (Address a) i h = cc
 held_int (Label l) i h = cc
-held_int Empty i h = cc
+held_int (Empty n) i h = cc
 
 pub held_address : (v : Word) (a : ℕ) → held v ≡ Some (EAddress a) → v ≡ Address a
 held_address (Address b) a h = let e : b ≡ a = cc in ap Address e
 held_address (Int j) a h = cc
 held_address (Label l) a h = cc
-held_address Empty a h = cc
+held_address (Empty n) a h = cc
 
 pub held_label : (v : Word) (l : ℕ) → held v ≡ Some (ELabel l) → v ≡ Label l
 held_label (Label k) l h = let e : k ≡ l = cc in ap Label e
 held_label (Int j) l h = cc
 held_label (Address a) l h = cc
-held_label Empty l h = cc
+held_label (Empty n) l h = cc
 
 pub held_word : (v : Word) (w : EWord) → held v ≡ Some w → word v ≡ w
 held_word (Int i) w h = cc
 held_word (Address a) w h = cc
 held_word (Label l) w h = cc
-held_word Empty w h = cc
+held_word (Empty n) w h = cc
 
 -- a word that is not empty is held
 pub held_full : (v : Word) (w : EWord) → (w ≡ EEmpty → ⊥) → word v ≡ w → held v ≡ Some w
 held_full (Int i) w full e = ap Some e
 held_full (Address a) w full e = ap Some e
 held_full (Label l) w full e = ap Some e
-held_full Empty w full e = absurd (full (sym e))
+held_full (Empty n) w full e = absurd (full (sym e))
 
 pub is_integer : (v : Word) (i : ℤ) → v ≡ Int i → IsInteger v
 is_integer v i e = subst IsInteger (sym e) tt
@@ -164,15 +164,15 @@ set_count (x ∷ ws) zero v = refl
 set_count (x ∷ ws) (suc d) v = ap suc (set_count ws d v)
 
 -- at first no register has a word
-empty_at : (n k : ℕ) → option_and_then held (slice_get (replicate n Empty) k) ≡ None
+empty_at : (n k : ℕ) → option_and_then held (slice_get (replicate n (Empty 0)) k) ≡ None
 empty_at zero k = refl
 empty_at (suc n) zero = refl
 empty_at (suc n) (suc k) = empty_at n k
 
 none_yet : (n : ℕ) (o : Option ℕ) → option_and_then (λ k. option_and_then held (slice_get
-    (replicate n Empty) k)) o ≡ None
+    (replicate n (Empty 0)) k)) o ≡ None
 none_yet n None = refl
 none_yet n (Some k) = empty_at n k
 
-pub no_words_yet : (m : PlaceList) (n : ℕ) → no_ewords ≡ regs_of m (replicate n Empty)
+pub no_words_yet : (m : PlaceList) (n : ℕ) → no_ewords ≡ regs_of m (replicate n (Empty 0))
 no_words_yet m n = fun_ext (λ q. sym (none_yet n (place_of m q)))

@@ -37,12 +37,13 @@ take_none zero = refl
 take_none (suc n) = refl
 
 -- a vector that was empty, after it was filled up
-pub filled_up : (n k : ℕ) (xs ys : List Word) → xs ≡ [] → k ≡ 0 → ys ≡ take n xs ++ replicate (n - k) Empty →
-    ys ≡ replicate n Empty
+pub filled_up : (n k : ℕ) (xs ys : List Word) → xs ≡ [] → k ≡ 0 → ys ≡ take n xs ++ replicate (n - k) (Empty 0) →
+    ys ≡ replicate n (Empty 0)
 filled_up n k xs ys e z is =
     let whole : n - k ≡ n = omega arith in
-    is ∙ ap (λ us. take n us ++ replicate (n - k) Empty) e ∙ ap (λ us. us ++ replicate (n - k) Empty) (take_none n)
-    ∙ ap (λ j. replicate j Empty) whole
+    is ∙ ap (λ us. take n us ++ replicate (n - k) (Empty 0)) e
+    ∙ ap (λ us. us ++ replicate (n - k) (Empty 0)) (take_none n)
+    ∙ ap (λ j. replicate j (Empty 0)) whole
 
 -- what is in range is there
 first_there : (bs : List TBlock) → 1 ≤ length bs → (b : TBlock) × (slice_get bs 0 ≡ Some b)
@@ -51,7 +52,7 @@ first_there (b ∷ bs) some = (b, refl)
 
 pub begins : ProgramLaws → (P : TProg) (x : Heap) (ws : List Word) (code : Code) (at : ℕ) → 1 ≤ length P.blocks →
     IsCode code (erase_blocks P) → IsLaid code (erase_blocks P) → ArePlaces code.places → IsHeap x (erase_heap P) →
-    ws ≡ replicate (length code.places) Empty → slice_get code.entries.items 0 ≡ Some at → Shows P 0 x ws code at
+    ws ≡ replicate (length code.places) (Empty 0) → slice_get code.entries.items 0 ≡ Some at → Shows P 0 x ws code at
 begins laws P x ws code at some is laid places heap words entry =
     let b = first_there P.blocks some in
     record {
@@ -67,7 +68,7 @@ begins laws P x ws code at some is laid places heap words entry =
       laid = laid;
       has_places = places;
       has_heap = heap;
-      has_words = ap (λ us. length us) words ∙ replicate_count (length code.places) Empty;
+      has_words = ap (λ us. length us) words ∙ replicate_count (length code.places) (Empty 0);
       entered = entry;
       placed = omega arith;
     }
@@ -77,7 +78,7 @@ pub starts : ProgramLaws → (p : TProgram) → 1 ≤ length (blocks_of p.blocks
     lent ≡ p.blocks.items → (code : Code) → IsCode code (map erase_block (blocks_of lent)) →
     IsLaid code (map erase_block (blocks_of lent)) → ArePlaces code.places → (n : ℕ) → n ≡ length code.places
     → (x : Heap) (tuples : List Data) → tuples ≡ p.heap.items → IsHeap x (map (map erase_datum) (data_of tuples))
-    → (xs : List Word) → xs ≡ [] → (k : ℕ) → k ≡ 0 → (ws : List Word) → ws ≡ take n xs ++ replicate (n - k) Empty →
+    → (xs : List Word) → xs ≡ [] → (k : ℕ) → k ≡ 0 → (ws : List Word) → ws ≡ take n xs ++ replicate (n - k) (Empty 0) →
     (at : ℕ) → at ≡ get_or code.entries.items 0 at → Shows (program p) 0 x ws code at
 starts laws p some lent same code is laid places n count x tuples all heap xs none k none_kept ws words at entry =
     let bs = p.blocks.items in
@@ -87,5 +88,5 @@ starts laws p some lent same code is laid places n count x tuples all heap xs no
     (map erase_block (blocks_of bs)) holds (erased_count (blocks_of bs) some) in
     begins laws (program p) x ws code at some holds lies places (subst (λ (ys : List Data). IsHeap x (map
     (map erase_datum) (data_of ys))) all heap)
-    (filled_up n k xs ws none none_kept words ∙ ap (λ j. replicate j Empty) count)
+    (filled_up n k xs ws none none_kept words ∙ ap (λ j. replicate j (Empty 0)) count)
     (slice_get_read code.entries.items (length code.entries.items) 0 at refl entries entry)

@@ -41,7 +41,7 @@ pub fn load(alloc: Global, program: &Checked) -> Result<Machine, OutOfMemory>
     let code = load_blocks(alloc, &program.program().blocks)?;
     let count = code.places.len();
     let mut registers = Vec::new(alloc);
-    registers.resize(count, Word::Empty)?;
+    registers.resize(count, Word::Empty(0))?;
     let at = code.entries[0];
     let heap = load_heap(alloc, &program.program().heap)?;
     Ok(Machine {
@@ -80,7 +80,7 @@ fn data_word(v: &Value) -> Word
     ensures { word result ≡ held (base_word no_ewords (erase_value (value_tree v.now))) }
 {
     match base_of(v) {
-        Base::Reg(_) => Word::Empty,
+        Base::Reg(_) => Word::Empty(0),
         Base::Int(i) => Word::Int(i),
         Base::Label(l) => Word::Label(l as usize),
         Base::Data(d) => Word::Address(d as usize),

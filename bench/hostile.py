@@ -2,13 +2,15 @@
 
 The second size is ten times the first, and the first is large enough that each takes 0.05 seconds or more. What is
 wanted: each text is accepted, at most 13 times the time for ten times the text, and at most 200 bytes of memory a byte
-of text. A row that misses one of these says so. The two texts are run in turn, and the time of a text is the least of
-its runs, less that of a text of one jump. A run is ended after 60 seconds of processor time or at 8 GB. The names of
+of text. Two texts ask for more than their length: they are held to the parts of types that they ask for, in place of
+their bytes. A row that misses one of these says so. The two texts are run in turn, and the time of a text is the least
+of its runs, less that of a text of one jump. A run is ended after 60 seconds of processor time or at 8 GB. The names of
 texts may be given, for these alone; without any, all are run.
 
 Of a text that misses the time alone, at a quarter of both sizes, the instructions are counted too, where valgrind is
 installed: at most 13 times as many are no slow text, but one whose tables no longer fit in the cache. The row says so.
 """
+import math
 import re
 import shutil
 import subprocess
@@ -201,10 +203,14 @@ def fills_in_disorder(n):
     return wide(n, ["mov r2, 1\n", stores])
 
 
+def depths(n):
+    return min(1900, n // 30)
+
+
 def put_at_depths(n):
     """A wide type with a free name, put under each of many numbers of binders."""
-    depth, file = min(1900, n // 30), "{r1:a}"
-    for _ in range(depth):
+    file = "{r1:a}"
+    for _ in range(depths(n)):
         file = f"{{r1:a, r2:all[b]{file}}}"
     return HEAD + f"jmp L0\nL1: code[a]{{}}.\nmov r1, L2[{open_type(n)}]\njmp L0\nL2: code[a]{file}.\njmp L0\n"
 
@@ -228,10 +234,13 @@ TEXTS = [
     (opened_jumps, 20_000), (names, 20_000), (filled_sets, 5_000), (filled_registers, 5_000), (filled_stores, 5_000),
     (applied_again, 10_000),
 ]
-# Texts that ask for more than their own length, and why (docs/COSTS.md).
+# Texts that ask for more than their own length (docs/COSTS.md): for how many parts of types, and why.
 LARGER = [
-    (fills_in_disorder, 10_000, "a field that is filled makes parts of a set, the binary logarithm of its number many"),
-    (put_at_depths, 2_000, "the type is another one at each depth"),
+    (
+        fills_in_disorder, 10_000, lambda n: n * math.log2(n),
+        "a field that is filled makes parts of a set, the binary logarithm of its number many",
+    ),
+    (put_at_depths, 2_000, lambda n: n * depths(n), "the type is another one at each depth"),
 ]
 
 
@@ -261,14 +270,16 @@ def put(path, text):
 
 
 class Pair:
-    """A text at two sizes, the second ten times the first: its bytes, and the files that hold it."""
+    """A text at two sizes, the second ten times the first: its bytes, the files that hold it, and what it asks for,
+    which is its bytes, or the parts of types where these are more."""
 
-    def __init__(self, make, n, paths):
+    def __init__(self, make, n, paths, asks):
         self.name, self.paths = make.__name__, paths
         self.small, self.large = put(paths[0], make(n)), put(paths[1], make(10 * n))
+        self.asked = (max(self.small, asks(n)), max(self.large, asks(10 * n))) if asks else (self.small, self.large)
 
     def most_times(self):
-        return MOST_TIMES * self.large / self.small / 10
+        return MOST_TIMES * self.asked[1] / self.asked[0] / 10
 
     def runs(self, talc):
         """Of each command: its run on the small text and on the large one."""
@@ -288,25 +299,26 @@ def instructions(words):
     return int(re.search(r"I\s+refs:\s+([\d,]+)", run.stderr)[1].replace(",", ""))
 
 
-def by_cache(talc, make, n, paths):
+def by_cache(talc, make, n, paths, asks):
     """What a row says of a text that takes too many times the time, but not the instructions; None where these too are
     too many, or cannot be counted."""
     if not shutil.which("valgrind"):
         return None
-    pair = Pair(make, n // 4, paths)
+    pair = Pair(make, n // 4, paths, asks)
     grown = pair.instructions(talc)
     if max(grown) > pair.most_times():
         return None
     return f" (by the cache: {max(grown):.1f} times the instructions at {pair.large / pair.small:.2f} times the text)"
 
 
-def report(talc, make, n, paths, bases, why):
-    """One line of figures of a text at two sizes, with what it misses, and why where that is known."""
-    pair = Pair(make, n, paths)
+def report(talc, make, n, paths, bases, asks=None, why=""):
+    """One line of figures of a text at two sizes, with what it misses, and why it asks for more where it does."""
+    pair = Pair(make, n, paths, asks)
     runs = [(a, b, base) for (a, b), base in zip(pair.runs(talc), bases)]
     times = [(b[0] - base[0]) / max(a[0] - base[0], 1e-6) for a, b, base in runs]
-    memory = max(max(0, b[1] - base[1]) / pair.large for _, b, base in runs)
-    cache = by_cache(talc, make, n, paths) if max(times) > pair.most_times() else ""
+    memory = max(max(0, b[1] - base[1]) / pair.asked[1] for _, b, base in runs)
+    cache = by_cache(talc, make, n, paths, asks) if max(times) > pair.most_times() else ""
+    asked = f", {pair.asked[1] / pair.asked[0]:.2f} times what it asks for ({why})" if asks else ""
     misses = [
         ("not accepted", any(a[2] or b[2] for a, b, _ in runs)),
         ("slow", cache is None),
@@ -316,9 +328,9 @@ def report(talc, make, n, paths, bases, why):
     wrong = [word for word, is_so in misses if is_so]
     print(
         f"{pair.name}: {pair.small} bytes in {runs[0][0][0]:.3f} s, {pair.large} in {runs[0][1][0]:.3f} s; "
-        f"{pair.large / pair.small:.2f} times the text, {times[0]:.1f} times the time to check, {times[1]:.1f} to load"
-        f"{cache or ''}, {memory:.0f} bytes of memory a byte"
-        f"{': ' + ', '.join(wrong) if wrong else ''}{f' ({why})' if wrong and why else ''}", flush=True,
+        f"{pair.large / pair.small:.2f} times the text{asked}, {times[0]:.1f} times the time to check, {times[1]:.1f} to "
+        f"load{cache or ''}, {memory:.0f} bytes of memory a {'part' if asks else 'byte'}"
+        f"{': ' + ', '.join(wrong) if wrong else ''}", flush=True,
     )
 
 
@@ -340,10 +352,10 @@ def main():
         put(paths[0], HEAD + "jmp L0\n")
         bases = least(commands_of(talc, paths[0]))
         print(f"a text of one jump: {bases[0][0]:.4f} s, {bases[0][1] / 1e6:.1f} MB")
-        for make, n, why in [(*text, "") for text in TEXTS] + LARGER:
+        for make, n, *more in TEXTS + LARGER:
             if not chosen or make.__name__ in chosen:
                 n = enough(talc, paths[0], make, n, bases)
-                report(talc, make, n, paths, bases, why)
+                report(talc, make, n, paths, bases, *more)
 
 
 main()

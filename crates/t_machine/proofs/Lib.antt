@@ -1,5 +1,6 @@
 pub mod Loads
 pub mod Tuples
+pub mod Addresses
 pub mod Paired
 pub mod Registers
 pub mod Inverses

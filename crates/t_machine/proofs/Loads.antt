@@ -243,3 +243,9 @@ pub words_taken : (xs : List (Value × TType × Span)) (i : ℕ) (x : Value × T
     (take i xs))) ++ erase_datum (plain_datum (datum x)) ∷ []
 words_taken xs i x lt is = let more : i + 1 ≡ suc i = omega arith in ap (λ k. map erase_datum (plain_fields
     (data_fields (take k xs)))) more ∙ taken_words xs i x lt is
+
+-- a data tuple has as many words as fields
+pub words_count : (xs : List (Value × TType × Span)) → length (map erase_datum (plain_fields (data_fields xs))) ≡
+    length xs
+words_count [] = refl
+words_count (x ∷ xs) = ap suc (words_count xs)

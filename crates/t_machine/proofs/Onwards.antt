@@ -5,6 +5,7 @@ use Rattle.std.proofs.Common.{replicate, get_or, ⊎_elim}
 use Rattle.std.specs.Prelude.{ℤ, option_map, slice_index}
 use Rattle.std.proofs.lemmas.Bool.Decides.{nat_tests}
 use Rattle.std.proofs.lemmas.Option.{slice_get_within, slice_get-get_or, get_or_from_slice_get}
+use Rattle.std.proofs.lemmas.List.Elements.{All-same, All-set, All-append, All-replicate, All-get_or}
 use Rattle.idx_core.specs.declared.arith.Op.{Op}
 use Rattle.idx_core.specs.Arith.{compute, is_zero}
 use Rattle.t_terms.specs.Tree.{TBase}
@@ -15,23 +16,25 @@ use Rattle.t_rules.specs.Erase.{EWord, EInt, EAddress, ELabel, EEmpty, EInstr, E
 use Rattle.t_rules.specs.Erase.{ESeq, EThen, EHeap, ERegs, EAt, EStep, EGoes, base_word, on_int, on_address, on_label}
 use Rattle.t_rules.specs.Erase.{on_full, enter, estep}
 use Rattle.t_machine.specs.Places.{PlaceList, place_of, ArePlaces}
-use Rattle.t_machine.specs.Words.{word, held, regs_of}
+use Rattle.t_machine.specs.Words.{address_of, word, held, regs_of}
 use Rattle.t_machine.specs.Cells.{cells_of}
-use Rattle.t_machine.specs.Heap.{IsHeap, HasField, cell_of, field_of}
-use Rattle.t_machine.specs.Action.{Action, Arith, Bnz, Ld, Malloc, Mov, St, Jmp, Halt}
+use Rattle.t_machine.specs.Heap.{starts_from, IsHeap, Started, AllStarted, HasField, cell_of, field_of}
+use Rattle.t_machine.specs.Action.{Action, Arith, Bnz, Ld, Malloc, Mov, St, Jmp, Halt, data_word, moved_data}
 use Rattle.t_machine.specs.Code.{IsBase, IsNumber, IsEntry, IsTarget, IsInstr, IsEnd, HoldsBlocks}
 use Rattle.t_machine.specs.Steps.{at_place, value_of, number_of, EntersBlock, entry_of, TargetInRange, EntersTarget}
 use Rattle.t_machine.specs.Steps.{target_of, tests_zero, computed, IsReady, Leads}
 use Rattle.t_machine.specs.declared.word.Word.{Word}
-use Rattle.t_machine.specs.declared.word.Word.TheVariants.{Int, Address}
+use Rattle.t_machine.specs.declared.word.Word.TheVariants.{Int, Address, Empty}
 use Rattle.t_machine.specs.declared.heap.Heap.{Heap}
 use Rattle.t_machine.specs.declared.code.Operand.{Operand}
+use Rattle.t_machine.specs.declared.code.Operand.TheVariants as operand_of
 use Rattle.t_machine.specs.declared.code.Number.{Number}
 use Rattle.t_machine.specs.declared.code.Target.{Target}
 use Rattle.t_machine.specs.declared.code.Target.TheVariants as target
 use Rattle.t_machine.specs.declared.code.Instruction.{Instruction}
 use Rattle.t_machine.proofs.Loads.{at_entry}
-use Rattle.t_machine.proofs.Tuples.{has_field, field_is, stored, grown, tuple_count}
+use Rattle.t_machine.proofs.Tuples.{has_field, field_is, stored, grown}
+use Rattle.t_machine.proofs.Addresses.{started_more, new_tuple, started_new, started_set, all_more}
 use Rattle.t_machine.proofs.Registers.{held_int, held_address, held_label, held_word, held_full, is_integer, reads}
 use Rattle.t_machine.proofs.Registers.{in_range, place_in_range, operand_in_range, placed, operand, number, writes}
 use Rattle.t_machine.proofs.Registers.{set_count}
@@ -50,6 +53,9 @@ pub record Onward (blocks : List ESeq) (m : PlaceList) (es : List ℕ) (h : EHea
   pub rest : ESeq
   pub steps : estep blocks (EAt h (regs_of m ws) c) ≡ Some (EGoes way (EAt tuples (regs_of m us) rest))
   pub has_heap : IsHeap y tuples
+  pub heap_started : AllStarted (starts_from 0 tuples) (cells_of y.cells)
+  pub words_started : AllStarted (starts_from 0 tuples) us
+  pub more : (w : Word) → Started (starts_from 0 h) w → Started (starts_from 0 tuples) w
   pub has_words : length us ≡ length m
   pub leading : Leading es a n way
 
@@ -79,9 +85,35 @@ entry_is R es n (tree.Data d) l start is e at = cc
 
 module _ (blocks : List ESeq) (m : PlaceList) (os : List Instruction) (es : List ℕ)
     (code : HoldsBlocks m es os es blocks) (x : Heap) (h : EHeap) (is : IsHeap x h) (ws : List Word)
-    (places : ArePlaces m) (count : length ws ≡ length m) where
+    (places : ArePlaces m) (count : length ws ≡ length m) (in_heap : AllStarted (starts_from 0 h) (cells_of x.cells))
+    (in_words : AllStarted (starts_from 0 h) ws) where
   abbrev R : ERegs
   R = regs_of m ws
+
+  abbrev S : List ℕ
+  S = starts_from 0 h
+
+  -- addresses tell where their tuples start
+  same_started : (y : Heap) → y ≡ x → AllStarted S (cells_of y.cells)
+  same_started y e = subst (λ z. AllStarted S (cells_of z.cells)) (sym e) in_heap
+
+  kept_started : (us : List Word) → us ≡ ws → AllStarted S us
+  kept_started us e = All-same (Started S) us ws e in_words
+
+  put_started : (d : ℕ) (v : Word) (us : List Word) → us ≡ slice_set ws d v → Started S v → AllStarted S us
+  put_started d v us e s = All-same (Started S) us (slice_set ws d v) e (All-set (Started S) ws d v s in_words)
+
+  word_started : (k : ℕ) → k < length ws → Started S (at_place ws k)
+  word_started k lt = All-get_or (Started S) ws k (Empty 0) lt in_words
+
+  value_started : (v : Operand) (b : TBase) → IsBase m v b → Started S (data_word v) → Started S (value_of ws v)
+  value_started (operand_of.Register k) b pb s = word_started k (place_in_range m ws places count k b pb)
+  value_started (operand_of.Int i) b pb s = tt
+  value_started (operand_of.Label l) b pb s = tt
+  value_started (operand_of.Data a) b pb s = s
+
+  address_started : (k a : ℕ) → k < length ws → at_place ws k ≡ Address a → Started S (Address a)
+  address_started k a lt e = subst (Started S) e (word_started k lt)
 
   abbrev putting : ℕ → ESeq → EWord → Option EStep
   putting rd r w = Some (EGoes Next (EAt h (with_reg R rd w) r))
@@ -162,6 +194,9 @@ module _ (blocks : List ESeq) (m : PlaceList) (os : List Instruction) (es : List
                     ∙ ap (λ g. Some (EGoes Next (EAt h g r))) (put_in rd d (Int (compute op one.0 two.0)) (EInt
                     (compute op one.0 two.0)) us pd refl same);
                 has_heap = subst (λ z. IsHeap z h) (sym leads.1) is;
+                heap_started = same_started y leads.1;
+                words_started = put_started d (Int (compute op one.0 two.0)) us same tt;
+                more = λ w z. z;
                 has_words = counted d (Int (compute op one.0 two.0)) us same;
                 leading = leads.0;
               }),
@@ -189,6 +224,9 @@ module _ (blocks : List ESeq) (m : PlaceList) (os : List Instruction) (es : List
                     ∙ ap (λ t. cond t (Some (EGoes Next (EAt h R r))) (enter blocks h R b)) (sym test ∙ z.0)
                     ∙ ap (λ g. Some (EGoes Next (EAt h g r))) (ap (regs_of m) (sym leads.1));
                 has_heap = subst (λ z. IsHeap z h) (sym leads.0) is;
+                heap_started = same_started y leads.0;
+                words_started = kept_started us leads.1;
+                more = λ w t. t;
                 has_words = kept us leads.1;
                 leading = z.1;
               })
@@ -203,6 +241,9 @@ module _ (blocks : List ESeq) (m : PlaceList) (os : List Instruction) (es : List
                     ∙ to.enters
                     ∙ ap (λ g. Some (EGoes (Into to.label) (EAt h g to.code))) (ap (regs_of m) (sym leads.1));
                 has_heap = subst (λ z. IsHeap z h) (sym leads.0) is;
+                heap_started = same_started y leads.0;
+                words_started = kept_started us leads.1;
+                more = λ w t. t;
                 has_words = kept us leads.1;
                 leading = to.at ∙ ap Some (sym z.1);
               })
@@ -218,16 +259,19 @@ module _ (blocks : List ESeq) (m : PlaceList) (os : List Instruction) (es : List
         let three = full_read (slice_get two.0 i) (putting rd r) st two.2 in
         let from = reads m ws rs s (EAddress one.0) one.1 ps in
         let from_is = held_address (at_place ws s) one.0 from.1 in
-        let got = field_is x h is one.0 i two.0 two.1 three.0 three.1 in
-        let full = held_full (field_of x (Address one.0) i) three.0 three.3 got in (
+        let c = from_is.0 in
+        let started = address_started s c from.0 from_is.1 in
+        let there = ap (slice_get h) from_is.2 ∙ two.1 in
+        let has = has_field x h is c i started two.0 there three.0 three.1 in
+        let got = field_is x h is c i started two.0 there three.0 three.1 in
+        let full = held_full (field_of x (Address c) i) three.0 three.3 got in (
           (
             in_range m ws places count rd d pd,
             from.0,
-            subst (λ z. HasField x z i) (sym from_is)
-                (has_field x h is one.0 i two.0 two.1 three.0 three.1),
+            subst (λ z. HasField x z i) (sym from_is.1) has,
           ),
           (λ y us a n leads.
-              let same = leads.2 ∙ ap (λ z. slice_set ws d (field_of x z i)) from_is in
+              let same = leads.2 ∙ ap (λ z. slice_set ws d (field_of x z i)) from_is.1 in
               record {
                 way = Next;
                 tuples = h;
@@ -236,9 +280,13 @@ module _ (blocks : List ESeq) (m : PlaceList) (os : List Instruction) (es : List
                     ∙ ap (option_and_then loads) two.1
                     ∙ loaded (slice_get two.0 i) three.0 rd three.1 three.3
                     ∙ ap (λ g. Some (EGoes Next (EAt h g r))) (put_in rd d (field_of x
-                    (Address one.0) i) three.0 us pd full same);
+                    (Address c) i) three.0 us pd full same);
                 has_heap = subst (λ z. IsHeap z h) (sym leads.1) is;
-                has_words = counted d (field_of x (Address one.0) i) us same;
+                heap_started = same_started y leads.1;
+                words_started = put_started d (field_of x (Address c) i) us same
+                    (All-get_or (Started S) (cells_of x.cells) (cell_of (Address c) i) (Empty 0) has in_heap);
+                more = λ w t. t;
+                has_words = counted d (field_of x (Address c) i) us same;
                 leading = leads.0;
               }),
         )
@@ -257,23 +305,32 @@ module _ (blocks : List ESeq) (m : PlaceList) (os : List Instruction) (es : List
     malloc d k rd pd = (
       in_range m ws places count rd d pd,
       (λ y us a n leads.
-          let same = leads.3 ∙ ap (λ z. slice_set ws d (Address z)) (tuple_count x h is) in
+          let t = replicate k EEmpty in
+          let new = address_of x.count (length (cells_of x.cells)) in
+          let T = starts_from 0 (h ++ t ∷ []) in
+          let more = started_more h t in
           record {
             way = Next;
-            tuples = h ++ replicate k EEmpty ∷ [];
+            tuples = h ++ t ∷ [];
             rest = r;
-            steps = ap (λ g. Some (EGoes Next (EAt (h ++ replicate k EEmpty ∷ []) g r))) (put_in rd d (Address
-                (length h)) (EAddress (length h)) us pd refl same);
+            steps = ap (λ g. Some (EGoes Next (EAt (h ++ t ∷ []) g r))) (put_in rd d (Address new) (EAddress
+                (length h)) us pd (ap (λ z. Some (EAddress z)) (new_tuple x h is)) leads.3);
             has_heap = grown x h is y k leads.1 leads.2;
-            has_words = counted d (Address (length h)) us same;
+            heap_started = All-same (Started T) (cells_of y.cells) (cells_of x.cells ++ replicate k (Empty 0)) leads.1
+                (All-append (Started T) (cells_of x.cells) (replicate k (Empty 0))
+                (all_more S T more (cells_of x.cells) in_heap) (All-replicate (Started T) k (Empty 0) tt));
+            words_started = All-same (Started T) us (slice_set ws d (Address new)) leads.3
+                (All-set (Started T) ws d (Address new) (started_new x h is t) (all_more S T more ws in_words));
+            more = more;
+            has_words = counted d (Address new) us leads.3;
             leading = leads.0;
           }),
     )
 
     mov : (d : ℕ) (v : Operand) (rd : ℕ) (b : TBase) → place_of m rd ≡ Some d → IsBase m v b →
-        estep blocks (EAt h R (EThen (EMov rd b) r)) ≡ Some st → Works blocks m es x h ws (Mov d v) (EThen
-        (EMov rd b) r)
-    mov d v rd b pd pb e =
+        Started S (data_word v) → estep blocks (EAt h R (EThen (EMov rd b) r)) ≡ Some st →
+        Works blocks m es x h ws (Mov d v) (EThen (EMov rd b) r)
+    mov d v rd b pd pb started e =
         let moves = λ (w : EWord). EGoes Next (EAt h (with_reg R rd w) r) in
         let one = map_read (base_word R b) moves st e in
         let from = operand m ws places count v b one.0 pb one.1 in (
@@ -285,6 +342,9 @@ module _ (blocks : List ESeq) (m : PlaceList) (os : List Instruction) (es : List
             steps = ap (option_map moves) one.1 ∙ ap (λ g. Some (EGoes Next (EAt h g r))) (put_in rd d
                 (value_of ws v) one.0 us pd from leads.2);
             has_heap = subst (λ z. IsHeap z h) (sym leads.1) is;
+            heap_started = same_started y leads.1;
+            words_started = put_started d (value_of ws v) us leads.2 (value_started v b pb started);
+            more = λ w t. t;
             has_words = counted d (value_of ws v) us leads.2;
             leading = leads.0;
           }),
@@ -304,20 +364,26 @@ module _ (blocks : List ESeq) (m : PlaceList) (os : List Instruction) (es : List
         let lt : i < length two.0 = grind (arith, nat_tests) in
         let to = reads m ws rd d (EAddress one.0) one.1 pd in
         let to_is = held_address (at_place ws d) one.0 to.1 in
+        let c = to_is.0 in
+        let started = address_started d c to.0 to_is.1 in
+        let tuple = ap (slice_get h) to_is.2 ∙ two.1 in
         let from = reads m ws rs s three.0 three.1 ps in
-        let from_is = held_word (at_place ws s) three.0 from.1 in
+        let v = at_place ws s in
+        let from_is = held_word v three.0 from.1 in
         let there = slice_get-get_or two.0 i EEmpty lt in (
           (
             to.0,
             from.0,
-            subst (λ z. HasField x z i) (sym to_is) (has_field x h is one.0 i two.0 two.1
+            subst (λ z. HasField x z i) (sym to_is.1) (has_field x h is c i started two.0 tuple
                 (get_or two.0 i EEmpty) there),
           ),
           (λ y us a n leads.
-              let cells = leads.1 ∙ ap (λ z. slice_set (cells_of x.cells) (cell_of x z i) (at_place ws s)) to_is in
+              let cells = leads.1 ∙ ap (λ z. slice_set (cells_of x.cells) (cell_of z i) v) to_is.1 in
+              let T = starts_from 0 (slice_set h one.0 (slice_set two.0 i (word v))) in
+              let more = started_set h one.0 i two.0 (word v) two.1 in
               record {
                 way = Next;
-                tuples = slice_set h one.0 (slice_set two.0 i (word (at_place ws s)));
+                tuples = slice_set h one.0 (slice_set two.0 i (word v));
                 rest = r;
                 steps = ap (λ z. on_address z (λ a. option_and_then (λ t. option_and_then (fills a t) (R rs))
                     (slice_get h a))) one.1
@@ -327,33 +393,40 @@ module _ (blocks : List ESeq) (m : PlaceList) (os : List Instruction) (es : List
                     (slice_set two.0 i three.0)) R r))) None) test
                     ∙ ap₂ (λ w g. Some (EGoes Next (EAt (slice_set h one.0 (slice_set two.0 i w)) g r)))
                     (sym from_is) (ap (regs_of m) (sym leads.3));
-                has_heap = stored x h is one.0 i two.0 two.1 y (at_place ws s) lt cells leads.2;
+                has_heap = subst (λ z. IsHeap y (slice_set h z (slice_set two.0 i (word v)))) to_is.2
+                    (stored x h is c i started two.0 tuple y v lt cells leads.2);
+                heap_started = All-same (Started T) (cells_of y.cells) (slice_set (cells_of x.cells)
+                    (cell_of (Address c) i) v) cells
+                    (All-set (Started T) (cells_of x.cells) (cell_of (Address c) i) v (more v (word_started s from.0))
+                    (all_more S T more (cells_of x.cells) in_heap));
+                words_started = All-same (Started T) us ws leads.3 (all_more S T more ws in_words);
+                more = more;
                 has_words = kept us leads.3;
                 leading = leads.0;
               }),
         )
 
-  pub works_instr : (o : Action) (i : EInstr) (r : ESeq) → IsInstr m es o i → (st : EStep) →
-      estep blocks (EAt h R (EThen i r)) ≡ Some st → Works blocks m es x h ws o (EThen i r)
-  works_instr (Arith op d s v) i r p st e =
+  pub works_instr : (o : Action) (i : EInstr) (r : ESeq) → IsInstr m es o i → Started S (moved_data o) →
+      (st : EStep) → estep blocks (EAt h R (EThen i r)) ≡ Some st → Works blocks m es x h ws o (EThen i r)
+  works_instr (Arith op d s v) i r p started st e =
       subst (λ j. Works blocks m es x h ws (Arith op d s v) (EThen j r)) (sym p.6)
       (adds r st op d s v p.0 p.1 p.2 p.3 p.4 p.5 (subst (λ j. estep blocks (EAt h R (EThen j r)) ≡ Some st) p.6 e))
-  works_instr (Bnz s v) i r p st e =
+  works_instr (Bnz s v) i r p started st e =
       subst (λ j. Works blocks m es x h ws (Bnz s v) (EThen j r)) (sym p.4) (bnz r st s v p.0 p.1 p.2 p.3 (subst
       (λ j. estep blocks (EAt h R (EThen j r)) ≡ Some st) p.4 e))
-  works_instr (Ld d s f) i r p st e =
+  works_instr (Ld d s f) i r p started st e =
       subst (λ j. Works blocks m es x h ws (Ld d s f) (EThen j r)) (sym p.4) (ld r st d s f p.0 p.1 p.2 p.3 (subst
       (λ j. estep blocks (EAt h R (EThen j r)) ≡ Some st) p.4 e))
-  works_instr (Malloc d k) i r p st e = subst (λ j. Works blocks m es x h ws (Malloc d k) (EThen j r)) (sym p.2)
+  works_instr (Malloc d k) i r p started st e = subst (λ j. Works blocks m es x h ws (Malloc d k) (EThen j r)) (sym p.2)
       (malloc r st d k p.0 p.1)
-  works_instr (Mov d v) i r p st e =
-      subst (λ j. Works blocks m es x h ws (Mov d v) (EThen j r)) (sym p.4) (mov r st d v p.0 p.1 p.2 p.3 (subst
+  works_instr (Mov d v) i r p started st e =
+      subst (λ j. Works blocks m es x h ws (Mov d v) (EThen j r)) (sym p.4) (mov r st d v p.0 p.1 p.2 p.3 started (subst
       (λ j. estep blocks (EAt h R (EThen j r)) ≡ Some st) p.4 e))
-  works_instr (St d f s) i r p st e =
+  works_instr (St d f s) i r p started st e =
       subst (λ j. Works blocks m es x h ws (St d f s) (EThen j r)) (sym p.4) (store r st d f s p.0 p.1 p.2 p.3
       (subst (λ j. estep blocks (EAt h R (EThen j r)) ≡ Some st) p.4 e))
-  works_instr (Jmp v) i r p st e = absurd p
-  works_instr (Halt s) i r p st e = absurd p
+  works_instr (Jmp v) i r p started st e = absurd p
+  works_instr (Halt s) i r p started st e = absurd p
 
   pub works_jump : (v : Target) (c : ESeq) → IsEnd m es (Jmp v) c → (st : EStep) →
       estep blocks (EAt h R c) ≡ Some st → Works blocks m es x h ws (Jmp v) c
@@ -367,6 +440,9 @@ module _ (blocks : List ESeq) (m : PlaceList) (os : List Instruction) (es : List
           steps = ap (λ d. estep blocks (EAt h R d)) p.2 ∙ to.enters ∙ ap (λ g. Some (EGoes (Into to.label)
               (EAt h g to.code))) (ap (regs_of m) (sym leads.1));
           has_heap = subst (λ z. IsHeap z h) (sym leads.0) is;
+          heap_started = same_started y leads.0;
+          words_started = kept_started us leads.1;
+          more = λ w t. t;
           has_words = kept us leads.1;
           leading = to.at ∙ ap Some (sym leads.2);
         }),

@@ -12,7 +12,7 @@ use Rattle.t_rules.specs.Registers.{with_reg}
 use Rattle.t_rules.specs.Erase.{EWord, EInt, EAddress, ELabel, EEmpty, base_word}
 use Rattle.t_rules.specs.Erase.{no_ewords}
 use Rattle.t_machine.specs.Places.{PlaceList, place_of, ArePlaces}
-use Rattle.t_machine.specs.Words.{word, held, regs_of, IsInteger}
+use Rattle.t_machine.specs.Words.{tuple_of, word, held, regs_of, IsInteger}
 use Rattle.t_machine.specs.Code.{IsPlace, IsBase, IsNoNumber, IsNumber}
 use Rattle.t_machine.specs.Steps.{InRange, NumberInRange, at_place, value_of, number_of}
 use Rattle.t_machine.specs.declared.word.Word.{Word}
@@ -34,8 +34,8 @@ held_int (Address a) i h = cc
 held_int (Label l) i h = cc
 held_int (Empty n) i h = cc
 
-pub held_address : (v : Word) (a : ℕ) → held v ≡ Some (EAddress a) → v ≡ Address a
-held_address (Address b) a h = let e : b ≡ a = cc in ap Address e
+pub held_address : (v : Word) (a : ℕ) → held v ≡ Some (EAddress a) → (b : ℕ) × (v ≡ Address b) × (tuple_of b ≡ a)
+held_address (Address b) a h = let e : tuple_of b ≡ a = cc in (b, refl, e)
 held_address (Int j) a h = cc
 held_address (Label l) a h = cc
 held_address (Empty n) a h = cc

@@ -1,10 +1,11 @@
--- A worked example of what the steps of a program allocate.
+-- Worked examples: what the steps of a program allocate, and an address.
 use Rattle.std.proofs.Common.{◌≡◌, ℕ, zero, suc, ◌+◌, ◌≤◌, [], ◌∷◌, Some, refl, sym, ap, ◌∙◌, subst, arith, inl, inr}
 use Rattle.std.proofs.Common.{◌⊎◌, ⊎_elim, slice_get}
 use Rattle.t_types.specs.Tree.{IntTy, NoRegs}
 use Rattle.t_terms.specs.Tree.{Label, Plain, Malloc, Jmp, TSeq, Then, Ends, TBlock, TProg}
 use Rattle.t_rules.specs.Registers.{inst_seq}
 use Rattle.t_rules.specs.Machine.{LabelWord, Heap, RegWords, State, At, Where, Place, Step, After, start_heap, no_words}
+use Rattle.t_machine.specs.Words.{address_of, tuple_of, start_of}
 use Rattle.t_machine.specs.Room.{asked_next, tuples_wanted, fields_wanted, tuples_made, fields_made, Covers}
 
 -- A program that allocates at every second step. Its text, with a bar for a line end:
@@ -96,3 +97,7 @@ taking_covered n j s p run le = let all : j ≡ 0 + j = omega arith in subst (Li
 -- so 1,000 spare tuples and fields are enough for 2,000 steps from its start on
 pub a_thousand_are_enough : Covers taking 0 2000 1000 1000
 a_thousand_are_enough = taking_covered 1000
+
+-- the address of tuple 3, whose fields start at cell 7, tells both
+pub an_address : (address_of 3 7 ≡ 12884901895) × (tuple_of 12884901895 ≡ 3) × (start_of 12884901895 ≡ 7)
+an_address = (refl, refl, refl)

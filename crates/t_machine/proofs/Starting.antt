@@ -2,6 +2,7 @@
 use Rattle.std.proofs.Common.{◌≡◌, ℕ, zero, suc, ◌-◌, ◌≤◌, List, [], ◌∷◌, ◌++◌, length, take, Some, refl, sym, ap}
 use Rattle.std.proofs.Common.{◌∙◌, subst, arith, slice_get, get_or, replicate}
 use Rattle.std.proofs.lemmas.Option.{slice_get_read}
+use Rattle.std.proofs.lemmas.List.Elements.{All-same, All-replicate}
 use Rattle.std.specs.Prelude.{map}
 use Rattle.t_terms.specs.Tree.{TBlock, TProg}
 use Rattle.t_terms.specs.Read.{blocks_of, data_of}
@@ -10,12 +11,13 @@ use Rattle.t_terms.specs.declared.program.TProgram.{TProgram}
 use Rattle.t_terms.specs.declared.data.Data.{Data}
 use Rattle.t_terms.specs.declared.block.Block.{Block}
 use Rattle.t_rules.specs.Machine.{Spot}
-use Rattle.t_rules.specs.Erase.{ERegs, EAt, erase_block, erase_blocks, erase_datum, erase_heap, Erased}
+use Rattle.t_rules.specs.Erase.{EHeap, ERegs, EAt, erase_block, erase_blocks, erase_datum, erase_heap, Erased}
 use Rattle.t_machine.specs.ProgramLaws.{ProgramLaws}
 use Rattle.t_machine.specs.Places.{ArePlaces}
 use Rattle.t_machine.specs.Words.{regs_of}
-use Rattle.t_machine.specs.Heap.{IsHeap}
-use Rattle.t_machine.specs.Code.{IsCode}
+use Rattle.t_machine.specs.Cells.{cells_of}
+use Rattle.t_machine.specs.Heap.{starts_from, IsHeap, Started, AllStarted}
+use Rattle.t_machine.specs.Code.{IsCode, all_moved}
 use Rattle.t_machine.specs.Laid.{IsLaid}
 use Rattle.t_machine.specs.State.{Shows}
 use Rattle.t_machine.specs.declared.word.Word.{Word}
@@ -52,8 +54,10 @@ first_there (b ∷ bs) some = (b, refl)
 
 pub begins : ProgramLaws → (P : TProg) (x : Heap) (ws : List Word) (code : Code) (at : ℕ) → 1 ≤ length P.blocks →
     IsCode code (erase_blocks P) → IsLaid code (erase_blocks P) → ArePlaces code.places → IsHeap x (erase_heap P) →
+    AllStarted (starts_from 0 (erase_heap P)) (cells_of x.cells) →
+    AllStarted (starts_from 0 (erase_heap P)) (all_moved code.instructions.items) →
     ws ≡ replicate (length code.places) (Empty 0) → slice_get code.entries.items 0 ≡ Some at → Shows P 0 x ws code at
-begins laws P x ws code at some is laid places heap words entry =
+begins laws P x ws code at some is laid places heap in_heap in_code words entry =
     let b = first_there P.blocks some in
     record {
       tuples = erase_heap P;
@@ -68,25 +72,39 @@ begins laws P x ws code at some is laid places heap words entry =
       laid = laid;
       has_places = places;
       has_heap = heap;
+      heap_started = in_heap;
+      words_started = All-same (Started (starts_from 0 (erase_heap P))) ws
+          (replicate (length code.places) (Empty 0)) words
+          (All-replicate (Started (starts_from 0 (erase_heap P))) (length code.places) (Empty 0) tt);
+      code_started = in_code;
       has_words = ap (λ us. length us) words ∙ replicate_count (length code.places) (Empty 0);
       entered = entry;
       placed = omega arith;
     }
 
 -- what loading makes
+abbrev pub tuples_of : List Data → EHeap
+tuples_of tuples = map (map erase_datum) (data_of tuples)
+
 pub starts : ProgramLaws → (p : TProgram) → 1 ≤ length (blocks_of p.blocks.items) → (lent : List Block) →
     lent ≡ p.blocks.items → (code : Code) → IsCode code (map erase_block (blocks_of lent)) →
     IsLaid code (map erase_block (blocks_of lent)) → ArePlaces code.places → (n : ℕ) → n ≡ length code.places
-    → (x : Heap) (tuples : List Data) → tuples ≡ p.heap.items → IsHeap x (map (map erase_datum) (data_of tuples))
+    → (x : Heap) (tuples : List Data) → tuples ≡ p.heap.items → IsHeap x (tuples_of tuples)
+    → (ss : List ℕ) → ss ≡ starts_from 0 (tuples_of tuples) → AllStarted ss (cells_of x.cells) →
+    AllStarted ss (all_moved code.instructions.items)
     → (xs : List Word) → xs ≡ [] → (k : ℕ) → k ≡ 0 → (ws : List Word) → ws ≡ take n xs ++ replicate (n - k) (Empty 0) →
     (at : ℕ) → at ≡ get_or code.entries.items 0 at → Shows (program p) 0 x ws code at
-starts laws p some lent same code is laid places n count x tuples all heap xs none k none_kept ws words at entry =
+starts laws p some lent same code is laid places n count x tuples all heap ss are in_heap in_code xs none k none_kept ws
+    words at entry =
     let bs = p.blocks.items in
     let holds = subst (λ (cs : List Block). IsCode code (map erase_block (blocks_of cs))) same is in
     let lies = subst (λ (cs : List Block). IsLaid code (map erase_block (blocks_of cs))) same laid in
     let entries = first_entry code.places code.entries.items code.instructions.items code.entries.items
     (map erase_block (blocks_of bs)) holds (erased_count (blocks_of bs) some) in
-    begins laws (program p) x ws code at some holds lies places (subst (λ (ys : List Data). IsHeap x (map
-    (map erase_datum) (data_of ys))) all heap)
+    let begun : ss ≡ starts_from 0 (erase_heap (program p)) = are ∙ ap (λ ys. starts_from 0 (tuples_of ys)) all in
+    begins laws (program p) x ws code at some holds lies places
+    (subst (λ (ys : List Data). IsHeap x (tuples_of ys)) all heap)
+    (subst (λ zs. AllStarted zs (cells_of x.cells)) begun in_heap)
+    (subst (λ zs. AllStarted zs (all_moved code.instructions.items)) begun in_code)
     (filled_up n k xs ws none none_kept words ∙ ap (λ j. replicate j (Empty 0)) count)
     (slice_get_read code.entries.items (length code.entries.items) 0 at refl entries entry)

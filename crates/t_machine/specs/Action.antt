@@ -2,6 +2,8 @@
 use Rattle.std.specs.Prelude.{ℕ}
 use Rattle.idx_core.specs.declared.arith.Op.{Op}
 use Rattle.idx_core.specs.declared.arith.Op.TheVariants.{Add, Sub, Mul}
+use Rattle.t_machine.specs.declared.word.Word.{Word}
+use Rattle.t_machine.specs.declared.word.Word.TheVariants as word
 use Rattle.t_machine.specs.declared.code.Operand.{Operand}
 use Rattle.t_machine.specs.declared.code.Operand.TheVariants as operand
 use Rattle.t_machine.specs.declared.code.Number.{Number}
@@ -41,3 +43,20 @@ action (code.St d s f) = St d f s
 action (code.JmpRegister k) = Jmp (target.Register k)
 action (code.JmpEntry n) = Jmp (target.Entry n)
 action (code.Halt s) = Halt s
+
+-- the address of a data tuple that an operand is, and that an instruction moves; where there is none, an empty word
+abbrev pub data_word : Operand → Word
+data_word (operand.Data a) = word.Address a
+data_word (operand.Register k) = word.Empty 0
+data_word (operand.Int i) = word.Empty 0
+data_word (operand.Label l) = word.Empty 0
+
+abbrev pub moved_data : Action → Word
+moved_data (Mov d v) = data_word v
+moved_data (Arith op d s v) = word.Empty 0
+moved_data (Bnz s v) = word.Empty 0
+moved_data (Ld d s f) = word.Empty 0
+moved_data (Malloc d n) = word.Empty 0
+moved_data (St d f s) = word.Empty 0
+moved_data (Jmp v) = word.Empty 0
+moved_data (Halt s) = word.Empty 0

@@ -1,10 +1,12 @@
 -- The code of the running machine, and the erased blocks that it stands for.
-use Rattle.std.specs.Prelude.{◌≡◌, ℕ, List, [], ◌∷◌, drop, Some, ◌⊎◌, slice_index}
+use Rattle.std.specs.Prelude.{◌≡◌, ℕ, List, [], ◌∷◌, drop, map, Some, ◌⊎◌, slice_index}
 use Rattle.t_terms.specs.Tree.{TBase, Reg}
 use Rattle.t_terms.specs.Tree as tree
 use Rattle.t_rules.specs.Erase.{EInstr, EArith, EBnz, ELd, EMalloc, EMov, ESt, ESeq, EThen, EJmp, EHalt}
 use Rattle.t_machine.specs.Places.{PlaceList, place_of}
-use Rattle.t_machine.specs.Action.{Action, action, Arith, Bnz, Ld, Malloc, Mov, St, Jmp, Halt}
+use Rattle.t_machine.specs.Words.{tuple_of}
+use Rattle.t_machine.specs.Action.{Action, action, Arith, Bnz, Ld, Malloc, Mov, St, Jmp, Halt, moved_data}
+use Rattle.t_machine.specs.declared.word.Word.{Word}
 use Rattle.t_machine.specs.declared.code.Operand.{Operand}
 use Rattle.t_machine.specs.declared.code.Operand.TheVariants.{Register, Int, Label, Data}
 use Rattle.t_machine.specs.declared.code.Number.{Number}
@@ -23,7 +25,7 @@ abbrev pub IsBase : PlaceList → Operand → TBase → Type 0
 IsBase m (Register k) b = IsPlace m k b
 IsBase m (Int i) b = b ≡ tree.Int i
 IsBase m (Label l) b = b ≡ tree.Label l
-IsBase m (Data d) b = b ≡ tree.Data d
+IsBase m (Data a) b = b ≡ tree.Data (tuple_of a)
 
 -- the base is a label or the address of a data tuple, with which no accepted program computes
 abbrev pub IsNoNumber : TBase → Type 0
@@ -93,3 +95,7 @@ HoldsBlocks m es os (k ∷ ks) [] = ⊥
 -- the code has these blocks
 abbrev pub IsCode : Code → List ESeq → Type 0
 IsCode x cs = HoldsBlocks x.places x.entries.items x.instructions.items x.entries.items cs
+
+-- the addresses of data tuples that the instructions move
+abbrev pub all_moved : List Instruction → List Word
+all_moved os = map (λ o. moved_data (action o)) os

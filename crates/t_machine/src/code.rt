@@ -13,7 +13,7 @@ pub(crate) enum Operand {
     Register(u32),
     Int(i64),
     Label(usize),
-    Data(usize),
+    Data(u64),
 }
 
 /// The right operand of an operation: the register at a place, or an integer.
@@ -47,7 +47,7 @@ pub(crate) enum Instruction {
     MovRegister { rd: u32, rs: u32 },
     MovInt { rd: u32, int: i64 },
     MovLabel { rd: u32, label: usize },
-    MovData { rd: u32, address: usize },
+    MovData { rd: u32, address: u64 },
     St { rd: u32, rs: u32, field: usize },
     JmpRegister { target: u32 },
     JmpEntry { to: usize },

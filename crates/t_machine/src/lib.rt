@@ -12,6 +12,7 @@ mod machine;
 mod places;
 mod placing;
 mod running;
+mod starts;
 mod word;
 
 pub use laws::{

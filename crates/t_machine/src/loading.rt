@@ -7,11 +7,12 @@ ghost use Rattle.t_terms.specs.Spanned.{plain_fields};
 ghost use Rattle.t_check.specs.Checked.{checked_program};
 ghost use Rattle.t_rules.specs.Erase.{ESeq, EHeap, ELd, EMov, ESt, erase_blocks, base_word, no_ewords, held};
 ghost use Rattle.t_rules.specs.Erase.{erase_value, erase_instr, erase_end, erase_block, erase_datum};
-ghost use Rattle.t_machine.specs.Heap.{IsHeap};
+ghost use Rattle.t_machine.specs.Cells.{cells_of};
+ghost use Rattle.t_machine.specs.Heap.{IsHeap, Started, AllStarted};
 ghost use Rattle.t_machine.specs.Words.{word};
 ghost use Rattle.t_machine.specs.Places.{Extends};
-ghost use Rattle.t_machine.specs.Action.{action};
-ghost use Rattle.t_machine.specs.Code.{IsBase, IsNumber, IsTarget, IsInstr, IsEnd, IsCode};
+ghost use Rattle.t_machine.specs.Action.{action, data_word, moved_data};
+ghost use Rattle.t_machine.specs.Code.{IsBase, IsNumber, IsTarget, IsInstr, IsEnd, IsCode, all_moved};
 ghost use Rattle.t_machine.specs.Laid.{size, begins, Adds, InBase, InInstr, InBlock, IsLaid, IsNamed};
 ghost use Rattle.t_machine.specs.Lowering.{IsFilled};
 ghost use Rattle.t_machine.specs.Runs.{Stands};
@@ -21,6 +22,7 @@ use crate::heap::Heap;
 use crate::laws::programs_keep_laws;
 use crate::machine::Machine;
 use crate::places::Places;
+use crate::starts::{data_address, load_starts, sum};
 use crate::word::Word;
 use idx_core::{OutOfMemory, Span};
 use std::alloc::Global;
@@ -31,19 +33,22 @@ use t_types::TType;
 /// A machine that stands at the start of the program. It takes a place for each register that the program names and for
 /// no other, and the data and the code; a run takes memory at a `malloc` alone. Its code is the blocks one after the
 /// other, so that a place in it tells the block and the instruction (`places_are_read_back`). Answers want of memory
-/// also where the program names more than 2^32 registers, or its code has more places than an index can tell.
+/// also where the program names more than 2^32 registers, or its code has more places than an index can tell, and where
+/// its data have more than 2^32 - 1 tuples or fields.
 pub fn load(alloc: Global, program: &Checked) -> Result<Machine, OutOfMemory>
     ensures stands { IfOk result (Stands (program_of (checked_program program.now)) 0) }
     ensures laid { IfOk result (λ x. IsLaid x.code (erase_blocks (program_of (checked_program program.now)))) }
     ensures named { IfOk result (λ x. IsNamed x.code (erase_blocks (program_of (checked_program program.now)))) }
 {
     programs_keep_laws();
-    let code = load_blocks(alloc, &program.program().blocks)?;
+    let program = program.program();
+    let starts = load_starts(alloc, &program.heap)?;
+    let code = load_blocks(alloc, &program.blocks, &starts)?;
     let count = code.places.len();
     let mut registers = Vec::new(alloc);
     registers.resize(count, Word::Empty(0))?;
     let at = code.entries[0];
-    let heap = load_heap(alloc, &program.program().heap)?;
+    let heap = load_heap(alloc, &program.heap, &starts)?;
     Ok(Machine {
         heap,
         registers,
@@ -53,45 +58,58 @@ pub fn load(alloc: Global, program: &Checked) -> Result<Machine, OutOfMemory>
 }
 
 // The data tuples, one after the other.
-fn load_heap(alloc: Global, tuples: &[Data]) -> Result<Heap, OutOfMemory>
-    ensures { IfOk result (λ x. IsHeap x (map (map erase_datum) (data_of tuples.now))) }
+fn load_heap(alloc: Global, tuples: &[Data], starts: &[u32]) -> Result<Heap, OutOfMemory>
+    ensures heap { IfOk result (λ x. IsHeap x (map (map erase_datum) (data_of tuples.now))) }
+    ensures started { IfOk result (λ x. AllStarted starts.now (cells_of x.cells)) }
 {
     let mut heap = Heap::new(alloc);
     for tuple in tuples {
-        load_tuple(&mut heap, &tuple.fields)?;
+        load_tuple(&mut heap, &tuple.fields, starts)?;
     }
     Ok(heap)
 }
 
 // Puts a data tuple after the tuples of the heap.
-fn load_tuple(heap: &mut Heap, fields: &[(Value, TType, Span)]) -> Result<(), OutOfMemory>
-    ensures { OnOk result ((h : EHeap) → IsHeap heap.old h →
+fn load_tuple(
+    heap: &mut Heap,
+    fields: &[(Value, TType, Span)],
+    starts: &[u32],
+) -> Result<(), OutOfMemory>
+    ensures heap { OnOk result ((h : EHeap) → IsHeap heap.old h →
         IsHeap heap.new (h ++ map erase_datum (plain_fields (data_fields fields.now)) ∷ [])) }
+    ensures started { OnOk result (AllStarted starts.now (cells_of heap.old.cells) →
+        AllStarted starts.now (cells_of heap.new.cells)) }
 {
-    heap.starts.push(heap.cells.len())?;
+    heap.count = sum(heap.count, 1)?;
     for field in fields {
-        heap.cells.push(data_word(&field.0))?;
+        let word = load_word(&field.0, starts)?;
+        heap.cells.push(word)?;
     }
     Ok(())
 }
 
 // The word of a value of data, which names no register.
-fn data_word(v: &Value) -> Word
-    ensures { word result ≡ held (base_word no_ewords (erase_value (value_tree v.now))) }
+fn load_word(v: &Value, starts: &[u32]) -> Result<Word, OutOfMemory>
+    ensures same { IfOk result (λ w. word w ≡ held (base_word no_ewords (erase_value (value_tree v.now)))) }
+    ensures started { IfOk result (Started starts.now) }
 {
     match base_of(v) {
-        Base::Reg(_) => Word::Empty(0),
-        Base::Int(i) => Word::Int(i),
-        Base::Label(l) => Word::Label(l as usize),
-        Base::Data(d) => Word::Address(d as usize),
+        Base::Reg(_) => Ok(Word::Empty(0)),
+        Base::Int(i) => Ok(Word::Int(i)),
+        Base::Label(l) => Ok(Word::Label(l as usize)),
+        Base::Data(d) => {
+            let address = data_address(starts, d)?;
+            Ok(Word::Address(address))
+        }
     }
 }
 
 // The code of the blocks.
-fn load_blocks(alloc: Global, blocks: &[Block]) -> Result<Code, OutOfMemory>
+fn load_blocks(alloc: Global, blocks: &[Block], starts: &[u32]) -> Result<Code, OutOfMemory>
     ensures code { IfOk result (λ x. IsCode x (map erase_block (blocks_of blocks.now))) }
     ensures laid { IfOk result (λ x. IsLaid x (map erase_block (blocks_of blocks.now))) }
     ensures named { IfOk result (λ x. IsNamed x (map erase_block (blocks_of blocks.now))) }
+    ensures started { IfOk result (λ x. AllStarted starts.now (all_moved x.instructions.items)) }
 {
     let entries = load_entries(alloc, blocks)?;
     let mut code = Code {
@@ -100,7 +118,7 @@ fn load_blocks(alloc: Global, blocks: &[Block]) -> Result<Code, OutOfMemory>
         places: Places::new(alloc),
     };
     for block in blocks {
-        load_block(&mut code, block)?;
+        load_block(&mut code, block, starts)?;
     }
     Ok(code)
 }
@@ -134,14 +152,16 @@ fn block_end(start: usize, block: &Block) -> Result<usize, OutOfMemory>
 }
 
 // Puts a block after the blocks of the code.
-fn load_block(code: &mut Code, block: &Block) -> Result<(), OutOfMemory>
+fn load_block(code: &mut Code, block: &Block, starts: &[u32]) -> Result<(), OutOfMemory>
     ensures filled { OnOk result ((cs : List ESeq) → IsFilled code.old cs →
         IsFilled code.new (cs ++ erase_block (block_tree block.now) ∷ [])) }
     ensures entries { OnOk result (code.new.entries.items ≡ code.old.entries.items) }
     ensures named { OnOk result (Adds code.old.places code.new.places (InBlock (erase_block (block_tree block.now)))) }
+    ensures started { OnOk result (AllStarted starts.now (all_moved code.old.instructions.items) →
+        AllStarted starts.now (all_moved code.new.instructions.items)) }
 {
     for step in &block.body {
-        let instruction = load_instr(&mut code.places, &code.entries, &step.0)?;
+        let instruction = load_instr(&mut code.places, &code.entries, starts, &step.0)?;
         code.instructions.push(instruction)?;
     }
     let last = load_end(&mut code.places, &code.entries, &block.end)?;
@@ -149,10 +169,16 @@ fn load_block(code: &mut Code, block: &Block) -> Result<(), OutOfMemory>
     Ok(())
 }
 
-fn load_instr(places: &mut Places, entries: &[usize], i: &Instr) -> Result<Instruction, OutOfMemory>
+fn load_instr(
+    places: &mut Places,
+    entries: &[usize],
+    starts: &[u32],
+    i: &Instr,
+) -> Result<Instruction, OutOfMemory>
     ensures same { IfOk result (λ o. IsInstr places.new entries.now (action o) (erase_instr (instr_tree i.now))) }
     ensures kept { OnOk result (Extends places.old places.new) }
     ensures named { OnOk result (Adds places.old places.new (InInstr (erase_instr (instr_tree i.now)))) }
+    ensures started { IfOk result (λ o. Started starts.now (moved_data (action o))) }
 {
     match i {
         Instr::Arith { op, rd, rs, v } => {
@@ -176,9 +202,9 @@ fn load_instr(places: &mut Places, entries: &[usize], i: &Instr) -> Result<Instr
                 size: types.len(),
             })
         }
-        Instr::Mov { rd, v } => load_move(places, *rd, v),
+        Instr::Mov { rd, v } => load_move(places, starts, *rd, v),
         Instr::St { rd, field, rs } => load_write(places, *rd, *field, *rs),
-        Instr::Unpack { rd, v } => load_move(places, *rd, v),
+        Instr::Unpack { rd, v } => load_move(places, starts, *rd, v),
     }
 }
 
@@ -187,6 +213,7 @@ fn load_read(places: &mut Places, rd: u64, rs: u64, field: u64) -> Result<Instru
     ensures same { IfOk result (λ o. (es : List ℕ) → IsInstr places.new es (action o) (ELd rd rs field)) }
     ensures kept { OnOk result (Extends places.old places.new) }
     ensures named { OnOk result (Adds places.old places.new (InInstr (ELd rd rs field))) }
+    ensures no_data { IfOk result (λ o. moved_data (action o) ≡ Word.Empty 0) }
 {
     let rd = places.place(rd)?;
     let rs = places.place(rs)?;
@@ -199,6 +226,7 @@ fn load_write(places: &mut Places, rd: u64, field: u64, rs: u64) -> Result<Instr
     ensures same { IfOk result (λ o. (es : List ℕ) → IsInstr places.new es (action o) (ESt rd field rs)) }
     ensures kept { OnOk result (Extends places.old places.new) }
     ensures named { OnOk result (Adds places.old places.new (InInstr (ESt rd field rs))) }
+    ensures no_data { IfOk result (λ o. moved_data (action o) ≡ Word.Empty 0) }
 {
     let rd = places.place(rd)?;
     let rs = places.place(rs)?;
@@ -207,14 +235,20 @@ fn load_write(places: &mut Places, rd: u64, field: u64, rs: u64) -> Result<Instr
 }
 
 // A move, or an unpack, which is one without types.
-fn load_move(places: &mut Places, rd: u64, v: &Value) -> Result<Instruction, OutOfMemory>
+fn load_move(
+    places: &mut Places,
+    starts: &[u32],
+    rd: u64,
+    v: &Value,
+) -> Result<Instruction, OutOfMemory>
     ensures same { IfOk result (λ o. (es : List ℕ) →
         IsInstr places.new es (action o) (EMov rd (erase_value (value_tree v.now)))) }
     ensures kept { OnOk result (Extends places.old places.new) }
     ensures named { OnOk result (Adds places.old places.new (InInstr (EMov rd (erase_value (value_tree v.now))))) }
+    ensures started { IfOk result (λ o. Started starts.now (moved_data (action o))) }
 {
     let rd = places.place(rd)?;
-    let v = load_value(places, v)?;
+    let v = load_value(places, starts, v)?;
     let mov = Instruction::mov(rd, v);
     Ok(mov)
 }
@@ -223,6 +257,7 @@ fn load_end(places: &mut Places, entries: &[usize], end: &End) -> Result<Instruc
     ensures same { IfOk result (λ o. IsEnd places.new entries.now (action o) (erase_end (end_of end.now))) }
     ensures kept { OnOk result (Extends places.old places.new) }
     ensures named { OnOk result (Adds places.old places.new (InBlock (erase_end (end_of end.now)))) }
+    ensures no_data { IfOk result (λ o. moved_data (action o) ≡ Word.Empty 0) }
 {
     match end {
         End::Jmp(v) => {
@@ -237,10 +272,11 @@ fn load_end(places: &mut Places, entries: &[usize], end: &End) -> Result<Instruc
     }
 }
 
-fn load_value(places: &mut Places, v: &Value) -> Result<Operand, OutOfMemory>
+fn load_value(places: &mut Places, starts: &[u32], v: &Value) -> Result<Operand, OutOfMemory>
     ensures same { IfOk result (λ o. IsBase places.new o (erase_value (value_tree v.now))) }
     ensures kept { OnOk result (Extends places.old places.new) }
     ensures named { OnOk result (Adds places.old places.new (InBase (erase_value (value_tree v.now)))) }
+    ensures started { IfOk result (λ o. Started starts.now (data_word o)) }
 {
     match base_of(v) {
         Base::Reg(r) => {
@@ -249,7 +285,10 @@ fn load_value(places: &mut Places, v: &Value) -> Result<Operand, OutOfMemory>
         }
         Base::Int(i) => Ok(Operand::Int(i)),
         Base::Label(l) => Ok(Operand::Label(l as usize)),
-        Base::Data(d) => Ok(Operand::Data(d as usize)),
+        Base::Data(d) => {
+            let address = data_address(starts, d)?;
+            Ok(Operand::Data(address))
+        }
     }
 }
 

@@ -1,49 +1,65 @@
-use Rattle.std.proofs.Common.{◌∙◌, ap, sym, subst, map}
+use Rattle.std.proofs.Common.{List, ◌∙◌, ap, sym, subst, map}
 use Rattle.std.proofs.Math.Logic.{∥∥₁_map}
 use Rattle.t_terms.specs.ReadProgram.{program}
 use Rattle.t_terms.specs.declared.program.TProgram.{TProgram}
+use Rattle.t_terms.specs.declared.data.Data.{Data}
 use Rattle.t_terms.specs.Read.{blocks_of}
 use Rattle.t_rules.specs.Erase.{erase_block, erase_blocks}
+use Rattle.t_machine.specs.Cells.{cells_of}
+use Rattle.t_machine.specs.Code.{all_moved}
+use Rattle.t_machine.specs.Heap.{starts_from, AllStarted}
 use Rattle.t_machine.specs.Laid.{IsLaid, IsNamed}
 use Rattle.t_machine.specs.State.{Shows}
-use Rattle.t_machine.proofs.Starting.{starts}
+use Rattle.t_machine.proofs.Starting.{tuples_of, starts}
 use Rattle.t_machine.proofs.loading.load.Goals as goal
 
 pub invariant_of-result : goal.invariant_of-result
 invariant_of-result c =
-    let p = c.program.result.now in
-    let tuples = c.deref-2.ensures.value
-    ∙ ap (λ (q : TProgram). q.heap.items) (c.program-2.ensures.same ∙ sym c.program.ensures.same) in
-    let shows = starts c.programs_keep_laws.ensures p c.program.result.now.whole.0 c.deref.result.now
-    c.deref.ensures.value c.in_ok-code.code c.in_ok-code.ensures.code c.in_ok-code.ensures.laid
+    let p = c.program-program.result.now in
+    let ss = c.in_ok-starts.starts.items in
+    let starts_are = c.in_ok-starts.ensures
+    ∙ ap (λ (ds : List Data). starts_from 0 (tuples_of ds)) (c.deref.ensures.value ∙ sym c.deref-4.ensures.value) in
+    let shows = starts c.programs_keep_laws.ensures p p.whole.0 c.deref-2.result.now
+    c.deref-2.ensures.value c.in_ok-code.code c.in_ok-code.ensures.code c.in_ok-code.ensures.laid
     c.len-count.ensures.places
-    c.len-count.result c.len-count.ensures.len c.in_ok-heap.heap c.deref-2.result.now tuples
-    c.in_ok-heap.ensures c.new-registers.result.items c.new-registers.ensures.items _
+    c.len-count.result c.len-count.ensures.len c.in_ok-heap.heap c.deref-4.result.now c.deref-4.ensures.value
+    c.in_ok-heap.ensures.heap ss starts_are
+    (subst (λ zs. AllStarted zs (cells_of c.in_ok-heap.heap.cells)) c.deref-5.ensures.value
+    c.in_ok-heap.ensures.started)
+    (subst (λ zs. AllStarted zs (all_moved c.in_ok-code.code.instructions.items)) c.deref-3.ensures.value
+    c.in_ok-code.ensures.started)
+    c.new-registers.result.items c.new-registers.ensures.items _
     c.new-registers.ensures.len c.resize.new.self.items c.in_ok-resize.ensures.items c.index-at.result.now
     c.index-at.ensures in
-    record { stands = ∥∥₁_map c.program.ensures.accepted (λ a. (program p, 0, p.whole, a, shows)) }
+    record { stands = ∥∥₁_map c.program-program.ensures.accepted (λ a. (program p, 0, p.whole, a, shows)) }
 
 pub returns-clause-stands : goal.returns-clause-stands
 returns-clause-stands c =
-    let p = c.program.result.now in
-    let tuples = c.deref-2.ensures.value
-    ∙ ap (λ (q : TProgram). q.heap.items) (c.program-2.ensures.same ∙ sym c.program.ensures.same) in
-    let shows = starts c.programs_keep_laws.ensures p c.program.result.now.whole.0 c.deref.result.now
-    c.deref.ensures.value c.in_ok-code.code c.in_ok-code.ensures.code c.in_ok-code.ensures.laid
+    let p = c.program-program.result.now in
+    let ss = c.in_ok-starts.starts.items in
+    let starts_are = c.in_ok-starts.ensures
+    ∙ ap (λ (ds : List Data). starts_from 0 (tuples_of ds)) (c.deref.ensures.value ∙ sym c.deref-4.ensures.value) in
+    let shows = starts c.programs_keep_laws.ensures p p.whole.0 c.deref-2.result.now
+    c.deref-2.ensures.value c.in_ok-code.code c.in_ok-code.ensures.code c.in_ok-code.ensures.laid
     c.len-count.ensures.places
-    c.len-count.result c.len-count.ensures.len c.in_ok-heap.heap c.deref-2.result.now tuples
-    c.in_ok-heap.ensures c.new-registers.result.items c.new-registers.ensures.items _
+    c.len-count.result c.len-count.ensures.len c.in_ok-heap.heap c.deref-4.result.now c.deref-4.ensures.value
+    c.in_ok-heap.ensures.heap ss starts_are
+    (subst (λ zs. AllStarted zs (cells_of c.in_ok-heap.heap.cells)) c.deref-5.ensures.value
+    c.in_ok-heap.ensures.started)
+    (subst (λ zs. AllStarted zs (all_moved c.in_ok-code.code.instructions.items)) c.deref-3.ensures.value
+    c.in_ok-code.ensures.started)
+    c.new-registers.result.items c.new-registers.ensures.items _
     c.new-registers.ensures.len c.resize.new.self.items c.in_ok-resize.ensures.items c.index-at.result.now
     c.index-at.ensures in
     subst (λ (q : TProgram). Shows (program q) 0 c.in_ok-heap.heap c.resize.new.self.items c.in_ok-code.code
-    c.index-at.result.now) c.program.ensures.same shows
+    c.index-at.result.now) c.program-program.ensures.same shows
 
 pub returns-clause-laid : goal.returns-clause-laid
 returns-clause-laid c =
-    subst (IsLaid c.in_ok-code.code) (ap (λ bs. map erase_block (blocks_of bs)) c.deref.ensures.value
-    ∙ ap (λ (q : TProgram). erase_blocks (program q)) c.program.ensures.same) c.in_ok-code.ensures.laid
+    subst (IsLaid c.in_ok-code.code) (ap (λ bs. map erase_block (blocks_of bs)) c.deref-2.ensures.value
+    ∙ ap (λ (q : TProgram). erase_blocks (program q)) c.program-program.ensures.same) c.in_ok-code.ensures.laid
 
 pub returns-clause-named : goal.returns-clause-named
 returns-clause-named c =
-    subst (IsNamed c.in_ok-code.code) (ap (λ bs. map erase_block (blocks_of bs)) c.deref.ensures.value
-    ∙ ap (λ (q : TProgram). erase_blocks (program q)) c.program.ensures.same) c.in_ok-code.ensures.named
+    subst (IsNamed c.in_ok-code.code) (ap (λ bs. map erase_block (blocks_of bs)) c.deref-2.ensures.value
+    ∙ ap (λ (q : TProgram). erase_blocks (program q)) c.program-program.ensures.same) c.in_ok-code.ensures.named

@@ -12,6 +12,7 @@ use Rattle.t_machine.specs.Laid.{size, sizes, begins, InInstr, InBlock, Adds}
 use Rattle.t_machine.specs.Lowering.{IsLoaded}
 use Rattle.t_machine.specs.declared.code.Instruction.{Instruction}
 use Rattle.t_machine.proofs.Laying.{size_of_end, adds_none, adds_both}
+use Rattle.t_machine.proofs.Addresses.{moved_push, no_data}
 use Rattle.t_machine.proofs.Loads.{extends_same, extends_both, filled_more, loaded_none, loaded_more, loaded_all}
 use Rattle.t_machine.proofs.loading.load_block.Goals as goal
 
@@ -20,20 +21,23 @@ loop-step-init c =
     let before = c.args.code.now in
     let all = erase_seq (seq_of (body c.deref-step-items.result.now) (end_of c.args.block.now.«end»)) in
     record {
-      kept = extends_same before.places;
-      entries = refl;
-      done = [];
-      instructions = sym (append-nil before.instructions.items);
-      loaded = loaded_none before.entries.items before.places all;
-      counted = omega arith;
-      part = λ r h. h;
-      named = adds_none before.places (InBlock all);
+      begun = record {
+        kept = extends_same before.places;
+        entries = refl;
+        done = [];
+        instructions = sym (append-nil before.instructions.items);
+        loaded = loaded_none before.entries.items before.places all;
+        counted = omega arith;
+        part = λ r h. h;
+        named = adds_none before.places (InBlock all);
+      };
+      started = λ all. all;
     }
 
 pub loop-step-preserved : goal.loop-step-preserved
 loop-step-preserved c =
     let l = c.loop-step in
-    let inv = l.invariant in
+    let inv = l.invariant.begun in
     let xs = c.deref-step-items.result.now in
     let x = c.step-item.result in
     let i = l.step-index in
@@ -56,24 +60,29 @@ loop-step-preserved c =
     subst (λ (ys : List (Instr × Span)). (r : ℕ) → InBlock (erase_seq (seq_of (body ys) e)) r →
     InBlock all r) next inv.part in
     record {
-      kept = extends_both _ _ _ inv.kept c.in_ok-instruction.ensures.kept;
-      entries = inv.entries;
-      done = inv.done ++ o ∷ [];
-      instructions = c.in_ok-push.ensures.items ∙ ap (λ (os : List Instruction). os ++ o ∷ []) inv.instructions
-          ∙ append_assoc c.args.code.now.instructions.items inv.done (o ∷ []);
-      loaded = loaded_more es l.code.places p c.in_ok-instruction.ensures.kept inv.done o
-          (erase_instr (instr x.0)) (erase_seq (seq_of (body (drop (i + 1) xs)) e)) all same left;
-      counted = omega (arith, counts, length-append inv.done (o ∷ []));
-      part = λ r h. parts r (inr h);
-      named = adds_both c.args.code.now.places l.code.places p (InBlock all)
-          (InInstr (erase_instr (instr x.0))) (InBlock all) inv.named c.in_ok-instruction.ensures.named (λ r h. h)
-          (λ r h. parts r (inl h));
+      begun = record {
+        kept = extends_both _ _ _ inv.kept c.in_ok-instruction.ensures.kept;
+        entries = inv.entries;
+        done = inv.done ++ o ∷ [];
+        instructions = c.in_ok-push.ensures.items ∙ ap (λ (os : List Instruction). os ++ o ∷ []) inv.instructions
+            ∙ append_assoc c.args.code.now.instructions.items inv.done (o ∷ []);
+        loaded = loaded_more es l.code.places p c.in_ok-instruction.ensures.kept inv.done o
+            (erase_instr (instr x.0)) (erase_seq (seq_of (body (drop (i + 1) xs)) e)) all same left;
+        counted = omega (arith, counts, length-append inv.done (o ∷ []));
+        part = λ r h. parts r (inr h);
+        named = adds_both c.args.code.now.places l.code.places p (InBlock all)
+            (InInstr (erase_instr (instr x.0))) (InBlock all) inv.named c.in_ok-instruction.ensures.named (λ r h. h)
+            (λ r h. parts r (inl h));
+      };
+      started = λ before.
+          moved_push c.args.starts.now l.code.instructions.items c.push.new.self.items o c.in_ok-push.ensures.items
+          c.in_ok-instruction.ensures.started (l.invariant.started before);
     }
 
 pub returns-clause-filled : goal.returns-clause-filled
 returns-clause-filled c =
     let l = c.loop-step in
-    let inv = l.invariant in
+    let inv = l.invariant.begun in
     let xs = c.deref-step-items.result.now in
     let before = c.args.code.now in
     let es = before.entries.items in
@@ -107,12 +116,12 @@ returns-clause-filled c =
     )
 
 pub returns-clause-entries : goal.returns-clause-entries
-returns-clause-entries c = c.loop-step.invariant.entries
+returns-clause-entries c = c.loop-step.invariant.begun.entries
 
 pub returns-clause-named : goal.returns-clause-named
 returns-clause-named c =
     let l = c.loop-step in
-    let inv = l.invariant in
+    let inv = l.invariant.begun in
     let xs = c.deref-step-items.result.now in
     let e = end_of c.args.block.now.«end» in
     let m = c.args.code.now.places in
@@ -126,3 +135,11 @@ returns-clause-named c =
     adds_both m l.code.places c.load_end.new.places (InBlock all) (InBlock (erase_end e)) (InBlock all) inv.named
     c.in_ok-last.ensures.named (λ r h. h) parts
     )
+
+pub returns-clause-started : goal.returns-clause-started
+returns-clause-started c =
+    let l = c.loop-step in
+    let o = c.in_ok-last.last in
+    λ before.
+    moved_push c.args.starts.now l.code.instructions.items c.push-2.new.self.items o c.in_ok-push-2.ensures.items
+    (no_data c.args.starts.now (action o) c.in_ok-last.ensures.no_data) (l.invariant.started before)

@@ -24,6 +24,7 @@ loop-block-preserved c =
       entries = made.entries ∙ inv.entries;
       named = subst (λ (ds : List ESeq). IsNamed c.load_block.new.code ds) all
           (named_more c.loop-block.code.places c.load_block.new.code.places cs b inv.named made.named);
+      started = made.started inv.started;
     }
 
 pub returns-clause-code : goal.returns-clause-code
@@ -43,3 +44,6 @@ returns-clause-laid c =
     let all = take_all c.loop-block.block-index c.args.blocks.now c.loop-block-test.false in
     let filled = subst (λ (ds : List Block). IsFilled x (map erase_block (blocks_of ds))) all inv.filled in
     (inv.entries, filled.1)
+
+pub returns-clause-started : goal.returns-clause-started
+returns-clause-started c = c.loop-block.invariant.started

@@ -1,5 +1,6 @@
 use Rattle.std.proofs.Common.{List, ◌∷◌, [], ◌++◌, ◌∙◌, map, take, ap, sym, subst}
 use Rattle.std.proofs.lemmas.List.{take_all}
+use Rattle.std.proofs.lemmas.List.Elements.{All-same, All-nil}
 use Rattle.idx_core.specs.declared.span.Span.{Span}
 use Rattle.t_types.specs.declared.types.TType.{TType}
 use Rattle.t_terms.specs.declared.data.Data.{Data}
@@ -7,22 +8,39 @@ use Rattle.t_terms.specs.declared.value.Value.{Value}
 use Rattle.t_terms.specs.Read.{data_fields, data_of}
 use Rattle.t_terms.specs.Spanned.{plain_fields}
 use Rattle.t_rules.specs.Erase.{EHeap, erase_datum}
-use Rattle.t_machine.specs.Heap.{IsHeap}
+use Rattle.t_machine.specs.Cells.{cells_of}
+use Rattle.t_machine.specs.Heap.{IsHeap, Started}
+use Rattle.t_machine.specs.Words.{word}
 use Rattle.t_machine.proofs.Loads.{data_taken}
 use Rattle.t_machine.proofs.loading.load_heap.Goals as goal
+
+pub loop-tuple-init : goal.loop-tuple-init
+loop-tuple-init c =
+    record {
+      heap = (ap (map word) c.new-heap.ensures.cells, c.new-heap.ensures.count);
+      started = All-same (Started c.args.starts.now) (cells_of c.new-heap.result.cells) [] c.new-heap.ensures.cells
+          (All-nil (Started c.args.starts.now));
+    }
 
 pub loop-tuple-preserved : goal.loop-tuple-preserved
 loop-tuple-preserved c =
     let xs = c.args.tuples.now in
     let i = c.loop-tuple.tuple-index in
-    let before : EHeap = map (map erase_datum) (data_of (take i xs)) in
-    subst (λ (h : EHeap). IsHeap c.load_tuple.new.heap h)
-    (ap (λ (ys : List (Value × TType × Span)). map (map erase_datum) (data_of (take i xs)) ++ map erase_datum
-    (plain_fields (data_fields ys)) ∷ []) c.deref.ensures.value
-    ∙ sym (data_taken xs i c.tuple-item.result c.loop-tuple-test.true c.tuple-item.is))
-    (c.in_ok-load_tuple.ensures (map (map erase_datum) (data_of (take i xs))) c.loop-tuple.invariant)
+    let inv = c.loop-tuple.invariant in
+    let ss = c.args.starts.now in
+    record {
+      heap = subst (λ (h : EHeap). IsHeap c.load_tuple.new.heap h)
+          (ap (λ (ys : List (Value × TType × Span)). map (map erase_datum) (data_of (take i xs)) ++ map erase_datum
+          (plain_fields (data_fields ys)) ∷ []) c.deref.ensures.value
+          ∙ sym (data_taken xs i c.tuple-item.result c.loop-tuple-test.true c.tuple-item.is))
+          (c.in_ok-load_tuple.ensures.heap (map (map erase_datum) (data_of (take i xs))) inv.heap);
+      started = c.in_ok-load_tuple.ensures.started inv.started;
+    }
 
-pub returns : goal.returns
-returns c =
+pub returns-clause-heap : goal.returns-clause-heap
+returns-clause-heap c =
     subst (λ (xs : List Data). IsHeap c.loop-tuple.heap (map (map erase_datum) (data_of xs)))
-    (take_all c.loop-tuple.tuple-index c.args.tuples.now c.loop-tuple-test.false) c.loop-tuple.invariant
+    (take_all c.loop-tuple.tuple-index c.args.tuples.now c.loop-tuple-test.false) c.loop-tuple.invariant.heap
+
+pub returns-clause-started : goal.returns-clause-started
+returns-clause-started c = c.loop-tuple.invariant.started

@@ -1,12 +1,14 @@
 use Rattle.std.proofs.Common.{List, ◌∷◌, [], ◌++◌, ◌∙◌, map, take, ap, sym, append_assoc}
 use Rattle.std.proofs.lemmas.List.{map-append, append-nil, take_all}
+use Rattle.std.proofs.lemmas.List.Elements.{All-same, All-push}
 use Rattle.idx_core.specs.declared.span.Span.{Span}
 use Rattle.t_types.specs.declared.types.TType.{TType}
 use Rattle.t_terms.specs.declared.value.Value.{Value}
 use Rattle.t_terms.specs.Read.{data_fields}
 use Rattle.t_terms.specs.Spanned.{plain_fields}
-use Rattle.t_rules.specs.Erase.{EWord, erase_datum}
+use Rattle.t_rules.specs.Erase.{erase_datum}
 use Rattle.t_machine.specs.Cells.{cells_of}
+use Rattle.t_machine.specs.Heap.{Started}
 use Rattle.t_machine.specs.Words.{word}
 use Rattle.t_machine.specs.declared.word.Word.{Word}
 use Rattle.t_machine.proofs.Tuples.{tuple_added}
@@ -16,34 +18,42 @@ use Rattle.t_machine.proofs.loading.load_tuple.Goals as goal
 pub loop-field-init : goal.loop-field-init
 loop-field-init c =
     record {
-      starts = c.in_ok-push.ensures.items ∙ ap (λ n. c.args.heap.now.starts.items ++ n ∷ []) c.len.ensures;
+      count = c.in_ok-heap.ensures;
       cells = sym (append-nil (map word (cells_of c.args.heap.now.cells)));
+      started = λ all. all;
     }
 
 pub loop-field-preserved : goal.loop-field-preserved
 loop-field-preserved c =
     let l = c.loop-field in
     let xs = c.args.fields.now in
-    let done : List EWord = map erase_datum (plain_fields (data_fields (take l.field-index xs))) in
+    let ss = c.args.starts.now in
+    let w = c.in_ok-word.word in
     record {
-      starts = l.invariant.starts;
+      count = l.invariant.count;
       cells =
-          ap (λ (ws : List Word). map word ws) c.in_ok-push-2.ensures
-          ∙ map-append word (cells_of l.heap.cells) (c.data_word.result ∷ [])
-          ∙ ap (λ ws. ws ++ word c.data_word.result ∷ []) l.invariant.cells
+          ap (λ (ws : List Word). map word ws) c.in_ok-push.ensures
+          ∙ map-append word (cells_of l.heap.cells) (w ∷ [])
+          ∙ ap (λ ws. ws ++ word w ∷ []) l.invariant.cells
           ∙ append_assoc (map word (cells_of c.args.heap.now.cells))
-          (map erase_datum (plain_fields (data_fields (take l.field-index xs)))) (word c.data_word.result ∷ [])
-          ∙ ap (λ w. map word (cells_of c.args.heap.now.cells) ++
-          (map erase_datum (plain_fields (data_fields (take l.field-index xs))) ++ w ∷ [])) c.data_word.ensures
+          (map erase_datum (plain_fields (data_fields (take l.field-index xs)))) (word w ∷ [])
+          ∙ ap (λ v. map word (cells_of c.args.heap.now.cells) ++
+          (map erase_datum (plain_fields (data_fields (take l.field-index xs))) ++ v ∷ [])) c.in_ok-word.ensures.same
           ∙ ap (λ ws. map word (cells_of c.args.heap.now.cells) ++ ws)
           (sym (words_taken xs l.field-index c.field-item.result c.loop-field-test.true c.field-item.is));
+      started = λ all. All-same (Started ss) (cells_of c.push.new.self) (cells_of l.heap.cells ++ w ∷ [])
+          c.in_ok-push.ensures (All-push (Started ss) (cells_of l.heap.cells) w (l.invariant.started all)
+          c.in_ok-word.ensures.started);
     }
 
-pub returns : goal.returns
-returns c =
+pub returns-clause-heap : goal.returns-clause-heap
+returns-clause-heap c =
     let l = c.loop-field in
     let all = take_all l.field-index c.args.fields.now c.loop-field-test.false in
     λ h is.
     tuple_added c.args.heap.now l.heap h (map erase_datum (plain_fields (data_fields c.args.fields.now))) is
     (l.invariant.cells ∙ ap (λ (xs : List (Value × TType × Span)). map word (cells_of c.args.heap.now.cells) ++ map
-    erase_datum (plain_fields (data_fields xs))) all) l.invariant.starts
+    erase_datum (plain_fields (data_fields xs))) all) l.invariant.count
+
+pub returns-clause-started : goal.returns-clause-started
+returns-clause-started c = c.loop-field.invariant.started

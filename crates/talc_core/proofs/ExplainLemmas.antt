@@ -4,13 +4,11 @@ use Rattle.std.specs.Prelude.{Result, IfOk, if◌then◌else◌}
 use Rattle.idx_core.specs.declared.span.Span.{Span}
 use Rattle.idx_core.specs.declared.memory.OutOfMemory.{OutOfMemory}
 use Rattle.f_terms.specs.declared.fault.Code.{Code}
-use Rattle.f_terms.specs.Faults as typing
 use Rattle.f_terms.specs.Ty.{NoTys}
 use Rattle.f_terms.specs.Tm.{plain}
 use Rattle.f_terms.specs.Read.{place}
 use Rattle.f_terms.specs.Accepted.{IsAccepted}
 use Rattle.f_check.specs.Mismatch.{FaultWith}
-use Rattle.f_check.specs.Laws as source_at_odds
 use Rattle.t_terms.specs.declared.fault.TCode.{TCode}
 use Rattle.t_terms.specs.Spanned.{SProg}
 use Rattle.t_rules.specs.Faults.{ProgramFault}

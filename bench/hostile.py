@@ -271,12 +271,12 @@ def put(path, text):
 
 class Pair:
     """A text at two sizes, the second ten times the first: its bytes, the files that hold it, and what it asks for,
-    which is its bytes, or the parts of types where these are more."""
+    in bytes of text or, where more is asked, in parts of types."""
 
     def __init__(self, make, n, paths, asks):
         self.name, self.paths = make.__name__, paths
         self.small, self.large = put(paths[0], make(n)), put(paths[1], make(10 * n))
-        self.asked = (max(self.small, asks(n)), max(self.large, asks(10 * n))) if asks else (self.small, self.large)
+        self.asked = (asks(n), asks(10 * n)) if asks else (self.small, self.large)
 
     def most_times(self):
         return MOST_TIMES * self.asked[1] / self.asked[0] / 10

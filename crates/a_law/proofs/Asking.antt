@@ -207,5 +207,5 @@ module _ (ds : List HVal) where
 pub mallocs_are_asked : MallocsAreAsked
 mallocs_are_asked p main ks t s =
     let ds = tuples_in ks t in
-    let a = of_term ds main t [] [] [] 0 s.2 in
-    (of_blocks ds p.blocks ks s.1, omega (arith, a))
+    let a = of_term ds main t [] [] [] 0 s.3 in
+    (of_blocks ds p.blocks ks s.2, omega (arith, a))

@@ -1,5 +1,6 @@
 -- What the closed calculus shows of its types, as the laws of its crate say it.
-use Rattle.c_terms.specs.Laws.{LiftIsShift, FirstIsPut, CPutIsPut, InIsBelow}
+use Rattle.term_core.specs.Laws.{LiftIsShift, FirstIsPut, InIsBelow}
+use Rattle.c_terms.specs.Laws.{CPutIsPut}
 use Rattle.c_terms.specs.Puts.{OneByOne}
 
 pub record CLaws : Type 0 where

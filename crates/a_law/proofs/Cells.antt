@@ -2,11 +2,12 @@
 use Rattle.std.proofs.Common.{◌≡◌, ◌<◌, ◌⊎◌, inl, inr, ⊎_elim, ℕ, zero, suc, List, [], ◌∷◌, ◌++◌, length, Option, Some}
 use Rattle.std.proofs.Common.{None, refl, sym, ap, ◌∙◌, subst, arith, length-append}
 use Rattle.std.specs.Prelude.{slice_get, slice_set}
-use Rattle.a_law.proofs.Rel.{Grows, Moves, Rel, Stores, Valid, fresh, holds_moves, moves_grow, nth_end, nth_more}
-use Rattle.a_law.proofs.Rel.{nth_seam, rel_grows, rel_moves}
+use Rattle.a_law.proofs.Rel.{Grows, Moves, Rel, Stores, Valid, fresh, holds_moves, moves_grow, nth_end, nth_seam}
+use Rattle.a_law.proofs.Rel.{rel_grows, rel_moves}
 use Rattle.a_terms.specs.Meaning.{AHeap, AWord}
 use Rattle.a_terms.specs.Tree.{AConsts}
 use Rattle.h_terms.specs.Meaning.{HWord, HWords, MoreHWords, NoHWords, hheld, hhold, hone_more, hsize}
+use Rattle.idx_core.proofs.Lists.{set_same as nth_put_same, get_front as nth_more}
 
 pub none_some : {A : Type 0} (x : A) → None ≡ Some x → ⊥
 none_some x e = cc
@@ -25,12 +26,6 @@ nth_one [] y x zero e = inr (refl, cc)
 nth_one [] y x (suc i) e = absurd (none_some x e)
 nth_one (z ∷ xs) y x zero e = inl e
 nth_one (z ∷ xs) y x (suc i) e = ⊎_elim (λ l. inl l) (λ r. inr (ap suc r.0, r.1)) (nth_one xs y x i e)
-
-nth_put_same : {A : Type 0} (xs : List A) (i : ℕ) (x y : A) → slice_get xs i ≡ Some x →
-    slice_get (slice_set xs i y) i ≡ Some y
-nth_put_same [] i x y e = absurd (none_some x e)
-nth_put_same (z ∷ xs) zero x y e = refl
-nth_put_same (z ∷ xs) (suc i) x y e = nth_put_same xs i x y e
 
 nth_put_other : {A : Type 0} (xs : List A) (i j : ℕ) (y : A) → (i ≡ j → ⊥) →
     slice_get (slice_set xs i y) j ≡ slice_get xs j

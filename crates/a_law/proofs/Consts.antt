@@ -1,7 +1,7 @@
 -- The numbers of data.
-use Rattle.std.proofs.Common.{◌≡◌, ℕ, suc, ◌+◌, List, [], ◌∷◌, ◌++◌, length, Some, refl, sym, ap, ◌∙◌, arith}
+use Rattle.std.proofs.Common.{◌≡◌, ℕ, suc, ◌+◌, List, [], ◌∷◌, ◌++◌, length, Some, sym, ap, ◌∙◌, arith}
 use Rattle.std.proofs.Common.{length-append}
-use Rattle.std.specs.Prelude.{Bool, true, false, ◌&&◌, slice_get}
+use Rattle.std.specs.Prelude.{Bool, true, false, slice_get}
 use Rattle.a_law.specs.Allocate.{Known, are_const, arg_depth, arg_levels, atypes, d_next, d_types, data_all}
 use Rattle.a_law.specs.Allocate.{data_block, data_d, data_t, data_v, data_vs, datum_of, known_of, n_all, n_block, n_d}
 use Rattle.a_law.specs.Allocate.{n_t, n_v, n_vs, one_more, v_next}
@@ -10,14 +10,7 @@ use Rattle.a_terms.specs.Tree.{AConsts, ATy}
 use Rattle.a_terms.specs.Typing.{types_of}
 use Rattle.h_terms.specs.H.{HApply, HArith, HBlk, HBlks, HCall, HCell, HDecl, HGet, HHalt, HIf, HInt, HLabel, HLet}
 use Rattle.h_terms.specs.H.{HName, HPack, HProj, HSet, HTm, HTuple, HUnpack, HVal, HVals, HVar, MoreHVals, NoHVals}
-use Rattle.a_law.proofs.Rel.{nth_more}
-
-pub both_true : (a b : Bool) → a && b ≡ true → (a ≡ true) × (b ≡ true)
-both_true true b e = (refl, e)
-both_true false b e = absurd (impossible e)
-  where
-    impossible : false ≡ true → ⊥
-    impossible x = cc
+use Rattle.idx_core.proofs.Lists.{get_front as nth_more}
 
 -- xs stand in D from number b on
 abbrev pub Within : {A : Type 0} → List A → ℕ → List A → Type 0

@@ -3,9 +3,9 @@
 use Rattle.std.proofs.Common.{◌≡◌, ◌+◌, ℕ, zero, suc, List, [], ◌∷◌, ◌++◌, Option, Some, None, refl, sym, ap, ◌∙◌}
 use Rattle.std.proofs.Common.{subst, ap₂, arith}
 use Rattle.std.specs.Prelude.{Bool, true, false, ◌&&◌, not, map, slice_get}
-use Rattle.std.proofs.lemmas.Bool.{ltb-true}
+use Rattle.std.proofs.lemmas.Bool.{ltb-true, not-true as not_true, and_parts as both_true}
 use Rattle.a_law.proofs.CLaws.{CLaws}
-use Rattle.a_law.proofs.Consts.{Within, back, both_true, datum_there, front, len_d, len_t, len_v}
+use Rattle.a_law.proofs.Consts.{Within, back, datum_there, front, len_d, len_t, len_v}
 use Rattle.a_law.proofs.Readings.{Labels-of, field_full, fields_are, full_is, scope_shifted, type_read, types_read}
 use Rattle.a_law.proofs.Types.{apply_is, atype_hidden, atype_suc}
 use Rattle.a_law.specs.Allocate.{Known, afull, all_closed, are_const, arg_levels, atype, atypes, closed, const_of}
@@ -30,26 +30,22 @@ use Rattle.h_terms.specs.H.{block_at}
 use Rattle.term_core.specs.Ends.{lift}
 
 mutual
-  closed_in : (t : ATy) (n : ℕ) → closed n t ≡ true → ABelow n t
+  pub closed_in : (t : ATy) (n : ℕ) → closed n t ≡ true → ABelow n t
   closed_in AInt n e = tt
   closed_in (AVar i) n e = ltb-true i n e
   closed_in (ATuple fs) n e = fields_in fs n e
   closed_in (ACode m ts) n e = (tt, all_in ts (n + m) e)
   closed_in (AExists t) n e = (tt, closed_in t (n + 1) e)
 
-  all_in : (ts : ATys) (n : ℕ) → all_closed n ts ≡ true → ABelow-types n ts
+  pub all_in : (ts : ATys) (n : ℕ) → all_closed n ts ≡ true → ABelow-types n ts
   all_in NoATys n e = tt
   all_in (MoreATys t ts) n e =
       let r = both_true (closed n t) (all_closed n ts) e in (closed_in t n r.0, all_in ts n r.1)
 
-  fields_in : (fs : AFields) (n : ℕ) → fields_closed n fs ≡ true → ABelow-fields n fs
+  pub fields_in : (fs : AFields) (n : ℕ) → fields_closed n fs ≡ true → ABelow-fields n fs
   fields_in NoAFields n e = tt
   fields_in (MoreAFields t f fs) n e =
       let r = both_true (closed n t) (fields_closed n fs) e in (closed_in t n r.0, fields_in fs n r.1)
-
-not_true : (b : Bool) → not b ≡ true → b ≡ false
-not_true true e = sym e
-not_true false e = refl
 
 no_pack : (c : AVal) → is_pack c ≡ false → Unpacked c
 no_pack (Var n) e = tt

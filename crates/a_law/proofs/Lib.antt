@@ -3,7 +3,7 @@ mod Asking
 mod CLaws
 mod Cells
 pub mod Consts
-mod Data
+pub mod Data
 mod Endings
 mod FilledAlike
 mod Fits
@@ -12,6 +12,7 @@ mod Known
 mod Meaning
 mod OneAllocating
 mod OneValue
+mod OneData
 mod Posts
 mod PutBack
 mod Readings
@@ -22,7 +23,7 @@ mod Scopes
 mod Settling
 mod Shown
 mod Standing
-mod Thirds
+pub mod Thirds
 mod Types
 mod Typing
 mod Values

@@ -19,17 +19,17 @@ use Rattle.a_terms.specs.Tree.{ATys, NoATys, MoreATys, AVal, Var, ADecl, Value, 
 use Rattle.a_terms.specs.Tree.{Let, Call, If0, Halt, ABlk, AConsts, arity}
 use Rattle.a_law.specs.Allocate.{alloc_main, alloc_prog, atypes}
 use Rattle.a_law.specs.Constants.{Constants, constant, constant_at, of_args, tuples_in}
-use Rattle.a_law.specs.Stands.{Thing, Is, Gone, listed, made_at, takes, Stands_v, Stands_vs, Shows, Any, Filling}
+use Rattle.a_law.specs.Stands.{AllocStands, Thing, Is, Gone, listed, made_at, takes, Stands_v, Stands_vs, Shows, Any}
+use Rattle.a_law.specs.Stands.{Filling}
 use Rattle.a_law.specs.Stands.{Content}
 use Rattle.a_law.specs.Stands.{Unit_named, Stands_t, Stands_all, arg_things}
 use Rattle.a_law.specs.Statements.{AllocKept, StandingMeansTheSame, ends}
 use Rattle.a_law.proofs.Cells.{cell_holds, held_at, moves_cell, moves_set, stores_cell, stores_grow, stores_set}
 use Rattle.a_law.proofs.Cells.{valid_of}
-use Rattle.a_law.proofs.Rel.{Grows, Moves, Rel, Rels, Stores, fresh, moves_grow, nth_more, nth_seam, put_seam}
-use Rattle.a_law.proofs.Rel.{rels_grow}
+use Rattle.a_law.proofs.Rel.{Grows, Moves, Rel, Rels, Stores, fresh, moves_grow, nth_seam, put_seam, rels_grow}
 use Rattle.a_law.proofs.Shown.{Agree, Known, Reads, agree_moves, agree_more, constant_is, known_more, value_reads}
 use Rattle.a_law.proofs.Shown.{values_read}
-use Rattle.a_law.proofs.Standing.{alloc_stands}
+use Rattle.idx_core.proofs.Lists.{get_front as nth_more}
 
 -- a run that is not stuck
 abbrev Unstuck : End → Type 0
@@ -612,15 +612,15 @@ unstuck Stuck f = f refl
 pub standing_means : HNeverStuck → StandingMeansTheSame
 standing_means never p main ks t good s n =
     let ds = tuples_in ks t in
-    let follows = follows_n p.tuples ds s.0 ks p.blocks s.1 n in
+    let follows = follows_n p.tuples ds s.0 ks p.blocks s.2 n in
     term_rel p.tuples ds s.0 ks (henter ks n) (A.calls p.blocks n) follows main t [] [] [] 0 NoHWords []
-    (A.start_heap p.tuples) NoHWords [] [] s.2 (record {
+    (A.start_heap p.tuples) NoHWords [] [] s.3 (record {
       stores = no_cells p.tuples ds s.0 ks;
       agree = tt;
       known = λ i c f. absurd (empty p.tuples ds s.0 ks i c f);
     }) (unstuck (hrun n ks t).end (never ks t good n))
 
 -- so does the allocation
-pub alloc_kept : HNeverStuck → AllocKept
-alloc_kept never ks t good n =
-    standing_means never (alloc_prog ks t) (alloc_main ks t) ks t good (alloc_stands ks t good) n
+pub alloc_kept : HNeverStuck → AllocStands → AllocKept
+alloc_kept never stands ks t good n =
+    standing_means never (alloc_prog ks t) (alloc_main ks t) ks t good (stands ks t good) n

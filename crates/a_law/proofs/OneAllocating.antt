@@ -14,6 +14,7 @@ use Rattle.a_law.proofs.Endings.{Ends, Makes, begins, all_there}
 use Rattle.a_law.proofs.FilledAlike.{head_is, alike, apart, cancel, count_fields}
 use Rattle.a_law.proofs.OneValue.{Good, good_none, good_gone, good_is, one_value, as_many}
 use Rattle.a_law.proofs.Posts.{things_posts, first_posts, fields_of, to_come_filled}
+use Rattle.a_law.proofs.OneData.{one_data}
 use Rattle.a_law.proofs.Inside.{inside, first_value, more_values, no_values}
 
 none_more : {A : Type 0} (x : A) (xs : List A) → [] ≡ x ∷ xs → ⊥
@@ -215,4 +216,5 @@ module _ (ds : List HVal) where
 pub one_allocation : OneAllocation
 one_allocation p q m n ks t s r =
     let ds = tuples_in ks t in
-    (all_one ds p.blocks q.blocks ks s.1 r.1, one_term ds t [] [] 0 m n (good_none 0) s.2 r.2)
+    let blocks = all_one ds p.blocks q.blocks ks s.2 r.2 in
+    (blocks, one_term ds t [] [] 0 m n (good_none 0) s.3 r.3, one_data p q ds blocks s.0 r.0 s.1 r.1)

@@ -385,6 +385,6 @@ put_back p main ks t s c d =
     let ds = tuples_in ks t in
     let no = all_no (tuples_all ks) (tuples_t [] t) (tuples_all_no ks c) (tuples_t_no t [] tt d) in (
       data_back ds p.tuples ds s.0 no,
-      blocks_back ds p.blocks ks s.1 c,
-      term_back ds main t [] [] 0 [] [] s.2 d (λ i. tt),
+      blocks_back ds p.blocks ks s.2 c,
+      term_back ds main t [] [] 0 [] [] s.3 d (λ i. tt),
     )

@@ -1,5 +1,5 @@
 -- Hoisted values and allocated words; variables by level, and the constants that they name; data in the heap.
-use Rattle.std.proofs.Common.{◌≡◌, ◌<◌, ℕ, zero, suc, ◌-◌, List, [], ◌∷◌, ◌++◌, length, Option, Some, None, refl, ap}
+use Rattle.std.proofs.Common.{◌≡◌, ◌<◌, ℕ, zero, suc, ◌-◌, List, [], ◌∷◌, ◌++◌, length, Option, Some, refl, ap}
 use Rattle.std.proofs.Common.{◌∙◌, arith}
 use Rattle.std.specs.Prelude.{map, slice_get, slice_set}
 use Rattle.a_terms.specs.Meaning.{AHeap, AWord, ZInt, ZLabel, ZTuple, datum}
@@ -131,11 +131,3 @@ put_seam [] ys y z zero e = refl
 put_seam [] ys y z (suc i) e = absurd (omega arith)
 put_seam (x ∷ xs) ys y z zero e = absurd (omega arith)
 put_seam (x ∷ xs) ys y z (suc i) e = ap (λ q. x ∷ q) (put_seam xs ys y z i (omega arith))
-
-pub nth_more : {A : Type 0} (xs ys : List A) (i : ℕ) (x : A) → slice_get xs i ≡ Some x → slice_get (xs ++ ys) i ≡ Some x
-nth_more [] ys i x e = absurd (impossible e)
-  where
-    impossible : None ≡ Some x → ⊥
-    impossible q = cc
-nth_more (z ∷ xs) ys zero x e = e
-nth_more (z ∷ xs) ys (suc i) x e = nth_more xs ys i x e

@@ -1,11 +1,11 @@
 -- Worked rows of allocation: hoisted terms and what they become, held beside the relation, and allocated terms that no
 -- hoisted term stands behind.
-use Rattle.std.proofs.Common.{pos, ◌≡◌, ℕ, zero, suc, List, [], ◌∷◌, ◌++◌, refl, arith, inl, inr}
+use Rattle.std.proofs.Common.{Some, pos, ◌≡◌, ℕ, zero, suc, List, [], ◌∷◌, ◌++◌, refl, arith, inl, inr}
 use Rattle.std.specs.Prelude.{true}
 use Rattle.idx_core.specs.declared.arith.Op.TheVariants.{Add}
 use Rattle.a_terms.specs.Meaning.{Halted, meaning}
 use Rattle.a_terms.specs.Tree.{AInt, AVar, ATuple, AExists, ATy, NoATys, MoreATys, MoreAFields, NoAFields, Var, Num}
-use Rattle.a_terms.specs.Tree.{Lab, Data, Apply, Pack, Value, Proj, Arith, Malloc, Init, ATm, Let, Halt}
+use Rattle.a_terms.specs.Tree.{AProg, Lab, Data, Apply, Pack, Value, Proj, Arith, Malloc, Init, ATm, Let, Halt}
 use Rattle.c_terms.specs.C.{CTy, TCInt, TCRef, TCVar, TCSome, NoCTys, MoreCTys}
 use Rattle.h_terms.specs.H.{HVar, HInt, HLabel, HTuple, HApply, HPack, HVal, NoHVals, MoreHVals, HName, HProj, HCell}
 use Rattle.h_terms.specs.H.{HGet, HSet, HTm, HLet, HHalt, HBlk}
@@ -317,6 +317,7 @@ exchanged = Let (Value (Data 1)) (Let (Value (Data 0)) (Let (Proj 1 (Var 0)) (Ha
 exchanged_stands : Stands (alloc_prog [] twins) exchanged [] twins
 exchanged_stands = (
   (_, _, refl, (_, _, refl, refl, refl), (_, _, refl, (_, _, refl, refl, refl), refl)),
+  ((refl, tt), ((refl, tt), tt)),
   tt,
   (
     _,
@@ -330,3 +331,13 @@ exchanged_stands = (
 
 exchanged_halts : meaning (alloc_prog [] twins) exchanged 0 ≡ Halted (pos 7) []
 exchanged_halts = refl
+
+-- nor may the type that is written at a field of data be another than its value's
+abbrev mistyped : AProg
+mistyped = record { blocks = []; tuples = (record { value = Num (pos 7); kind = ATuple NoAFields } ∷ []) ∷ [] }
+
+not_of_type : (main : ATm) (h : HTm) → Stands mistyped main [] h → ⊥
+not_of_type main h s = not_int s.1.0.0
+  where
+    not_int : Some AInt ≡ Some (ATuple NoAFields) → ⊥
+    not_int e = cc

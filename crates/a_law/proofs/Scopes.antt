@@ -1,5 +1,5 @@
 -- The variables of a typed hoisted term are in scope.
-use Rattle.std.proofs.Common.{◌≡◌, ◌<◌, ℕ, zero, suc, List, [], ◌∷◌, length, ap, ◌∙◌, refl, arith}
+use Rattle.std.proofs.Common.{◌≡◌, ◌<◌, ℕ, zero, suc, List, [], ◌∷◌, length, ap, ◌∙◌, arith}
 use Rattle.a_law.specs.Allocate.{atypes}
 use Rattle.a_law.specs.Back.{arg_count}
 use Rattle.c_terms.specs.C.{CTy, CTys, MoreCTys, NoCTys, TCInt, TCRef, TCSome, TCTuple}
@@ -7,6 +7,7 @@ use Rattle.c_terms.specs.Typing.{CAt, cargs_onto, crens_scope}
 use Rattle.h_terms.specs.H.{HApply, HArith, HBlks, HCall, HCell, HDecl, HGet, HHalt, HIf, HInt, HLabel, HLet, HName}
 use Rattle.h_terms.specs.H.{HPack, HProj, HSet, HTm, HTuple, HUnpack, HVal, HVals, HVar, MoreHVals, NoHVals}
 use Rattle.h_terms.specs.Typing.{HGood, HHas, HHave}
+use Rattle.term_core.proofs.Scopes.{scope_length}
 
 abbrev mutual
   pub InV : ℕ → HVal → Type 0
@@ -55,10 +56,6 @@ mutual
       InVs k vs
   in_vs ks n g k e NoHVals ts h = tt
   in_vs ks n g k e (MoreHVals v vs) ts h = (in_v ks n g k e v h.0 h.3, in_vs ks n g k e vs h.1 h.4)
-
-scope_length : (r : ℕ → ℕ) (g : List CTy) → length (crens_scope r g) ≡ length g
-scope_length r [] = refl
-scope_length r (t ∷ g) = ap suc (scope_length r g)
 
 pub in_t : (ks : HBlks) (n : ℕ) (g : List CTy) (k : ℕ) → length g ≡ k → (t : HTm) → HGood ks n g t → InT k t
 in_t ks n g k e (HLet (HName v) t) h = (in_v ks n g k e v h.0 h.1, in_t ks n (h.0 ∷ g) (suc k) (ap suc e) t h.2)

@@ -12,21 +12,21 @@ use Rattle.a_law.specs.Allocate.{all_closed, atype, atypes, closed, is_label}
 use Rattle.a_law.specs.Constants.{Constants, constant, constant_at, constants, is_package, packed, two}
 use Rattle.a_law.specs.Stands.{Thing, Is, Made, Gone, thing_at, Means, Stands_v, Stands_vs, Shows, Shows_fields}
 use Rattle.a_law.specs.Stands.{Shows_v, listed}
-use Rattle.a_law.proofs.Consts.{both_true}
 use Rattle.a_law.proofs.OneValue.{form}
 use Rattle.a_law.proofs.Rel.{Holds, Moves, Rel, Rels, rel_moves}
 use Rattle.a_law.proofs.Inside.{inside, applied, content, first_value, more_values, no_values}
 use Rattle.a_law.proofs.Cells.{none_some}
+use Rattle.std.proofs.lemmas.Bool.{and_parts as both_true}
 
 some_is : {A : Type 0} {x y : A} → Some x ≡ Some y → x ≡ y
 some_is e = cc
 
 -- equal values have one form
-other : (v w : HVal) → v ≡ w → (form v ≡ form w → ⊥) → ⊥
+pub other : (v w : HVal) → v ≡ w → (form v ≡ form w → ⊥) → ⊥
 other v w e f = f (ap form e)
 
 -- the data tuple of a constant
-shows_at : (ds : List HVal) (xs : List AConsts) (us : List HVal) (n : ℕ) (c : HVal) → Shows ds xs us →
+pub shows_at : (ds : List HVal) (xs : List AConsts) (us : List HVal) (n : ℕ) (c : HVal) → Shows ds xs us →
     slice_get us n ≡ Some c →
     (x : AConsts) × (vs : HVals) × (slice_get xs n ≡ Some x) × (c ≡ HTuple vs) × Shows_fields ds x vs
 shows_at ds [] us n c s e = absurd (none_some c (sym (ap (λ z. slice_get z n) s) ∙ e))

@@ -7,18 +7,22 @@ use Rattle.a_law.proofs.Consts.{Within, back, front, whole}
 use Rattle.a_law.proofs.Known.{AgreeK, Told, all_shows, agree_args, fact, fact_all, fact_block, fact_d, fact_t}
 use Rattle.a_law.proofs.Rel.{At, Later, at_more, at_new}
 use Rattle.a_law.proofs.Scopes.{InT, InV, InVs, args_length, in_t}
-use Rattle.a_law.specs.Allocate.{Known, alloc_all, alloc_t, are_const, arg_depth, arg_levels, atypes, d_types}
+use Rattle.a_law.specs.Allocate.{Known, alloc_all, alloc_data, alloc_prog, alloc_t, are_const, arg_depth, arg_levels}
+use Rattle.a_law.specs.Allocate.{atypes, d_types}
 use Rattle.a_law.specs.Allocate.{data_all, data_t, dcl, fill, final, known_of, level_of, n_all, n_block, n_d, n_t, n_v}
 use Rattle.a_law.specs.Allocate.{n_vs, plain, pre_v, pre_vs, v_next, v_type, v_types, val, vals, var_of, vs_next}
 use Rattle.a_law.specs.Back.{arg_count}
 use Rattle.a_law.specs.Constants.{Constants, constant, named_by, of_args, one_if, tuples_all, tuples_d, tuples_in}
 use Rattle.a_law.specs.Constants.{tuples_t, tuples_v, tuples_vs}
-use Rattle.a_law.specs.Stands.{AllocStands, Any, Filling, Gone, Is, Made, Means, Stands_all, Stands_t, Stands_v}
+use Rattle.a_law.specs.Statements.{AllocTypesKept}
+use Rattle.a_law.specs.Stands.{AllHaveKinds, AllocStands, Any, HasKinds, Filling, Gone, Is, Made, Means, Stands_all}
+use Rattle.a_law.specs.Stands.{Stands_t, Stands_v}
 use Rattle.a_law.specs.Stands.{Stands_vs, Thing, all_take, arg_things, listed, takes, thing_at, tuple_of}
 use Rattle.a_terms.specs.Meaning.{pick}
-use Rattle.a_terms.specs.Tree.{AVal, ATm, ATy, ATys, Call, Data, Halt, If0, Init, Let, Malloc, MoreATys, NoATys, Var}
+use Rattle.a_terms.specs.Tree.{AConsts, AProg, AVal, ATm, ATy, ATys, Call, Data, Halt, If0, Init, Let, Malloc, MoreATys}
+use Rattle.a_terms.specs.Tree.{NoATys, Var}
 use Rattle.a_terms.specs.Tree.{arity}
-use Rattle.a_terms.specs.Typing.{types_of}
+use Rattle.a_terms.specs.Typing.{Data-ok, Tuples-ok, types_of}
 use Rattle.c_terms.specs.C.{CTys, MoreCTys, NoCTys}
 use Rattle.c_terms.specs.Typing.{cargs_onto}
 use Rattle.h_terms.specs.H.{HApply, HArith, HBlks, HCall, HCell, HDecl, HGet, HHalt, HIf, HInt, HLabel, HLet, HName}
@@ -590,8 +594,17 @@ module _ (ds : List HVal) where
           all_stand xs b1 w1 h.1,
         )
 
-pub alloc_stands : AllocStands
-alloc_stands ks t h =
+-- typed data have the types that are written
+has_kinds : (p : AProg) (x : AConsts) → Data-ok p x → HasKinds p x
+has_kinds p [] h = tt
+has_kinds p (c ∷ cs) h = (h.0.0.is, has_kinds p cs h.1)
+
+all_have_kinds : (p : AProg) (xs : List AConsts) → Tuples-ok p xs → AllHaveKinds p xs
+all_have_kinds p [] h = tt
+all_have_kinds p (x ∷ xs) h = (has_kinds p x h.0, all_have_kinds p xs h.1)
+
+pub alloc_stands : AllocTypesKept → AllocStands
+alloc_stands typed ks t h =
     let ds = tuples_in ks t in
     let us = tuples_all ks in
     let ws = tuples_t [] t in
@@ -601,6 +614,7 @@ alloc_stands ks t h =
     let w1 = back ds 0 b us ws f.0 (whole ds) in
     let m = fact_t ds ks t [] [] [] b 0 tt w1 in (
       all_shows ds (data_all ks 0 ks) (data_t ks [] [] b 0 t) us ws f.1 m.1,
+      all_have_kinds (alloc_prog ks t) (alloc_data ks t) (typed ks t h).tuples,
       all_stand ds ks ks 0 w0 h.0,
       stands_is ds ks t [] [] [] 0 b 0 [] w1 tt (in_t ks 0 [] 0 refl t h.1) tt,
     )

@@ -7,7 +7,7 @@ use Rattle.term_core.specs.Ends.{lift}
 use Rattle.c_terms.specs.C.{CTy, CTys, TCInt, TCVar, TCTuple, TCCode, TCSome, TCRef, NoCTys, MoreCTys, ccount}
 use Rattle.c_terms.specs.Typing.{cren, CIn, CIns, scons, csub, csubs, cup, names}
 use Rattle.c_terms.specs.Puts.{cputs, capply}
-use Rattle.c_terms.specs.Walks as c
+use Rattle.term_core.specs.Walks as c
 use Rattle.a_terms.specs.Tree.{ATy, AVar, ATuple, ACode, AExists, MoreATys, NoAFields, MoreAFields, over}
 use Rattle.a_terms.specs.Tree.{over_types, over_fields, ashift, aput, aput_types, ABelow, ABelow-types}
 use Rattle.a_terms.specs.Tree as a

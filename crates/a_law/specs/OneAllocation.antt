@@ -3,7 +3,7 @@
 use Rattle.std.specs.Prelude.{◌≡◌, ℕ, zero, suc, List, [], ◌∷◌}
 use Rattle.h_terms.specs.H.{HTm, HBlks}
 use Rattle.a_terms.specs.Tree.{ATys, NoATys, MoreATys, AInt, AVal, Var, Num, Lab, Data, Apply, Pack, ADecl, Value, Proj}
-use Rattle.a_terms.specs.Tree.{Arith, Unpack, Malloc, Init, ATm, Let, Call, If0, Halt, ABlk, AProg, arity}
+use Rattle.a_terms.specs.Tree.{Arith, Unpack, Malloc, Init, ATm, Let, Call, If0, Halt, ABlk, AConsts, AProg, arity}
 use Rattle.a_law.specs.Stands.{Stands}
 
 -- a value with the numbers of its data left aside
@@ -43,7 +43,17 @@ abbrev pub plain_blocks : List ABlk → List ABlk
 plain_blocks [] = []
 plain_blocks (b ∷ bs) = record { owes = b.owes; args = b.args; body = plain_term b.body } ∷ plain_blocks bs
 
+-- data with the numbers of those that their fields name left aside: the values, and the types that are written
+abbrev pub plain_fields : AConsts → AConsts
+plain_fields [] = []
+plain_fields (c ∷ cs) = record { value = unnumbered c.value; kind = c.kind } ∷ plain_fields cs
+
+abbrev pub plain_data : List AConsts → List AConsts
+plain_data [] = []
+plain_data (x ∷ xs) = plain_fields x ∷ plain_data xs
+
 abbrev pub OneAllocation : Type 0
 OneAllocation =
     (p q : AProg) (m n : ATm) (ks : HBlks) (t : HTm) → Stands p m ks t → Stands q n ks t →
     (plain_blocks p.blocks ≡ plain_blocks q.blocks) × (plain_term m ≡ plain_term n)
+    × (plain_data p.tuples ≡ plain_data q.tuples)

@@ -3,7 +3,8 @@
 -- them names, which is not one of constants alone, and types are those of hoisted types with every flag at 1. Each
 -- tuple that is made is taken once, and tuples are taken in the order in which they are made: by the next tuple, as a
 -- field, or by the next declaration, call, choice or halt. So none is idle, and none stands for two. A cell looks like
--- a tuple of one field, so at a malloc, an initialisation and a projection either may be meant.
+-- a tuple of one field, so at a malloc, an initialisation and a projection either may be meant. The type that is
+-- written at a field of data is that of its value.
 use Rattle.std.specs.Prelude.{◌≡◌, ◌⊎◌, ◌++◌, ℕ, zero, suc, ◌-◌, List, [], ◌∷◌, length, slice_get, Some, None}
 use Rattle.c_terms.specs.C.{CTy, CTys}
 use Rattle.h_terms.specs.H.{HVal, HVar, HInt, HLabel, HTuple, HApply, HPack, HVals, NoHVals, MoreHVals, HName, HProj}
@@ -11,6 +12,7 @@ use Rattle.h_terms.specs.H.{HArith, HUnpack, HCell, HGet, HSet, HTm, HLet, HCall
 use Rattle.h_terms.specs.Typing.{HProgramGood}
 use Rattle.a_terms.specs.Tree.{ATys, NoATys, MoreATys, AConsts, AVal, Var, Num, Lab, Data, Apply, Pack, Value, Proj}
 use Rattle.a_terms.specs.Tree.{Arith, Unpack, Malloc, Init, ATm, Let, Call, If0, Halt, ABlk, AProg, arity}
+use Rattle.a_terms.specs.Typing.{type_of}
 use Rattle.a_law.specs.Allocate.{atype, atypes, alloc_prog, alloc_main}
 use Rattle.a_law.specs.Constants.{Constants, constant, of_args, tuples_in}
 
@@ -105,6 +107,16 @@ Shows ds [] ws = ws ≡ []
 Shows ds (x ∷ xs) ws =
     (vs : HVals) × (us : List HVal) × (ws ≡ HTuple vs ∷ us) × Shows_fields ds x vs × Shows ds xs us
 
+-- the type that is written at each field of data is that of its value, in which no variable stands: so each flag in it
+-- is set
+abbrev pub HasKinds : AProg → AConsts → Type 0
+HasKinds p [] = Unit {0}
+HasKinds p (c ∷ cs) = (type_of p [] c.value ≡ Some c.kind) × HasKinds p cs
+
+abbrev pub AllHaveKinds : AProg → List AConsts → Type 0
+AllHaveKinds p [] = Unit {0}
+AllHaveKinds p (x ∷ xs) = HasKinds p x × AllHaveKinds p xs
+
 -- what is to come: anything; a tuple's fields, where these are filled, n + 1 are not, and those took these tuples; the
 -- content of a new cell; or the empty tuple that names an assignment
 pub data Mode : Type 0 where
@@ -198,11 +210,11 @@ Stands_all ds (b ∷ bs) (x ∷ xs) =
     × Stands_all ds bs xs
 
 -- a program stands for a hoisted program, block by block; its data tuples, one after the other, are the tuples of
--- constants of that
+-- constants of that, and have their types
 abbrev pub Stands : AProg → ATm → HBlks → HTm → Type 0
 Stands p main ks t =
-    Shows (tuples_in ks t) p.tuples (tuples_in ks t) × Stands_all (tuples_in ks t) p.blocks ks
-    × Stands_t (tuples_in ks t) [] Any [] [] 0 main t
+    Shows (tuples_in ks t) p.tuples (tuples_in ks t) × AllHaveKinds p p.tuples
+    × Stands_all (tuples_in ks t) p.blocks ks × Stands_t (tuples_in ks t) [] Any [] [] 0 main t
 
 -- the allocation of a typed program stands for it
 abbrev pub AllocStands : Type 0

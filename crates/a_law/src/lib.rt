@@ -12,6 +12,7 @@ pub fn meaning_is_kept()
     ensures { AllocKept }
 {
     h_terms::laws::h_never_stuck_law();
+    allocation_stands_for_its_program();
 }
 
 /// A typed program and whatever stands for it end alike within each number of calls, and enter the same blocks.
@@ -25,7 +26,8 @@ pub fn standing_means_the_same()
 pub fn types_are_kept()
     ensures { AllocTypesKept }
 {
-    c_terms::laws::words_law();
+    term_core::laws::words_law();
+    c_terms::laws::put_law();
     c_terms::laws::one_by_one_law();
     h_terms::laws::h_typed_is_any_law();
 }
@@ -34,14 +36,17 @@ pub fn types_are_kept()
 pub fn bounds_are_kept()
     ensures { AllocFits }
 {
-    c_terms::laws::words_law();
+    term_core::laws::words_law();
+    c_terms::laws::put_law();
     c_terms::laws::one_by_one_law();
 }
 
 /// The allocation of a typed program stands for it.
 pub fn allocation_stands_for_its_program()
     ensures { AllocStands }
-{}
+{
+    types_are_kept();
+}
 
 /// What stands for a program has one malloc for each of its tuples that are no constants, each of its cells and each of
 /// its assignments.
@@ -49,8 +54,8 @@ pub fn mallocs_are_asked()
     ensures { MallocsAreAsked }
 {}
 
-/// What stands for a program is one program, but for the types of its mallocs, which typing tells, and for which of
-/// equal data tuples is named where.
+/// What stands for a program is one program, its data and their types too, but for the types of its mallocs, which
+/// typing tells, and for which of equal data tuples is named where.
 pub fn one_program_stands_for_each()
     ensures { OneAllocation }
 {}

@@ -12,7 +12,7 @@ use Rattle.a_terms.specs.Arity.{ARow, ARows}
 use Rattle.a_terms.specs.Typing.{types_of}
 use Rattle.c_terms.specs.Read.{ctys}
 use Rattle.a_terms.specs.Read.{atrees}
-use Rattle.c_terms.specs.declared.types.CType.{CType}
+use Rattle.term_core.specs.declared.types.CoreType.{CoreType as CType}
 use Rattle.a_terms.specs.declared.types.AType.{AType}
 use Rattle.h_terms.specs.declared.node.HNode.{HNode}
 use Rattle.a_terms.specs.declared.nodes.ANode.{ANode}
@@ -20,6 +20,7 @@ use Rattle.h_terms.specs.declared.node.HBlock.{HBlock}
 use Rattle.a_terms.specs.declared.nodes.ABlock.{ABlock}
 use Rattle.a_terms.specs.declared.nodes.AData.{AData}
 use Rattle.a_law.proofs.Consts.{len_all}
+use Rattle.a_terms.proofs.Lists.{length_data}
 
 pub record BlocksMade (ks : pure.HBlks) (xs : List HBlock) (ys : List ABlock) (tuples : List AData) : Type 0 where
   pub made : a_blocks ys ≡ alloc_all ks 0 (h_blocks xs)
@@ -43,10 +44,6 @@ all_push ks c (z ∷ xs) x =
           ∙ sym (append_assoc (data_block ks c (h_block z)) (data_all ks (n_block c (h_block z)) (h_blocks xs))
           (data_block ks (n_all (n_block c (h_block z)) (h_blocks xs)) (h_block x))),
     )
-
-length_data : (ds : List AData) → length (a_data ds) ≡ length ds
-length_data [] = refl
-length_data (d ∷ ds) = ap suc (length_data ds)
 
 rows_push : (ys : List ABlock) (y : ABlock) → ARows ys → ARow y.body.items 1 → ARows (ys ++ y ∷ [])
 rows_push [] y h r = (r, tt)

@@ -1,6 +1,5 @@
 -- What is added to nodes, piece by piece.
 use Rattle.std.proofs.Common.{◌≡◌, ℕ, suc, List, [], ◌∷◌, ◌++◌, refl, sym, ap, ◌∙◌, subst, append_assoc, ap₂}
-use Rattle.std.proofs.Common.{length, arith}
 use Rattle.std.proofs.lemmas.List.{append-nil}
 use Rattle.a_terms.specs.Tree as a
 use Rattle.a_terms.specs.NodeTrees.{a_build, a_values, a_onto}
@@ -52,10 +51,6 @@ fill_step old mid end l i k j v vs ws is kl ji e f =
     emits_then old mid end _ _ e f in
     emits_same old end _ _ (λ r. ap₂ (λ x y. a.Let (a.Init (a.Var 0) i (value_at x v)) (inits x y vs r)) kl ji
     ∙ ap (λ xs. inits l i xs r) (sym is)) h
-
-pub nothing : {A : Type 0} (xs : List A) → length xs ≡ 0 → xs ≡ []
-nothing [] h = refl
-nothing (x ∷ xs) h = absurd (omega (arith, h))
 
 -- one node that initialises field 1
 pub emits_init : (old new : List ANode) (node : ANode) (v w : a.AVal) → new ≡ old ++ node ∷ [] → node.form ≡ A.Init 1 →

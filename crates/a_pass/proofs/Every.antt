@@ -2,7 +2,7 @@
 use Rattle.std.proofs.Common.{◌≡◌, ◌<◌, ◌≤◌, ℕ, zero, suc, ◌+◌, List, [], ◌∷◌, ◌++◌, Bool, true, false, refl, sym, ap}
 use Rattle.std.proofs.Common.{ap₂, ◌∙◌, length, take, get_or, arith}
 use Rattle.std.specs.Prelude.{◌&&◌, map}
-use Rattle.std.proofs.lemmas.Bool.{ltb-true, lt-ltb}
+use Rattle.std.proofs.lemmas.Bool.{lt-ltb, and_parts as and_true, and_from as true_both}
 use Rattle.std.proofs.lemmas.List.{take_all}
 use Rattle.a_terms.specs.ReadLaws.{took}
 use Rattle.a_terms.specs.Tree.{ABelow, ABelow-fields, ABelow-types, ACode, AExists, AFields, AInt, ATuple}
@@ -20,18 +20,12 @@ use Rattle.a_terms.specs.declared.types.AType.{AType}
 use Rattle.a_law.specs.Allocate.{Known, all_closed, closed, fields_closed, is_pack, is_some}
 use Rattle.a_pass.specs.declared.state.Seen.{Seen}
 use Rattle.a_pass.specs.Scope.{all_constants, constant_in, is_bare}
-use Rattle.a_pass.proofs.Steps.{wrapped_push}
+use Rattle.a_terms.proofs.Lists.{wrapped_snoc as wrapped_push}
+use Rattle.a_law.proofs.Data.{closed_in}
 
 abbrev pub every : {T : Type 0} → (T → Bool) → List T → Bool
 every f [] = true
 every f (x ∷ xs) = f x && every f xs
-
-and_true : (p q : Bool) → p && q ≡ true → (p ≡ true) × (q ≡ true)
-and_true true q e = (refl, e)
-and_true false q e = absurd (clash e)
-  where
-    clash : false ≡ true → ⊥
-    clash x = cc
 
 every_push : {T : Type 0} (f : T → Bool) (xs : List T) (x : T) → every f xs ≡ true → f x ≡ true →
     every f (xs ++ x ∷ []) ≡ true
@@ -69,26 +63,6 @@ constants_every ls [] = refl
 constants_every ls (s ∷ ss) = ap (λ b. is_some (constant_in ls s) && b) (constants_every ls ss)
 
 -- closed types
-true_both : (p q : Bool) → p ≡ true → q ≡ true → p && q ≡ true
-true_both p q e f = ap₂ (λ x y. x && y) e f
-
-mutual
-  closed_in : (t : ATy) (n : ℕ) → closed n t ≡ true → ABelow n t
-  closed_in AInt n e = tt
-  closed_in (AVar i) n e = ltb-true i n e
-  closed_in (ATuple fs) n e = fields_in fs n e
-  closed_in (ACode m ts) n e = (tt, all_in ts (n + m) e)
-  closed_in (AExists t) n e = (tt, closed_in t (n + 1) e)
-
-  all_in : (ts : ATys) (n : ℕ) → all_closed n ts ≡ true → ABelow-types n ts
-  all_in NoATys n e = tt
-  all_in (MoreATys t ts) n e = let r = and_true (closed n t) (all_closed n ts) e in (closed_in t n r.0, all_in ts n r.1)
-
-  fields_in : (fs : AFields) (n : ℕ) → fields_closed n fs ≡ true → ABelow-fields n fs
-  fields_in NoAFields n e = tt
-  fields_in (MoreAFields t f fs) n e =
-      let r = and_true (closed n t) (fields_closed n fs) e in (closed_in t n r.0, fields_in fs n r.1)
-
 mutual
   in_closed : (t : ATy) (n : ℕ) → ABelow n t → closed n t ≡ true
   in_closed AInt n h = refl

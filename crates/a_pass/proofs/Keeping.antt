@@ -4,7 +4,7 @@ use Rattle.std.proofs.Common.{◌∙◌}
 use Rattle.std.proofs.Common.{arith, subst}
 use Rattle.c_terms.specs.C.{TCTuple}
 use Rattle.c_terms.specs.Read.{ctree, ctys}
-use Rattle.c_terms.specs.declared.types.CType.{CType}
+use Rattle.term_core.specs.declared.types.CoreType.{CoreType as CType}
 use Rattle.a_terms.specs.Tree as a
 use Rattle.a_terms.specs.Typing.{field_of}
 use Rattle.a_law.specs.Allocate.{atype}

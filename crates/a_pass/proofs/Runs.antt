@@ -2,7 +2,7 @@
 use Rattle.std.proofs.Common.{◌≡◌, ◌<◌, ◌≤◌, ℕ, ◌+◌, List, [], ◌∷◌, ◌++◌, refl, sym, ap, ◌∙◌, subst}
 use Rattle.std.proofs.Common.{length, map, take, get_or}
 use Rattle.std.proofs.lemmas.List.{take_more, take_all, append-nil}
-use Rattle.h_terms.specs.H.{HVal, HBlks}
+use Rattle.h_terms.specs.H.{HBlks}
 use Rattle.a_terms.specs.Tree as a
 use Rattle.a_pass.specs.declared.state.Seen.{Seen}
 use Rattle.h_terms.specs.Nodes.{more, reads}
@@ -15,10 +15,7 @@ use Rattle.a_law.specs.Allocate.{Known}
 use Rattle.a_pass.specs.Scope.{value_at}
 use Rattle.a_pass.specs.Emits.{Made, Reads}
 use Rattle.a_pass.proofs.Emitting.{emits_none}
-
-reads_push : (vs : List HVal) (ps : List HPart) (p : HPart) → reads vs (ps ++ p ∷ []) ≡ more p (reads vs ps)
-reads_push vs [] p = refl
-reads_push vs (q ∷ ps) p = reads_push (more q vs) ps p
+use Rattle.h_terms.proofs.Parts.{reads_push}
 
 pub made_none : (ks : HBlks) (g : List a.ATy) (ls : List Known) (d m : ℕ) (vs : List AValue) (ts : List Seen)
     (now : List ANode) (tuples : List AData) → vs ≡ [] → ts ≡ [] → m ≡ d →

@@ -14,8 +14,7 @@ use Rattle.a_law.specs.Allocate.{var_of, vs_next}
 use Rattle.h_terms.specs.Nodes.{tied, at_last, tupled, more}
 use Rattle.h_terms.specs.declared.node.HPart.{HPart}
 use Rattle.c_terms.specs.C.{CTy, CTys}
-use Rattle.a_terms.specs.NodeTrees.{a_consts, a_data, wrap, wrapped}
-use Rattle.a_terms.specs.declared.nodes.AWrap.{AWrap}
+use Rattle.a_terms.specs.NodeTrees.{a_consts, a_data}
 use Rattle.a_terms.specs.declared.nodes.AValue.{AValue}
 use Rattle.a_terms.specs.declared.nodes.AData.{AData}
 use Rattle.a_terms.specs.declared.nodes.ANode.{ANode}
@@ -25,10 +24,8 @@ use Rattle.a_pass.specs.Scope.{all_constants, constant, constant_in, constants, 
 use Rattle.a_pass.specs.Scope.{type_in, types_in, value_at}
 use Rattle.a_pass.specs.Emits.{Emits, Keeps, inits, Made, Reads}
 use Rattle.a_pass.proofs.Emitting.{emits_then, emits_same}
-
-pub wrapped_push : (v : a.AVal) (ws : List AWrap) (w : AWrap) → wrapped v (ws ++ w ∷ []) ≡ wrap w (wrapped v ws)
-wrapped_push v [] w = refl
-wrapped_push v (x ∷ ws) w = wrapped_push (wrap x v) ws w
+use Rattle.std.proofs.lemmas.Bool.{and_parts as both_true}
+use Rattle.h_terms.proofs.Parts.{at_last_push}
 
 len_map : {X Y : Type 0} (f : X → Y) (xs : List X) → length (map f xs) ≡ length xs
 len_map f [] = refl
@@ -107,11 +104,6 @@ last_or : {X : Type 0} (xs : List X) → (xs ≡ []) ⊎ ((ys : List X) × (y : 
 last_or [] = inl refl
 last_or (x ∷ xs) =
     elim (last_or xs) [ inl e ↦ inr ([], x, ap (λ ys. x ∷ ys) e) | inr h ↦ inr (x ∷ h.0, h.1, ap (λ ys. x ∷ ys) h.2) ]
-
-pub at_last_push : {X : Type 0} (f : X → X) (xs : List X) (x : X) → at_last f (xs ++ x ∷ []) ≡ xs ++ f x ∷ []
-at_last_push f [] x = refl
-at_last_push f (y ∷ []) x = refl
-at_last_push f (y ∷ z ∷ xs) x = ap (λ ys. y ∷ ys) (at_last_push f (z ∷ xs) x)
 
 pub same_front : {X : Type 0} (xs ys : List X) (x y : X) → xs ++ x ∷ [] ≡ ys ++ y ∷ [] → (xs ≡ ys) × (x ≡ y)
 same_front [] [] x y h = (refl, cc h)
@@ -202,9 +194,6 @@ module _ (ks : HBlks) (g : List a.ATy) (ls : List Known) (h : HVal → HVal) (W 
       (subst (λ us2. Made ks g ls b d us begin kept old us2 m now tuples) to made))))
 
 -- which values are constants once they are applied or packed
-clash : true ≡ false → ⊥
-clash e = cc
-
 bare_var : (d : ℕ) (o : Option ℕ) → is_bare (var_of d o) ≡ false
 bare_var d None = refl
 bare_var d (Some l) = refl
@@ -357,10 +346,6 @@ all_are ls b (t ∷ ts) (u ∷ us) h =
     let one : constant_in ls t ≡ constant ls b u = cc h in
     ap₂ (λ p q. p && q) (ap is_some one ∙ some_pick (is_const ls u) (const_of ls b u))
     (all_are ls (n_v ls b u) ts us (cc h))
-
-both_true : (p q : Bool) → p && q ≡ true → (p ≡ true) × (q ≡ true)
-both_true true q e = (refl, e)
-both_true false q e = absurd (clash (sym e))
 
 fields_are : (ks : HBlks) (g : List a.ATy) (ls : List Known) (b : ℕ) (ts : List Seen) (us : List HVal) →
     map (type_in g) ts ≡ map (v_type ks g) us → map (constant_in ls) ts ≡ constants ls b us →

@@ -2,13 +2,14 @@
 use Rattle.std.proofs.Common.{◌≡◌, ◌<◌, ◌≤◌, ℕ, suc, ◌+◌, List, [], ◌∷◌, ◌++◌, refl, sym, ap, ap₂, ◌∙◌, subst, length}
 use Rattle.std.proofs.Common.{take, drop, arith, get_or, add-one, None, option_map}
 use Rattle.std.proofs.lemmas.List.{append-nil, length-append, length-take-le, take_more, take_all}
+use Rattle.std.proofs.lemmas.List.{nil_from_length as nothing}
 use Rattle.std.proofs.Math.Seq.{drop-cons}
 use Rattle.term_core.specs.Ends.{lift}
 use Rattle.a_terms.specs.Typing.{types_of}
 use Rattle.h_terms.specs.H.{HBlks, HTm}
 use Rattle.a_terms.specs.Tree as a
 use Rattle.a_law.specs.Allocate.{Known, alloc_t, arg_levels, arg_depth, atype, atypes, data_t, plain}
-use Rattle.c_terms.specs.declared.types.CType.{CType}
+use Rattle.term_core.specs.declared.types.CoreType.{CoreType as CType}
 use Rattle.c_terms.specs.Read.{ctree, ctys}
 use Rattle.h_terms.specs.Row.{top}
 use Rattle.h_terms.specs.Nodes.{HRow, HArity, h_terms, h_tree, h_build, h_kids, values}
@@ -22,7 +23,6 @@ use Rattle.a_pass.specs.declared.state.Name.{Name}
 use Rattle.a_pass.specs.declared.state.Place.{Place}
 use Rattle.a_pass.specs.Scope.{kept, known_name, knowns, typed, scope, Under, pending, pending_data, Fit}
 use Rattle.a_pass.specs.Emits.{Stepped, tops}
-use Rattle.a_pass.proofs.Emitting.{nothing}
 use Rattle.a_pass.proofs.Places.{onto_push}
 use Rattle.a_pass.proofs.Terms.{pending_take, fit_take, under_push, typed_now}
 

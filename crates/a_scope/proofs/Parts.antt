@@ -1,30 +1,10 @@
 -- The fields of tuples that stand in the program, and of tuples of types that do.
-use Rattle.std.proofs.Common.{◌≡◌, ℕ, zero, suc, ◌<◌, ◌≤◌, List, [], ◌∷◌, length, get_or, Bool, Some, refl, sym, ap}
+use Rattle.std.proofs.Common.{◌≡◌, ℕ, zero, suc, ◌<◌, ◌≤◌, List, [], ◌∷◌, length, get_or, Some, refl, sym, ap}
 use Rattle.std.proofs.Common.{◌∙◌, arith}
 use Rattle.a_terms.specs.Tree as a
 use Rattle.a_terms.specs.Typing.{aunset, field_of}
-use Rattle.a_terms.specs.Read.{atree, atrees, afields}
+use Rattle.a_terms.specs.Read.{atree, atrees}
 use Rattle.a_terms.specs.declared.types.AType.{AType}
-
-pub field_in : (xs : List (AType × Bool)) (i k : ℕ) (x : AType × Bool) → i ≡ suc k → k < length xs → x ≡ get_or xs k x →
-    atree x.0 ≡ field_of i (Some (a.ATuple (afields xs)))
-field_in xs i k x e lt is = go xs k lt is ∙ ap (λ j. field_of j (Some (a.ATuple (afields xs)))) (sym e)
-  where
-    go : (ys : List (AType × Bool)) (k : ℕ) → k < length ys → x ≡ get_or ys k x →
-        atree x.0 ≡ field_of (suc k) (Some (a.ATuple (afields ys)))
-    go [] k lt is = absurd (omega arith)
-    go (y ∷ ys) zero lt is = ap (λ (z : AType × Bool). atree z.0) is
-    go (y ∷ ys) (suc k) lt is = go ys k (omega arith) is
-
-pub field_out : (xs : List (AType × Bool)) (i k : ℕ) → i ≡ suc k → length xs ≤ k →
-    a.AInt ≡ field_of i (Some (a.ATuple (afields xs)))
-field_out xs i k e le = go xs k le ∙ ap (λ j. field_of j (Some (a.ATuple (afields xs)))) (sym e)
-  where
-    go : (ys : List (AType × Bool)) (k : ℕ) → length ys ≤ k →
-        a.AInt ≡ field_of (suc k) (Some (a.ATuple (afields ys)))
-    go [] k le = refl
-    go (y ∷ ys) zero le = absurd (omega arith)
-    go (y ∷ ys) (suc k) le = go ys k (omega arith)
 
 pub room_in : (ts : List AType) (i k : ℕ) (t : AType) → i ≡ suc k → k < length ts → t ≡ get_or ts k t →
     atree t ≡ field_of i (Some (a.ATuple (aunset (atrees ts))))

@@ -20,6 +20,8 @@ use Rattle.a_scope.proofs.Filling.{filled_shift, field_filled_to}
 use Rattle.a_scope.specs.Scope.{filled_to, noted, noted_type, shown, scope, homes, Under, Stands, Held, wrap_type}
 use Rattle.a_scope.specs.Scope.{decl_ty}
 use Rattle.a_scope.specs.declared.scope.Entry.{Entry}
+use Rattle.std.proofs.lemmas.Option.{slice_get_past as get_out}
+use Rattle.a_terms.proofs.Lists.{length_data, wrapped_snoc}
 
 -- places in lists
 get_front : {T : Type 0} (xs ys : List T) (n : ℕ) → n < length xs → slice_get (xs ++ ys) n ≡ slice_get xs n
@@ -32,11 +34,6 @@ get_last [] y zero e = refl
 get_last [] y (suc n) e = absurd (omega arith)
 get_last (x ∷ xs) y zero e = absurd (omega arith)
 get_last (x ∷ xs) y (suc n) e = get_last xs y n (omega arith)
-
-get_out : {T : Type 0} (xs : List T) (n : ℕ) → length xs ≤ n → slice_get xs n ≡ None
-get_out [] n le = refl
-get_out (x ∷ xs) zero le = absurd (omega arith)
-get_out (x ∷ xs) (suc n) le = get_out xs n (omega arith)
 
 pub length_scope : (k : ℕ) (es : List Entry) → length (scope k es) ≡ length es
 length_scope k [] = refl
@@ -53,7 +50,7 @@ var_in k (x ∷ es) n (suc j) e s is = var_in k es n j e (omega arith) is
 pub var_out : (k : ℕ) (es : List Entry) (n : ℕ) → length es ≤ n → None ≡ slice_get (scope k es) n
 var_out k es n le = sym (get_out (scope k es) n (omega (arith, length_scope k es)))
 
-length_blocks : (ks : List ABlock) → length (a_blocks ks) ≡ length ks
+pub length_blocks : (ks : List ABlock) → length (a_blocks ks) ≡ length ks
 length_blocks [] = refl
 length_blocks (k ∷ ks) = ap suc (length_blocks ks)
 
@@ -73,18 +70,10 @@ datum_in [] n d lt is = absurd (omega arith)
 datum_in (x ∷ ds) zero d lt is = ap (λ (y : AData). Some (a.ATuple (data_fields (a_consts y.fields.items)))) is
 datum_in (x ∷ ds) (suc n) d lt is = datum_in ds n d (omega arith) is
 
-length_data : (ds : List AData) → length (a_data ds) ≡ length ds
-length_data [] = refl
-length_data (d ∷ ds) = ap suc (length_data ds)
-
 pub datum_out : (ds : List AData) (n : ℕ) → length ds ≤ n → None ≡ data_type (slice_get (a_data ds) n)
 datum_out ds n le = ap data_type (sym (get_out (a_data ds) n (omega (arith, length_data ds))))
 
 -- what is put round a value
-pub wrapped_snoc : (v : a.AVal) (ws : List AWrap) (w : AWrap) → wrapped v (ws ++ w ∷ []) ≡ wrap w (wrapped v ws)
-wrapped_snoc v [] w = refl
-wrapped_snoc v (x ∷ ws) w = wrapped_snoc (wrap x v) ws w
-
 pub wrapped_more : (v : a.AVal) (ws : List AWrap) (i : ℕ) (w : AWrap) → i < length ws → w ≡ get_or ws i w →
     wrapped v (take (i + 1) ws) ≡ wrap w (wrapped v (take i ws))
 wrapped_more v ws i w lt is = ap (wrapped v) (take_more ws i w lt ∙ ap (λ y. take i ws ++ y ∷ []) (sym is))

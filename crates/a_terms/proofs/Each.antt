@@ -1,7 +1,7 @@
 -- A property of each part of a list of types, and of fields.
-use Rattle.std.proofs.Common.{ℕ, ◌≡◌, ◌<◌, ◌≤◌, ◌+◌, List, [], ◌∷◌, Bool, length, take, get_or, All, subst, sym}
+use Rattle.std.proofs.Common.{ℕ, ◌≤◌, List, [], ◌∷◌, Bool, length, take, All, subst}
 use Rattle.std.proofs.lemmas.List.{take_all}
-use Rattle.std.proofs.lemmas.List.Elements.{All-nil, All-cons, All-head, All-tail, All-get_or, All-more}
+use Rattle.std.proofs.lemmas.List.Elements.{All-nil, All-cons, All-head, All-tail}
 use Rattle.a_terms.specs.Tree.{each, each_types, each_fields}
 use Rattle.a_terms.specs.Read.{atree, atrees, afields}
 use Rattle.a_terms.specs.declared.types.AType.{AType}
@@ -40,10 +40,3 @@ module _ (V : ℕ → ℕ → Type 0) (B : ℕ → Type 0) (d : ℕ) where
       tuple_has xs (subst (λ (ys : List (AType × Bool)). All FieldHas ys) (take_all n xs all) h)
 
 -- an item that a loop reads, by its place
-pub item_has : {A : Type 0} (P : A → Type 0) (xs : List A) (i : ℕ) (x : A) → x ≡ get_or xs i x → i < length xs →
-    All P xs → P x
-item_has P xs i x is lt all = subst P (sym is) (All-get_or P xs i x lt all)
-
-pub items_more : {A : Type 0} (P : A → Type 0) (xs : List A) (i : ℕ) (x : A) → x ≡ get_or xs i x → i < length xs →
-    All P (take i xs) → P x → All P (take (i + 1) xs)
-items_more P xs i x is lt all h = All-more P xs i x lt all (subst P is h)

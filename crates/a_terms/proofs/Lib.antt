@@ -1,6 +1,7 @@
 mod Closing
 mod Each
-mod Fields
+pub mod Fields
 mod Rows
 mod Sound
-mod Weighed
+pub mod Weighed
+pub mod Lists

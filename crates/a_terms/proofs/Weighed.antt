@@ -176,7 +176,7 @@ build_size (Call us) vs ts = omega (arith, value_tops vs, others_shorter vs)
 build_size If0 vs ts = omega (arith, term_tops ts, term_tops (others ts), value_tops vs)
 build_size Halt vs ts = omega (arith, value_tops vs)
 
-length_values : (vs : List AValue) → length (a_values vs) ≡ length vs
+pub length_values : (vs : List AValue) → length (a_values vs) ≡ length vs
 length_values [] = refl
 length_values (v ∷ vs) = ap suc (length_values vs)
 

@@ -1,76 +1,34 @@
 // How many variables of a type are free, and that types have shift, put and below.
-ghost use Rattle.std.specs.Prelude.{ℕ, ◌≤◌, ◌^◌, ◌↔◌, IsTrue};
+ghost use Rattle.idx_core.specs.Bound.{Tells};
 ghost use Rattle.a_terms.specs.Read.{atree, atrees, afields};
 ghost use Rattle.a_terms.specs.Tree.{ATy, AVar, over, each, ABelow, ABelow-types, ABelow-fields};
 ghost use Rattle.a_terms.specs.TreeLaws.{a_part, a_over, a_is_below};
 
 use crate::types::AType;
 use crate::walks::{put_type, shift_type};
-use idx_core::{OutOfMemory, Scoped};
+use idx_core::{OutOfMemory, Scoped, deeper, index_below};
 use std::alloc::Global;
 
-// True: every index is a u64.
-#[cycle(words)]
-fn has_words(t: &AType) -> bool
-    ensures is_true { IsTrue result }
-    ensures below { (m : ℕ) → 2 ^ 64 ≤ m → ABelow m (atree t.now) }
-{
-    match t {
-        AType::Int => true,
-        AType::Var(i) => *i <= u64::MAX,
-        AType::Tuple(fs) => fields_have_words(fs),
-        AType::Code { owes: _, args } => all_have_words(args),
-        AType::Exists(t) => has_words(t),
-    }
-}
-
-#[cycle(words)]
-fn all_have_words(ts: &[AType]) -> bool
-    ensures is_true { IsTrue result }
-    ensures below { (m : ℕ) → 2 ^ 64 ≤ m → ABelow-types m (atrees ts.now) }
-{
-    for t in ts {
-        let _ = has_words(t);
-    }
-    true
-}
-
-#[cycle(words)]
-fn fields_have_words(fs: &[(AType, bool)]) -> bool
-    ensures is_true { IsTrue result }
-    ensures below { (m : ℕ) → 2 ^ 64 ≤ m → ABelow-fields m (afields fs.now) }
-{
-    for field in fs {
-        let _ = has_words(&field.0);
-    }
-    true
-}
-
+// Whether each free index of a type is less than the bound, where `None` is past every index.
 #[cycle(below)]
-fn type_below(t: &AType, n: u64) -> bool
-    ensures { IsTrue result ↔ ABelow n (atree t.now) }
+fn type_below(t: &AType, bound: Option<u64>) -> bool
+    ensures { Tells bound (λ n. ABelow n (atree t.now)) result }
 {
     match t {
         AType::Int => true,
-        AType::Var(i) => *i < n,
-        AType::Tuple(fs) => fields_below(fs, n),
-        AType::Code { owes, args } => match n.checked_add(*owes) {
-            Some(m) => all_below(args, m),
-            None => all_have_words(args),
-        },
-        AType::Exists(t) => match n.checked_add(1) {
-            Some(m) => type_below(t, m),
-            None => has_words(t),
-        },
+        AType::Var(i) => index_below(*i, bound),
+        AType::Tuple(fs) => fields_below(fs, bound),
+        AType::Code { owes, args } => all_below(args, deeper(bound, *owes)),
+        AType::Exists(t) => type_below(t, deeper(bound, 1)),
     }
 }
 
 #[cycle(below)]
-fn all_below(ts: &[AType], n: u64) -> bool
-    ensures { IsTrue result ↔ ABelow-types n (atrees ts.now) }
+fn all_below(ts: &[AType], bound: Option<u64>) -> bool
+    ensures { Tells bound (λ n. ABelow-types n (atrees ts.now)) result }
 {
     for t in ts {
-        if !type_below(t, n) {
+        if !type_below(t, bound) {
             return false;
         }
     }
@@ -78,11 +36,11 @@ fn all_below(ts: &[AType], n: u64) -> bool
 }
 
 #[cycle(below)]
-fn fields_below(fs: &[(AType, bool)], n: u64) -> bool
-    ensures { IsTrue result ↔ ABelow-fields n (afields fs.now) }
+fn fields_below(fs: &[(AType, bool)], bound: Option<u64>) -> bool
+    ensures { Tells bound (λ n. ABelow-fields n (afields fs.now)) result }
 {
     for field in fs {
-        if !type_below(&field.0, n) {
+        if !type_below(&field.0, bound) {
             return false;
         }
     }
@@ -119,7 +77,7 @@ impl Scoped for AType {
     }
 
     fn below(&self, n: u64) -> bool {
-        type_below(self, n)
+        type_below(self, Some(n))
     }
 
     ghost is_part = { a_part };

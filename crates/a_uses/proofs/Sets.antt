@@ -7,6 +7,7 @@ use Rattle.std.specs.Ordering.{nat_cmp, is_eq}
 use Rattle.std.proofs.lemmas.Cmp.{ranked}
 use Rattle.std.specs.BTreeMap.Range.{IsLtBy}
 use Rattle.std.proofs.lemmas.Bool.{eq-eqb, ne_eqb, lt-ltb, le-ltb, cases_lt, cases_order, cases_eq}
+use Rattle.std.proofs.lemmas.Bool.{true≢false as not_both}
 use Rattle.std.specs.BTreeMap.{is_at}
 use Rattle.std.specs.List.{list_any, All}
 use Rattle.gen_law.specs.Gen.{uses, uses_any}
@@ -16,6 +17,7 @@ use Rattle.a_terms.specs.NodeTrees.{wrap, wrapped, a_value, a_values}
 use Rattle.a_terms.specs.declared.nodes.AValue.{AValue}
 use Rattle.a_terms.specs.declared.nodes.AWrap.{AWrap}
 use Rattle.a_terms.specs.declared.nodes.AWrap.TheVariants.{Apply, Pack}
+use Rattle.std.proofs.lemmas.List.{append-nil as append_none}
 
 -- two keys are the same where the numbers are
 pub same_key : (n i o : ℕ) → is_eq (nat_cmp (n + o) (i + o)) ≡ (n == i)
@@ -56,7 +58,7 @@ pub or_none : (x : Bool) → x ≡ (x || false)
 or_none true = refl
 or_none false = refl
 
-or_more : (x y z : Bool) → ((x || y) || z) ≡ (x || (y || z))
+pub or_more : (x y z : Bool) → ((x || y) || z) ≡ (x || (y || z))
 or_more true y z = refl
 or_more false y z = refl
 
@@ -200,9 +202,6 @@ assoc : (xs : List ℕ) (x : ℕ) (t : List ℕ) → xs ++ x ∷ t ≡ (xs ++ x 
 assoc [] x t = refl
 assoc (y ∷ xs) x t = ap (λ zs. y ∷ zs) (assoc xs x t)
 
-not_both : true ≡ false → ⊥
-not_both y = cc
-
 pub taken_one : (o k n : ℕ) (all old new numbers : List ℕ) → n + o ≡ k → old ≡ k ∷ new → Above k new →
     Taken o all old numbers → Taken o all new (numbers ++ n ∷ [])
 taken_one o k n all old new numbers at e above t =
@@ -223,10 +222,6 @@ taken_one o k n all old new numbers at e above t =
           λ i from. sym (any_apart (i + o) k old new e (λ z. absurd (omega (arith, at, z)))) ∙ t.here i (omega arith);
       gone = λ i lt. any_above (i + o) k new above (omega (arith, at));
     }
-
-append_none : (xs : List ℕ) → xs ++ [] ≡ xs
-append_none [] = refl
-append_none (x ∷ xs) = ap (λ zs. x ∷ zs) (append_none xs)
 
 pub taken_all : (o : ℕ) (all left numbers : List ℕ) (u : ℕ → Bool) → left ≡ [] → Taken o all left numbers →
     ((i : ℕ) → any (i + o) all ≡ u i) → Listed u 0 numbers

@@ -38,7 +38,7 @@ pub pushed : (old new : List Rest) (s : Rest) (t : a.ATm) (ts : List a.ATm) → 
     Leads s.wants t → AllHold (newest old) ts → AllHold (newest new) (t ∷ ts)
 pushed old new s t ts e h l k = subst (λ xs. AllHold xs (t ∷ ts)) (sym (ap newest e ∙ newest_push old s)) ((h, l), k)
 
-or_swap : (x y : Bool) → (x || y) ≡ (y || x)
+pub or_swap : (x y : Bool) → (x || y) ≡ (y || x)
 or_swap true true = refl
 or_swap true false = refl
 or_swap false true = refl

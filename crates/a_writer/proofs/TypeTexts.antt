@@ -1,7 +1,6 @@
 -- Types that a loop writes one by one.
 use Rattle.std.proofs.Common.{Bool, ◌≡◌, ◌≤◌, ◌<◌, ℕ, suc, List, [], ◌∷◌, ◌++◌, length, drop, refl, sym}
-use Rattle.std.proofs.Common.{◌∙◌, ap, append_assoc, codes, arith, zero}
-use Rattle.std.specs.Prelude.{◌==◌, true, false}
+use Rattle.std.proofs.Common.{◌∙◌, ap, append_assoc, codes, arith}
 use Rattle.page_text.specs.Names.{separator}
 use Rattle.page_text.proofs.Listed.{Left, left_none, listed}
 use Rattle.a_terms.specs.declared.types.AType.{AType}
@@ -48,7 +47,3 @@ pub applied_is : (d : ℕ) (xs : List AType) → 0 < length xs →
     applied_text d (atrees xs) ≡ codes "[" ++ (types_text 0 d (atrees xs) ++ codes "]")
 applied_is d [] lt = absurd (omega (arith, lt))
 applied_is d (x ∷ xs) lt = refl
-
-pub not_empty : (n : ℕ) (b : Bool) → b ≡ (n == 0) → b ≡ false → 0 < n
-not_empty zero b e f = let clash : true ≡ false = sym e ∙ f in cc
-not_empty (suc n) b e f = omega arith

@@ -220,7 +220,7 @@ just_one (j ∷ []) k d m one = ap (λ (x : ℕ). x ∷ []) (one j (inl refl))
 just_one (j ∷ i ∷ js) k d m one =
     absurd (All-head (λ x. x ≢ j) i js d.0 (one i (inr (inl refl)) ∙ sym (one j (inl refl))))
 
-same_total : (f g : ℕ → ℕ) (ks : List ℕ) → All (λ k. f k ≡ g k) ks → total f ks ≡ total g ks
+pub same_total : (f g : ℕ → ℕ) (ks : List ℕ) → All (λ k. f k ≡ g k) ks → total f ks ≡ total g ks
 same_total f g [] h = refl
 same_total f g (k ∷ ks) h =
     omega (arith, All-head (λ k. f k ≡ g k) k ks h, same_total f g ks (All-tail (λ k. f k ≡ g k) k ks h))

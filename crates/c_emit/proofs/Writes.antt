@@ -5,27 +5,19 @@ use Rattle.std.specs.Prelude.{Bool, true, false}
 use Rattle.term_core.specs.Ends.{after_one, lift}
 use Rattle.k_terms.specs.K.{KTys, kcount}
 use Rattle.k_terms.specs.Stream as N
-use Rattle.k_terms.specs.Read.{knode, ktys}
-use Rattle.k_terms.specs.declared.types.KType.{KType}
+use Rattle.k_terms.specs.Read.{knode}
 use Rattle.k_terms.specs.declared.node.KNode.{KNode}
 use Rattle.c_terms.specs.C.{CTy, CTys}
 use Rattle.c_terms.specs.Stream as S
 use Rattle.c_terms.specs.Read.{cnode, written}
 use Rattle.c_terms.specs.declared.node.CNode.{CNode}
 use Rattle.c_walk.specs.Emit as E
+use Rattle.term_core.proofs.Lifts.{lift_add}
 
 pub written_push : (xs : List CNode) (x : CNode) (rest : List S.CNd) →
     written (xs ++ x ∷ []) rest ≡ written xs (cnode x ∷ rest)
 written_push [] x rest = refl
 written_push (y ∷ xs) x rest = ap (λ ns. cnode y ∷ ns) (written_push xs x rest)
-
-pub count_ktys : (ts : List KType) → kcount (ktys ts) ≡ length ts
-count_ktys [] = refl
-count_ktys (t ∷ ts) = ap suc (count_ktys ts)
-
-pub lift_add : (n i : ℕ) → lift n i ≡ n + i
-lift_add zero i = omega arith
-lift_add (suc n) i = omega (arith, lift_add n i)
 
 pub called_is : (at code env n m : ℕ) (ts : CTys) (rest : List S.CNd) → code ≡ at + 1 → env ≡ at + 2 → m ≡ n + 1 →
     (let list : List S.CNd = S.MUnpack at ∷ S.MVar at ∷ S.MProj code 1 ∷ S.MVar at ∷ S.MProj env 2 ∷ S.MVar code

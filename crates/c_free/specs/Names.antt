@@ -1,13 +1,7 @@
 -- Where type variables stand.
-use Rattle.std.specs.Prelude.{ℕ, suc, List, [], ◌∷◌}
+use Rattle.std.specs.Prelude.{ℕ, suc}
 use Rattle.term_core.specs.Ends.{lift, under}
 use Rattle.term_core.specs.Levels.{level_of}
-use Rattle.k_terms.specs.K.{KTys, MoreKTys}
-use Rattle.k_terms.specs.Read.{ktree}
-use Rattle.k_terms.specs.declared.types.KType.{KType}
-use Rattle.c_terms.specs.C.{CTys, MoreCTys}
-use Rattle.c_terms.specs.Read.{ctree}
-use Rattle.c_terms.specs.declared.types.CType.{CType}
 use Rattle.c_walk.specs.Know as W
 use Rattle.c_free.specs.declared.names.Side.{Side}
 use Rattle.c_free.specs.declared.names.Renaming.{Renaming}
@@ -25,12 +19,3 @@ renaming (R.Here s m) i = W.side_var (side s.now) (lift m i)
 renaming (R.Outside s m) i = W.outer_var (side s.now) (lift m i)
 renaming (R.Under' n p rest) i = under n (λ j. suc (renaming rest j)) i
 renaming (R.Within' p rest) i = under 1 (renaming rest) i
-
--- types, before others
-abbrev pub joined : List CType → CTys → CTys
-joined [] rest = rest
-joined (t ∷ ts) rest = MoreCTys (ctree t) (joined ts rest)
-
-abbrev pub kjoined : List KType → KTys → KTys
-kjoined [] rest = rest
-kjoined (t ∷ ts) rest = MoreKTys (ktree t) (kjoined ts rest)

@@ -4,7 +4,8 @@ ghost use Rattle.k_terms.specs.Read.{ktree, ktys};
 ghost use Rattle.c_terms.specs.C.{TCSome, TCTuple, TCCode, TCVar, MoreCTys, NoCTys};
 ghost use Rattle.c_terms.specs.Read.{ctree, ctys};
 ghost use Rattle.c_law.specs.Close as L;
-ghost use Rattle.c_free.specs.Names.{renaming, joined};
+ghost use Rattle.term_core.specs.Read.{joined};
+ghost use Rattle.c_free.specs.Names.{renaming};
 
 use crate::names::Renaming;
 use crate::vars::name;

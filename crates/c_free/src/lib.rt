@@ -2,7 +2,6 @@
 #![tactic(auto)]
 
 pub mod close_type;
-pub mod copy_type;
 mod names;
 mod state;
 pub mod sweep;

@@ -15,9 +15,10 @@ use Rattle.c_law.specs.Close.{close_of}
 use Rattle.c_terms.specs.Size.{cown_v, cown_vs, cown_d, cown_t, CSmall_v, CSmall_vs, CSmall_d, CSmall_t, CSmall}
 use Rattle.c_law.proofs.Ranges.{lift_back}
 use Rattle.c_law.proofs.Meaning.{ctypes_count}
+use Rattle.c_law.proofs.TypeEnvs.{count_move as after_move}
 
 -- how many of the places are kept
-after_more : (k : Bool) (a b : ℕ) → a ≤ b → after_one k a ≤ after_one k b
+pub after_more : (k : Bool) (a b : ℕ) → a ≤ b → after_one k a ≤ after_one k b
 after_more true a b h = omega (arith, h)
 after_more false a b h = h
 
@@ -119,10 +120,6 @@ var_size (Some j) = refl
 pick_size : (k : Bool) (p : Option ℕ) (vs : CVals) → cown_vs (pick_one k p vs) ≡ after_one k (cown_vs vs)
 pick_size true p vs = let x = var_size p in omega (arith, x)
 pick_size false p vs = refl
-
-after_move : (k : Bool) (a b : ℕ) → a + after_one k b ≡ after_one k a + b
-after_move true a b = omega arith
-after_move false a b = refl
 
 picked_size : (keep : ℕ → Bool) (ps : Places) (vs : CVals) →
     cown_vs (picked keep ps vs) ≡ kept_count keep ps + cown_vs vs

@@ -1,31 +1,16 @@
 -- A typed term has no free variable.
-use Rattle.std.proofs.Common.{◌≡◌, ◌<◌, ℕ, zero, suc, ◌+◌, Bool, true, false, ◌||◌, List, [], ◌∷◌, length, refl, sym}
-use Rattle.std.proofs.Common.{ap, subst, arith, eqb-true}
+use Rattle.std.proofs.Common.{◌≡◌, ◌<◌, ℕ, suc, true, ◌||◌, List, [], ◌∷◌, length, sym, subst, arith, eqb-true}
 use Rattle.term_core.specs.Ends.{lift, after_one}
-use Rattle.k_terms.specs.K.{KTy, KTys, TKInt, NoKTys, MoreKTys, TKCode, KVal, KVar, KInt, KTuple, KCode, KVals}
-use Rattle.k_terms.specs.K.{NoKVals, MoreKVals, KDecl, KName, KProj, KArith, KPack, KUnpack, KCell, KGet, KSet, KTm}
-use Rattle.k_terms.specs.K.{KLet, KCall, KIf, KHalt, kcount, kren, krens_scope, kargs_onto, kbody_scope, opens}
-use Rattle.k_terms.specs.K.{scope_more}
+use Rattle.k_terms.specs.K.{KTy, KTys, TKInt, TKCode, KVal, KVar, KInt, KTuple, KCode, KVals, NoKVals, MoreKVals, KDecl}
+use Rattle.k_terms.specs.K.{KName, KProj, KArith, KPack, KUnpack, KCell, KGet, KSet, KTm, KLet, KCall, KIf, KHalt}
+use Rattle.k_terms.specs.K.{kcount, kren, krens_scope, kbody_scope, opens, scope_more}
 use Rattle.c_law.specs.Free.{IsClosed, occurs_v, occurs_vs, occurs_d, occurs_t}
-use Rattle.k_terms.specs.Typing.{KAt, KHas, KHave, KGives, KGood}
+use Rattle.k_terms.specs.Typing.{KHas, KHave, KGives, KGood}
 use Rattle.c_law.proofs.Ranges.{or_split, t_range}
-
-lift_add : (n i : ℕ) → lift n i ≡ n + i
-lift_add zero i = omega arith
-lift_add (suc n) i = omega (arith, lift_add n i)
-
-kat_lt : (g : List KTy) (i : ℕ) (t : KTy) → KAt g i t → i < length g
-kat_lt [] i t h = absurd h
-kat_lt (u ∷ g) zero t h = omega arith
-kat_lt (u ∷ g) (suc i) t h = omega (arith, kat_lt g i t h)
-
-krens_length : (r : ℕ → ℕ) (g : List KTy) → length (krens_scope r g) ≡ length g
-krens_length r [] = refl
-krens_length r (t ∷ g) = ap suc (krens_length r g)
-
-kargs_length : (ts : KTys) (g : List KTy) → length (kargs_onto ts g) ≡ kcount ts + length g
-kargs_length NoKTys g = omega arith
-kargs_length (MoreKTys t ts) g = omega (arith, kargs_length ts (t ∷ g))
+use Rattle.term_core.proofs.Lifts.{lift_add}
+use Rattle.term_core.proofs.Scopes.{scope_length as krens_length, named_below as kat_lt}
+use Rattle.k_terms.proofs.Scoped.{more_length}
+use Rattle.c_terms.proofs.Scoping.{cargs_length as kargs_length}
 
 body_lt : (owes : ℕ) (args : KTys) (g : List KTy) (i : ℕ) →
     lift (kcount args) (suc i) < length (kbody_scope owes args g) → i < length g
@@ -37,10 +22,6 @@ body_lt owes args g i lt =
       krens_length (lift owes) g,
       lift_add (kcount args) (suc i),
     )
-
-more_length : (b : Bool) (g : List KTy) → length (scope_more b g) ≡ length g
-more_length true g = krens_length suc g
-more_length false g = refl
 
 mutual
   has_occurs : (v : KVal) (n : ℕ) (g : List KTy) (t : KTy) (i : ℕ) → KHas n g v t → occurs_v i v ≡ true → i < length g

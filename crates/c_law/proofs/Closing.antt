@@ -1,21 +1,19 @@
 -- What the conversion gives has its names in scope, whatever it is given.
 use Rattle.std.proofs.Common.{◌≡◌, ◌<◌, ◌≤◌, ℕ, zero, suc, ◌+◌, Bool, true, false, [], ◌∷◌, Option, Some, None, refl}
-use Rattle.std.proofs.Common.{sym, ap, subst, arith}
+use Rattle.std.proofs.Common.{sym, subst, arith}
 use Rattle.c_law.specs.Places.{Places, further, place, from_on, kept_places, kept_count, keep_one}
 use Rattle.term_core.specs.Ends.{after_one, lift}
-use Rattle.k_terms.specs.K.{KTy, KTys, NoKTys, MoreKTys, KVal, KVar, KInt, KTuple, KCode, KVals, NoKVals, MoreKVals}
-use Rattle.k_terms.specs.K.{KDecl, KName, KProj, KArith, KPack, KUnpack, KCell, KGet, KSet, KTm, KLet, KCall, KIf}
-use Rattle.k_terms.specs.K.{KHalt, kcount, opens}
+use Rattle.k_terms.specs.K.{KTy, KTys, KVal, KVar, KInt, KTuple, KCode, KVals, NoKVals, MoreKVals, KDecl, KName, KProj}
+use Rattle.k_terms.specs.K.{KArith, KPack, KUnpack, KCell, KGet, KSet, KTm, KLet, KCall, KIf, KHalt, kcount, opens}
 use Rattle.k_terms.specs.Types.{kd_type}
 use Rattle.c_terms.specs.C.{CVal, CVals, NoCVals, CTm, ccount}
 use Rattle.c_law.specs.Close.{Scope, uses, keeps, var_value, pick_one, picked, projections, named, rebuilt}
 use Rattle.c_law.specs.Close.{closed_body, closed_args, inner, with_var, open_if, with_decl, in_call, ctypes, close_v}
 use Rattle.c_law.specs.Close.{close_vs, close_d, close_t, close_of, no_scope}
 use Rattle.c_terms.specs.Scope.{CScoped_v, CScoped_vs, CScoped_d, CScoped}
-
-lift_add : (n i : ℕ) → lift n i ≡ n + i
-lift_add zero i = omega arith
-lift_add (suc n) i = omega (arith, lift_add n i)
+use Rattle.term_core.proofs.Lifts.{lift_add, lift_suc}
+use Rattle.c_law.proofs.Meaning.{ctypes_count as count_types}
+use Rattle.c_law.proofs.BodySizes.{after_more as after_up}
 
 -- places are among the first e
 abbrev Among : ℕ → Places → Type 0
@@ -73,10 +71,6 @@ picked_in e keep (p ∷ ps) vs h k =
     picked_in e (λ i. keep (suc i)) ps (pick_one (keep 0) p vs) (tail e p ps h)
     (one_in (keep 0) e p vs (value_of e p (λ j q. h zero j q)) k)
 
-lift_suc : (n i : ℕ) → lift n (suc i) ≡ suc (lift n i)
-lift_suc zero i = refl
-lift_suc (suc n) i = ap suc (lift_suc n i)
-
 projections_in : (k i e d : ℕ) (t : CTm) → e < d → CScoped (lift k d) t → CScoped d (projections k i e t)
 projections_in zero i e d t lt h = h
 projections_in (suc k) i e d t lt h = (
@@ -88,10 +82,6 @@ projections_in (suc k) i e d t lt h = (
 named_in : (b : Bool) (d : ℕ) (v : CVal) (t : CTm) → CScoped_v d v → CScoped (after_one b d) t → CScoped d (named b v t)
 named_in true d v t h k = (h, k)
 named_in false d v t h k = k
-
-count_types : (r : ℕ → ℕ) (ts : KTys) → ccount (ctypes r ts) ≡ kcount ts
-count_types r NoKTys = refl
-count_types r (MoreKTys t ts) = ap suc (count_types r ts)
 
 -- the number of names in the body of a closed code, before its fields are named
 abbrev start : Scope → ℕ → KTys → KTm → ℕ
@@ -117,13 +107,9 @@ code_in s owes args body t h =
     (named_in (uses args body 0) (lift k d) (rebuilt s owes args body) t
     (omega (arith, is, lift_add k d, lift_add k (suc n)), (omega (arith, is, lift_add k d, lift_add k n), tt)) h)
 
-after_add : (b : Bool) (x y : ℕ) → after_one b x + y ≡ after_one b (x + y)
+pub after_add : (b : Bool) (x y : ℕ) → after_one b x + y ≡ after_one b (x + y)
 after_add true x y = omega arith
 after_add false x y = refl
-
-after_up : (b : Bool) (x y : ℕ) → x ≤ y → after_one b x ≤ after_one b y
-after_up true x y h = omega (arith, h)
-after_up false x y h = h
 
 inner_among : (s : Scope) (owes : ℕ) (args : KTys) (body : KTm) →
     Among (after_one (uses args body 0) (lift (kept_count (keeps args body) s.vars) (start s owes args body)))

@@ -9,6 +9,7 @@ use Rattle.c_terms.specs.Meaning.{cvs_value}
 use Rattle.c_terms.specs.C.{CVals}
 use Rattle.c_law.specs.Close.{var_value, pick_one, picked}
 use Rattle.c_law.proofs.Rel.{Spans, KeptHead, Rel, Rels, RelKept, at_place, Agree}
+use Rattle.term_core.proofs.Lifts.{lift_suc}
 
 pub or_left : (a b : Bool) → a ≡ true → a || b ≡ true
 or_left true b e = refl
@@ -17,14 +18,6 @@ or_left false b e = cc
 pub or_right : (a b : Bool) → b ≡ true → a || b ≡ true
 or_right true b e = refl
 or_right false b e = e
-
-pub lift_suc : (n i : ℕ) → lift n (suc i) ≡ suc (lift n i)
-lift_suc zero i = refl
-lift_suc (suc n) i = ap suc (lift_suc n i)
-
-pub lift_zero : (n : ℕ) → lift n 0 ≡ n
-lift_zero zero = refl
-lift_zero (suc n) = ap suc (lift_zero n)
 
 pub agree_at : (live : ℕ → Bool) (ps : Places) (env : KWords) (cenv : CWords) (i : ℕ) → Agree live ps env cenv →
     live i ≡ true → Rel (at env i) (at_place (place ps i) cenv)

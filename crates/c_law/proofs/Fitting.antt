@@ -12,11 +12,13 @@ use Rattle.c_terms.specs.Typing.{CIn, CIns, CField, cren, crens, cup, csub, csub
 use Rattle.c_law.specs.Close.{Scope, ctype, ctypes, picked_tvars, pick_type, picked_types, tfree_kept, keeps, env_type}
 use Rattle.c_law.specs.Close.{with_var, open_if, with_decl, in_call}
 use Rattle.c_law.proofs.Envs.{or_left, or_right}
-use Rattle.c_law.proofs.Types.{ren_ctype, sub_ctype, gen_ctypes, names_gen, names_past}
+use Rattle.c_law.proofs.Types.{ren_ctype, sub_ctype, gen_ctypes, names_gen}
 use Rattle.c_law.proofs.TypeEnvs.{AgreeT, ScopeIn, agreeT_further, agreeT_fewer, agreeT_ren, agreeT_open}
-use Rattle.c_law.proofs.Ranges.{or_split, and_split, scope_in_kren, in_ctype, kept_fewer, kept_back, lift_back, d_in}
-use Rattle.c_law.proofs.Ranges.{d_type, d_free}
+use Rattle.c_law.proofs.Ranges.{or_split, scope_in_kren, in_ctype, kept_fewer, kept_back, lift_back, d_in, d_type}
+use Rattle.c_law.proofs.Ranges.{d_free}
 use Rattle.c_law.proofs.Meaning.{ctypes_count}
+use Rattle.std.proofs.lemmas.Bool.{and_parts as and_split}
+use Rattle.term_core.proofs.Substituting.{with_types_past as names_past}
 
 -- the target's scope fits the live variables
 pub record Fits (live tlive : ℕ → Bool) (s : Scope) (n : ℕ) (cg : List CTy) : Type 0 where

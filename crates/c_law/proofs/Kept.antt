@@ -65,7 +65,3 @@ lift_le (suc m) i n h = let r = lift_le m i n h in omega (arith, r)
 pub lift_first : (m n : ℕ) → m ≤ lift m n
 lift_first zero n = omega arith
 lift_first (suc m) n = let r = lift_first m n in omega (arith, r)
-
-pub lift_second : (m n : ℕ) → n ≤ lift m n
-lift_second zero n = omega arith
-lift_second (suc m) n = let r = lift_second m n in omega (arith, r)

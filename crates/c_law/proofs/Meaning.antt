@@ -24,11 +24,12 @@ use Rattle.c_law.specs.Close.{no_scope, open_if, with_decl, in_call, close_v, cl
 use Rattle.c_law.proofs.Rel.{Spans, Rel, Rels, RelKept, Agree}
 use Rattle.k_terms.specs.Typing.{KGood}
 use Rattle.k_terms.specs.Laws.{NeverStuck}
-use Rattle.c_law.proofs.Envs.{cadd, cadd_size, cadd_kept, or_left, or_right, lift_suc, lift_zero, agree_at}
-use Rattle.c_law.proofs.Envs.{agree_further, agree_fewer, agree_spans, var_value_at, picks, cjoin, cdrop, onto_join}
-use Rattle.c_law.proofs.Envs.{conto_join, conto_conto, csize_conto, size_onto, cat_conto, cat_cjoin, drop_step}
-use Rattle.c_law.proofs.Envs.{drop_cjoin, rels_size, rels_onto, kept_size, kept_agree, args_agree}
+use Rattle.c_law.proofs.Envs.{cadd, cadd_size, cadd_kept, or_left, or_right, agree_at, agree_further, agree_fewer}
+use Rattle.c_law.proofs.Envs.{agree_spans, var_value_at, picks, cjoin, cdrop, onto_join, conto_join, conto_conto}
+use Rattle.c_law.proofs.Envs.{csize_conto, size_onto, cat_conto, cat_cjoin, drop_step, drop_cjoin, rels_size, rels_onto}
+use Rattle.c_law.proofs.Envs.{kept_size, kept_agree, args_agree}
 use Rattle.c_law.proofs.Numbers.{v_next, d_next, t_next}
+use Rattle.term_core.proofs.Lifts.{lift_suc, lift_zero}
 
 -- not stuck
 abbrev Fine : End → Type 0
@@ -203,10 +204,6 @@ Follows ke ce =
 pub ctypes_count : (r : ℕ → ℕ) (ts : KTys) → ccount (ctypes r ts) ≡ kcount ts
 ctypes_count r NoKTys = refl
 ctypes_count r (MoreKTys t ts) = ap suc (ctypes_count r ts)
-
-pub fits_step : (k : Bool) (r q : Result) → (k ≡ true → r ≡ q) → if_fits k r ≡ if_fits k q
-fits_step true r q f = f refl
-fits_step false r q f = refl
 
 eq_suc : (x y : ℕ) → nat_eq (suc x) (suc y) ≡ nat_eq x y
 eq_suc x y = eqb-suc-suc x y

@@ -11,8 +11,10 @@ use Rattle.k_terms.specs.Types.{ktype_at, kfield, kproj_type, kv_type, kvs_type,
 use Rattle.k_terms.specs.Typing.{KIn, KIns, KAt, KField, KHas, KHave, KGives, KGood}
 use Rattle.c_terms.specs.Typing.{CIn, CIns}
 use Rattle.c_law.specs.Close.{ctype, ctypes, rank, tfree_kept}
-use Rattle.c_law.proofs.Envs.{or_left, or_right, lift_suc}
+use Rattle.c_law.proofs.Envs.{or_left, or_right}
 use Rattle.c_law.proofs.TypeEnvs.{ScopeIn}
+use Rattle.term_core.proofs.Lifts.{lift_suc}
+use Rattle.std.proofs.lemmas.Bool.{and_parts as and_split, and_from as and_both}
 
 pub or_cases : (a b : Bool) → a || b ≡ true → (a ≡ true) ⊎ (b ≡ true)
 or_cases true b e = inl refl
@@ -21,14 +23,6 @@ or_cases false b e = inr e
 pub or_split : {P : Type 0} (a b : Bool) → (a ≡ true → P) → (b ≡ true → P) → a || b ≡ true → P
 or_split true b f g e = f refl
 or_split false b f g e = g e
-
-pub and_split : (a b : Bool) → a && b ≡ true → (a ≡ true) × (b ≡ true)
-and_split true b e = (refl, e)
-and_split false b e = absurd cc
-
-pub and_both : (a b : Bool) → a ≡ true → b ≡ true → a && b ≡ true
-and_both true b e f = f
-and_both false b e f = absurd cc
 
 pub lift_lt : (m i n : ℕ) → i < n → lift m i < lift m n
 lift_lt zero i n h = h
@@ -44,7 +38,7 @@ under_lt zero live r n f i e = f i e
 under_lt (suc m) live r n f zero e = omega arith
 under_lt (suc m) live r n f (suc i) e = let h = under_lt m (λ j. live (suc j)) r n f i e in omega (arith, h)
 
-under_below : (m : ℕ) (q : ℕ → ℕ) (n k : ℕ) → ((i : ℕ) → i < n → q i < k) → (i : ℕ) → i < lift m n →
+pub under_below : (m : ℕ) (q : ℕ → ℕ) (n k : ℕ) → ((i : ℕ) → i < n → q i < k) → (i : ℕ) → i < lift m n →
     under m q i < lift m k
 under_below zero q n k f i h = f i h
 under_below (suc m) q n k f zero h = omega arith

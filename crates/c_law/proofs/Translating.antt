@@ -2,9 +2,9 @@
 use Rattle.std.proofs.Common.{◌≡◌, ◌<◌, ◌⊎◌, inl, inr, ℕ, zero, suc, ◌+◌, ◌-◌, Bool, true, false, ◌||◌, List, [], ◌∷◌}
 use Rattle.std.proofs.Common.{Option, Some, None, length, refl, sym, ap, ap₂, ◌∙◌, subst, arith, eq-eqb}
 use Rattle.term_core.specs.Ends.{lift, after_one}
-use Rattle.k_terms.specs.K.{KTy, KTys, TKCode, NoKTys, MoreKTys, KVal, KVar, KInt, KTuple, KCode, KVals, NoKVals}
-use Rattle.k_terms.specs.K.{MoreKVals, KDecl, KName, KProj, KArith, KPack, KUnpack, KCell, KGet, KSet, KTm, KLet}
-use Rattle.k_terms.specs.K.{KCall, KIf, KHalt, kcount, kren, krens_scope, kargs_onto, opens}
+use Rattle.k_terms.specs.K.{KTy, KTys, TKCode, KVal, KVar, KInt, KTuple, KCode, KVals, NoKVals, MoreKVals, KDecl, KName}
+use Rattle.k_terms.specs.K.{KProj, KArith, KPack, KUnpack, KCell, KGet, KSet, KTm, KLet, KCall, KIf, KHalt, kcount}
+use Rattle.k_terms.specs.K.{kren, krens_scope, opens}
 use Rattle.k_terms.specs.Types.{ktype_at, kd_type}
 use Rattle.c_terms.specs.C.{TCVar, TCTuple, MoreCTys, CVal, CVar, CTuple, CCode, CApply, CPack, CVals, NoCVals}
 use Rattle.c_terms.specs.C.{MoreCVals, CTm}
@@ -20,6 +20,11 @@ use Rattle.c_law.specs.Row.{then_next, inside, closed_over, with_name, with_tvar
 use Rattle.c_law.specs.Row.{IsTranslation}
 use Rattle.c_law.proofs.Envs.{or_left, or_right}
 use Rattle.c_law.proofs.Ranges.{rank_lt}
+use Rattle.term_core.proofs.Lifts.{lift_add}
+use Rattle.term_core.proofs.Scopes.{scope_length as length_krens}
+use Rattle.term_core.proofs.Substituting.{low_or_past as near_or_far}
+use Rattle.c_law.proofs.Closing.{after_add}
+use Rattle.k_terms.proofs.Scoped.{args_length as length_args}
 
 abbrev where_of : Scope → ℕ → (ℕ → ℕ) → Where
 where_of s e lev = record { types = s.types; tcount = s.tcount; names = e; level = lev; tvar = s.tvar }
@@ -27,10 +32,6 @@ where_of s e lev = record { types = s.types; tcount = s.tcount; names = e; level
 -- each live variable is at hand, at its level
 abbrev Near : (ℕ → Bool) → Places → ℕ → (ℕ → ℕ) → Type 0
 Near live ps e lev = (i : ℕ) → live i ≡ true → (j : ℕ) × (place ps i ≡ Some j) × (j + suc (lev i) ≡ e)
-
-lift_add : (n i : ℕ) → lift n i ≡ n + i
-lift_add zero i = omega arith
-lift_add (suc n) i = omega (arith, lift_add n i)
 
 -- lists of indices
 types_are : (keep : ℕ → Bool) (f : ℕ → ℕ) (g all : List KTy) (r : ℕ → ℕ) (is : List ℕ) →
@@ -83,7 +84,7 @@ packed_is s e lev owes args body r code env =
     (types_are (keeps args body) (λ i. i) s.types s.types r [] (λ m. refl))
     (tvars_are (tkeeps s.types owes args body) (λ i. i) s.tcount r r [] (λ m. refl))
 
-count_rank : (keep : ℕ → Bool) (ps : Places) → kept_count keep ps ≡ rank keep (length ps)
+pub count_rank : (keep : ℕ → Bool) (ps : Places) → kept_count keep ps ≡ rank keep (length ps)
 count_rank keep [] = refl
 count_rank keep (p ∷ ps) = ap (after_one (keep 0)) (count_rank (λ i. keep (suc i)) ps)
 
@@ -108,7 +109,7 @@ code_is s e lev owes args body t same =
     (packed_is s e lev owes args body r (CVar (lift k (suc n))) (CVar (lift k n)))))
 
 -- scopes
-place_further : (ps : Places) (i j : ℕ) → place ps i ≡ Some j → place (further ps) i ≡ Some (suc j)
+pub place_further : (ps : Places) (i j : ℕ) → place ps i ≡ Some j → place (further ps) i ≡ Some (suc j)
 place_further [] i j e = absurd cc
 place_further (None ∷ ps) zero j e = absurd cc
 place_further (Some k ∷ ps) zero j e = cc
@@ -132,21 +133,9 @@ near_decl : (b : Bool) (u : KTy) (live : ℕ → Bool) (s : Scope) (e : ℕ) (le
 near_decl true u live s e lev h = near_name live s.vars e lev h
 near_decl false u live s e lev h = near_name live s.vars e lev h
 
-length_further : (ps : Places) → length (further ps) ≡ length ps
+pub length_further : (ps : Places) → length (further ps) ≡ length ps
 length_further [] = refl
 length_further (p ∷ ps) = ap suc (length_further ps)
-
-length_krens : (r : ℕ → ℕ) (g : List KTy) → length (krens_scope r g) ≡ length g
-length_krens r [] = refl
-length_krens r (t ∷ g) = ap suc (length_krens r g)
-
-length_args : (ts : KTys) (g : List KTy) → length (kargs_onto ts g) ≡ lift (kcount ts) (length g)
-length_args NoKTys g = refl
-length_args (MoreKTys t ts) g = length_args ts (t ∷ g) ∙ lift_suc (kcount ts) (length g)
-  where
-    lift_suc : (n i : ℕ) → lift n (suc i) ≡ suc (lift n i)
-    lift_suc zero i = refl
-    lift_suc (suc n) i = ap suc (lift_suc n i)
 
 same_decl : (b : Bool) (u : KTy) (s : Scope) → length s.vars ≡ length s.types →
     length (with_var u (open_if b s)).vars ≡ length (with_var u (open_if b s)).types
@@ -159,11 +148,11 @@ where_decl true u s e lev = refl
 where_decl false u s e lev = refl
 
 -- the body of a closed code
-length_from : (o n : ℕ) (ps : Places) → length (from_on o n ps) ≡ lift n (length ps)
+pub length_from : (o n : ℕ) (ps : Places) → length (from_on o n ps) ≡ lift n (length ps)
 length_from o zero ps = refl
 length_from o (suc n) ps = ap suc (length_from (suc o) n ps)
 
-length_kept : (keep : ℕ → Bool) (o : ℕ) (ps : Places) → length (kept_places o keep ps) ≡ length ps
+pub length_kept : (keep : ℕ → Bool) (o : ℕ) (ps : Places) → length (kept_places o keep ps) ≡ length ps
 length_kept keep o [] = refl
 length_kept keep o (p ∷ ps) = ap suc (length_kept (λ i. keep (suc i)) (after_one (keep 0) o) ps)
 
@@ -176,24 +165,20 @@ same_inner s owes args body h =
     (length_kept (uses args body) 0 (None ∷ s.vars) ∙ ap suc (h ∙ sym (length_krens (lift owes) s.types)))
     ∙ sym (length_args args (kren (lift owes) (TKCode owes args) ∷ krens_scope (lift owes) s.types))
 
-place_near : (o n : ℕ) (ps : Places) (i : ℕ) → i < n → place (from_on o n ps) i ≡ Some (o + i)
+pub place_near : (o n : ℕ) (ps : Places) (i : ℕ) → i < n → place (from_on o n ps) i ≡ Some (o + i)
 place_near o zero ps i h = absurd (omega arith)
 place_near o (suc n) ps zero h = ap Some (omega arith)
 place_near o (suc n) ps (suc i) h = place_near (suc o) n ps i (omega arith) ∙ ap Some (omega arith)
 
-place_far : (o n : ℕ) (ps : Places) (i : ℕ) → place (from_on o n ps) (lift n i) ≡ place ps i
+pub place_far : (o n : ℕ) (ps : Places) (i : ℕ) → place (from_on o n ps) (lift n i) ≡ place ps i
 place_far o zero ps i = refl
 place_far o (suc n) ps i = place_far (suc o) n ps i
 
-after_add : (b : Bool) (x y : ℕ) → after_one b x + y ≡ after_one b (x + y)
-after_add true x y = omega arith
-after_add false x y = refl
-
-after_add_right : (b : Bool) (x y : ℕ) → x + after_one b y ≡ after_one b (x + y)
+pub after_add_right : (b : Bool) (x y : ℕ) → x + after_one b y ≡ after_one b (x + y)
 after_add_right true x y = omega arith
 after_add_right false x y = refl
 
-place_kept : (keep : ℕ → Bool) (o : ℕ) (ps : Places) (i : ℕ) → i < length ps → keep i ≡ true →
+pub place_kept : (keep : ℕ → Bool) (o : ℕ) (ps : Places) (i : ℕ) → i < length ps → keep i ≡ true →
     place (kept_places o keep ps) i ≡ Some (o + rank keep i)
 place_kept keep o [] i h e = absurd (omega arith)
 place_kept keep o (p ∷ ps) zero h e = ap (λ q. keep_one q o) e ∙ ap Some (omega arith)
@@ -216,12 +201,7 @@ first_far : (n : ℕ) (f g : ℕ → ℕ) (m : ℕ) → first_by n f g (lift n m
 first_far zero f g m = refl
 first_far (suc n) f g m = first_far n (λ j. f (suc j)) g m
 
-near_or_far : (n i : ℕ) → (i < n) ⊎ ((m : ℕ) × (i ≡ lift n m))
-near_or_far zero i = inr (i, refl)
-near_or_far (suc n) zero = inl (omega arith)
-near_or_far (suc n) (suc i) = elim (near_or_far n i) [ inl h ↦ inl (omega (arith, h)) | inr r ↦ inr (r.0, ap suc r.1) ]
-
-after_sum : (b : Bool) (x : ℕ) → after_one b x ≡ x + after_one b 0
+pub after_sum : (b : Bool) (x : ℕ) → after_one b x ≡ x + after_one b 0
 after_sum true x = omega arith
 after_sum false x = omega arith
 

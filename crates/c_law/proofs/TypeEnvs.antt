@@ -8,8 +8,8 @@ use Rattle.c_terms.specs.C.{CTy, CTys, TCTuple, NoCTys, MoreCTys, ccount, CVals,
 use Rattle.k_terms.specs.Typing.{KIn, KAt}
 use Rattle.c_terms.specs.Typing.{cren, crens_scope, CAt, CField, cargs_onto, CHas, CHave, CGood}
 use Rattle.c_law.specs.Close.{ctype, ctypes, pick_type, picked_types, pick_one, picked, var_value, projections}
-use Rattle.c_law.proofs.Envs.{lift_suc}
-use Rattle.c_law.proofs.Types.{ren_ctype, ctype_ren}
+use Rattle.c_law.proofs.Types.{ren_ctype, ctype_ren, pick_count as count_step}
+use Rattle.term_core.proofs.Lifts.{lift_suc}
 
 abbrev pub CVarAt : Option ℕ → CTy → List CTy → Type 0
 CVarAt None t cg = ⊥
@@ -158,11 +158,7 @@ kept_tsize keep f (p ∷ ps) (t ∷ g) h =
     ap (after_one (keep 0)) (kept_tsize (λ i. keep (suc i)) f ps g h)
     ∙ sym (keep_size (keep 0) (f t) (kept_types (λ i. keep (suc i)) f g))
 
-count_step : (k : Bool) (t : CTy) (acc : CTys) → ccount (pick_type k t acc) ≡ after_one k (ccount acc)
-count_step true t acc = refl
-count_step false t acc = refl
-
-count_move : (k : Bool) (a b : ℕ) → a + after_one k b ≡ after_one k a + b
+pub count_move : (k : Bool) (a b : ℕ) → a + after_one k b ≡ after_one k a + b
 count_move true a b = omega arith
 count_move false a b = refl
 

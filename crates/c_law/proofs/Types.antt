@@ -8,12 +8,8 @@ use Rattle.c_terms.specs.C.{CTy, CTys, TCVar, TCTuple, TCCode, TCSome, TCRef, No
 use Rattle.k_terms.specs.Typing.{kscons, kup, ksub, ksubs, knames}
 use Rattle.c_terms.specs.Typing.{scons, cren, crens, cup, csub, csubs, names}
 use Rattle.c_law.specs.Close.{ctype, ctypes, rank, picked_tvars, pick_type}
-use Rattle.c_law.proofs.Envs.{or_left, or_right, lift_suc}
-
-under_ren : (n : ℕ) (q r p : ℕ → ℕ) → ((i : ℕ) → q (r i) ≡ p i) → (i : ℕ) → under n q (under n r i) ≡ under n p i
-under_ren zero q r p f i = f i
-under_ren (suc n) q r p f zero = refl
-under_ren (suc n) q r p f (suc i) = ap suc (under_ren n q r p f i)
+use Rattle.c_law.proofs.Envs.{or_left, or_right}
+use Rattle.term_core.proofs.Lifts.{under_ren, lift_suc}
 
 pub under_under : (n : ℕ) (r : ℕ → ℕ) (i : ℕ) → under n (under 1 r) i ≡ under (suc n) r i
 under_under zero r zero = refl
@@ -136,11 +132,6 @@ names_gen (MoreKTys t ts) s r p k f i =
     ap (names (ctypes p ts) (scons (ctype p t) s)) (sym (under_under (kcount ts) r i))
     ∙ names_gen ts (scons (ctype p t) s) (under 1 r) p (kscons t k) (scons_gen (ctype p t) t s r p k refl f) i
 
-pub names_past : (ts : CTys) (s : ℕ → CTy) (i : ℕ) → names ts s (lift (ccount ts) i) ≡ s i
-names_past NoCTys s i = refl
-names_past (MoreCTys t ts) s i =
-    ap (names ts (scons t s)) (sym (lift_suc (ccount ts) i)) ∙ names_past ts (scons t s) (suc i)
-
 -- the types of a closed code's free type variables
 abbrev pub kept_names : (ℕ → Bool) → (ℕ → ℕ) → ℕ → (ℕ → CTy) → ℕ → CTy
 kept_names keep r zero s = s
@@ -175,7 +166,7 @@ kept_name keep r (suc n) (suc j) s e h =
     name_suc (keep 0) (TCVar (r 0)) (kept_names (λ i. keep (suc i)) (λ i. r (suc i)) n s) (rank (λ i. keep (suc i)) j)
     ∙ kept_name (λ i. keep (suc i)) (λ i. r (suc i)) n j s e (omega arith)
 
-pick_count : (k : Bool) (t : CTy) (ts : CTys) → ccount (pick_type k t ts) ≡ after_one k (ccount ts)
+pub pick_count : (k : Bool) (t : CTy) (ts : CTys) → ccount (pick_type k t ts) ≡ after_one k (ccount ts)
 pick_count true t ts = refl
 pick_count false t ts = refl
 

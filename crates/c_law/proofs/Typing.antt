@@ -18,16 +18,16 @@ use Rattle.c_law.specs.Close.{Scope, ctype, ctypes, rank, picked_tvars, pick_typ
 use Rattle.c_law.specs.Close.{keeps, uses, named, tkeeps, env_type, closure, outside, inner, rebuilt, projections}
 use Rattle.c_law.specs.Close.{closed_args, closed_code, with_decl, in_call, no_scope, close_v, close_vs, close_t}
 use Rattle.c_law.specs.Close.{close_of, var_value, pick_one}
-use Rattle.c_law.proofs.Envs.{or_left, or_right, lift_suc, lift_zero}
+use Rattle.c_law.proofs.Envs.{or_left, or_right}
 use Rattle.c_law.proofs.Types.{gen_ctype, scons_gen, under_lift, cup_under, cup_lift, sub_ctypes, picked_names}
 use Rattle.c_law.proofs.Types.{kept_name, picked_count}
 use Rattle.c_law.proofs.TypeEnvs.{AgreeT, SameLength, ScopeIn, same_length, keep_type, kept_types, onto_kept, tsize}
 use Rattle.c_law.proofs.TypeEnvs.{kept_tsize, kept_ccount, at_append, at_onto, gdrop, gdrop_append, kept_agreeT}
 use Rattle.c_law.proofs.TypeEnvs.{ctypes_of, glength, kargs_append, cargs_of, kargs_length, args_agreeT, CVarAt, tdrop}
 use Rattle.c_law.proofs.TypeEnvs.{tdrop_step}
-use Rattle.c_law.proofs.Ranges.{or_split, and_split, lift_lt, under_lt, in_kren, scope_in_kren, scope_in_args}
-use Rattle.c_law.proofs.Ranges.{in_ctype, in_ctypes, kept_lt, rank_lt, tfree_back, kept_back, lift_back, kept_args}
-use Rattle.c_law.proofs.Ranges.{d_type, v_type, v_range, t_range}
+use Rattle.c_law.proofs.Ranges.{or_split, lift_lt, under_lt, in_kren, scope_in_kren, scope_in_args, in_ctype, in_ctypes}
+use Rattle.c_law.proofs.Ranges.{kept_lt, rank_lt, tfree_back, kept_back, lift_back, kept_args, d_type, v_type, v_range}
+use Rattle.c_law.proofs.Ranges.{t_range}
 use Rattle.c_law.proofs.Meaning.{ctypes_count}
 use Rattle.k_terms.specs.Each.{KAll, KHasP, KHaveP, KGivesP, KGoodP}
 use Rattle.c_terms.specs.Each.{CAll, CHasP, CHaveP, CGoodP, CProp}
@@ -35,6 +35,8 @@ use Rattle.k_terms.proofs.Each.{plain_v, plain_d, plain_t}
 use Rattle.c_law.proofs.Kept.{Have, HaveAll, IsKept, picked_tvars_all, rank_le, lift_le, lift_first}
 use Rattle.c_law.proofs.Fitting.{Fits, fewer, in_picked, in_picked_tvars, sub_picked, cup_env, fits_let, fits_call}
 use Rattle.c_law.proofs.Fitting.{field_has, call_types}
+use Rattle.term_core.proofs.Lifts.{lift_suc, lift_zero}
+use Rattle.std.proofs.lemmas.Bool.{and_parts as and_split}
 
 after_more : (k : Bool) (n : ℕ) → n ≤ after_one k n
 after_more true n = omega arith

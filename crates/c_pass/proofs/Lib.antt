@@ -1,4 +1,3 @@
-pub mod Lists
 pub mod Bounding
 pub mod Joins
 pub mod Meant

@@ -5,12 +5,12 @@ ghost use Rattle.c_walk.specs.Know as W;
 ghost use Rattle.c_pass.specs.Read.{bounds, levels_of};
 
 use crate::state::Bound;
-use c_free::copy_type::copied;
 use c_free::type_levels::type_levels;
 use c_walk::sum;
 use idx_core::OutOfMemory;
 use k_terms::KType;
 use std::alloc::Global;
+use term_core::copy;
 
 // The levels of the type variables of one variable's type.
 fn levels_at(xs: &[Bound], l: u64, out: &mut Vec<u64>) -> Result<(), OutOfMemory>
@@ -57,7 +57,7 @@ pub fn bind_all(
 {
     let mut level = level;
     for t in args {
-        let t = copied(alloc, t)?;
+        let t = copy(alloc, t)?;
         bind(xs, level, t, depth)?;
         level = sum(level, 1)?;
     }

@@ -7,7 +7,8 @@ ghost use Rattle.c_terms.specs.Read.{ctys};
 ghost use Rattle.c_law.specs.Close as L;
 ghost use Rattle.c_walk.specs.Know as W;
 ghost use Rattle.c_walk.specs.Walks.{top_side};
-ghost use Rattle.c_free.specs.Names.{side, joined};
+ghost use Rattle.term_core.specs.Read.{joined};
+ghost use Rattle.c_free.specs.Names.{side};
 ghost use Rattle.c_pass.specs.Read.{Binds, bounds, clue, clues_of, told_known};
 ghost use Rattle.c_pass.specs.Read.{total, opened_total, called_total};
 
@@ -17,7 +18,6 @@ use crate::state::{Bound, Clue, Header, Knowledge};
 use crate::translate::closed;
 use c_emit::Note;
 use c_free::close_type::close_types;
-use c_free::copy_type::{all_copied, copied};
 use c_free::{Found, Renaming, Side};
 use c_terms::CType;
 use c_walk::{Levels, sum};
@@ -26,6 +26,7 @@ use k_terms::{KNode, KType};
 use std::alloc::Global;
 use std::collections::VecDeque;
 use std::mem;
+use term_core::{copy, copy_all};
 
 // Binds a variable where `f` stands.
 fn bind_now(xs: &mut Vec<Bound>, f: &Side, level: u64, ty: KType) -> Result<(), OutOfMemory>
@@ -64,7 +65,7 @@ impl Knowledge {
         let Clue { kept, own, types } = c;
         let own_type = KType::Code {
             owes,
-            args: all_copied(alloc, args)?,
+            args: copy_all(alloc, args)?,
         };
         let g = side_of(alloc, &self.bounds, types, &kept.list, depth, owes)?;
         let header = Header {
@@ -100,7 +101,7 @@ impl Knowledge {
             ((rest : List KNd) (n : KNd) → Binds n level (ktree ty.now) →
             total self.new rest ≡ total self.old (n ∷ rest)) }
     {
-        let ty = copied(alloc, ty)?;
+        let ty = copy(alloc, ty)?;
         self.bind_made(level, ty)?;
         Ok(())
     }
@@ -152,7 +153,7 @@ impl Knowledge {
             shape: closed(alloc, shape, &self.side, false, 0)?,
         };
         self.notes.push_back(types)?;
-        bind_now(&mut self.bounds, &self.side, level, copied(alloc, shape)?)?;
+        bind_now(&mut self.bounds, &self.side, level, copy(alloc, shape)?)?;
         Ok(())
     }
 
@@ -163,7 +164,7 @@ impl Knowledge {
             total self.new rest ≡ total self.old (NUnpack level depth (ktree ty.now) ∷ rest)) }
     {
         self.side.owes = sum(self.side.owes, 1)?;
-        bind_now(&mut self.bounds, &self.side, level, copied(alloc, ty)?)?;
+        bind_now(&mut self.bounds, &self.side, level, copy(alloc, ty)?)?;
         Ok(())
     }
 

@@ -5,7 +5,8 @@ ghost use Rattle.k_terms.specs.Read.{ktree};
 ghost use Rattle.c_terms.specs.Read.{ctree, ctys};
 ghost use Rattle.c_law.specs.Close as L;
 ghost use Rattle.c_walk.specs.Know as W;
-ghost use Rattle.c_free.specs.Names.{side, joined};
+ghost use Rattle.term_core.specs.Read.{joined};
+ghost use Rattle.c_free.specs.Names.{side};
 ghost use Rattle.c_pass.specs.Read.{bound, bounds, var_of};
 
 use crate::state::Bound;

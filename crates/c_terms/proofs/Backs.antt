@@ -1,7 +1,6 @@
 -- The nodes of a term in scope are read back.
-use Rattle.std.proofs.Common.{◌≡◌, ◌<◌, ℕ, zero, suc, ◌+◌, List, [], ◌∷◌, refl, sym, ap, ap₂, ◌∙◌, arith}
+use Rattle.std.proofs.Common.{◌≡◌, ℕ, suc, ◌+◌, List, [], ◌∷◌, refl, sym, ap, ap₂, ◌∙◌, arith}
 use Rattle.term_core.specs.Ends.{lift}
-use Rattle.term_core.specs.Levels.{level_of}
 use Rattle.c_terms.specs.C.{CVal, CVar, CInt, CTuple, CCode, CApply, CPack, CVals, NoCVals, MoreCVals, CName, CProj}
 use Rattle.c_terms.specs.C.{CArith, CUnpack, CCell, CGet, CSet, CTm, CLet, CCall, CIf, CHalt, ccount}
 use Rattle.c_terms.specs.Stream.{CNd, MTuple, MEnd, MApply, MPack, MName, MProj, MArith, MUnpack, MCell, MGet, MSet}
@@ -9,11 +8,7 @@ use Rattle.c_terms.specs.Stream.{MCall, MIf, MElse, MHalt, clin_v, clin_vs, clin
 use Rattle.c_terms.specs.Scope.{CScoped_v, CScoped_vs, CScoped}
 use Rattle.c_terms.specs.Decode.{Body, Open, InCode, InThen, taken, past, all, fresh, push, bind, calls, halts, other}
 use Rattle.c_terms.specs.Decode.{read_on, cdecode}
-
-level_below : (d i : ℕ) → i < d → level_of d i + suc i ≡ d
-level_below zero i h = absurd (omega arith)
-level_below (suc d) zero h = omega arith
-level_below (suc d) (suc i) h = omega (arith, level_below d i (omega arith))
+use Rattle.term_core.proofs.Levels.{level_below}
 
 abbrev onto : CVals → List CVal → List CVal
 onto NoCVals ws = ws

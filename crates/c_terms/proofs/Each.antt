@@ -38,7 +38,7 @@ mutual
 abbrev pub Any : CProp
 Any n t = Unit {0}
 
-any_all : (n : ℕ) (ts : CTys) → CAll Any n ts
+pub any_all : (n : ℕ) (ts : CTys) → CAll Any n ts
 any_all n NoCTys = tt
 any_all n (MoreCTys t ts) = (tt, any_all n ts)
 

@@ -5,5 +5,4 @@ pub mod Putting
 pub mod Backs
 pub mod Scoping
 pub mod Held
-pub mod Trees
 mod Rows

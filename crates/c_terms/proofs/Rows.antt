@@ -11,7 +11,7 @@ use Rattle.c_terms.specs.Typing.{CGood}
 use Rattle.c_terms.specs.Reach.{creach, cbinds}
 use Rattle.c_terms.specs.Stream.{MVar, MInt, MTuple, MCode, MEnd, MArith, MCall, MHalt, clin_t}
 use Rattle.c_terms.specs.Decode.{cdecode}
-use Rattle.c_terms.specs.Walks.{put, shift}
+use Rattle.term_core.specs.Walks.{put, shift}
 
 abbrev one_integer : CTys
 one_integer = MoreCTys TCInt NoCTys

@@ -1,26 +1,15 @@
 -- The names of a typed term are in scope.
-use Rattle.std.proofs.Common.{◌≡◌, ◌<◌, ℕ, zero, suc, ◌+◌, List, [], ◌∷◌, length, refl, ap, subst, arith}
+use Rattle.std.proofs.Common.{◌≡◌, ℕ, suc, ◌+◌, List, [], ◌∷◌, length, subst, arith}
 use Rattle.term_core.specs.Ends.{lift}
 use Rattle.c_terms.specs.C.{CTy, CTys, TCInt, TCTuple, TCCode, TCRef, NoCTys, MoreCTys, CVal, CVar, CInt, CTuple}
 use Rattle.c_terms.specs.C.{CCode, CApply, CPack, CVals, NoCVals, MoreCVals, CName, CProj, CArith, CUnpack, CCell}
 use Rattle.c_terms.specs.C.{CGet, CSet, CTm, CLet, CCall, CIf, CHalt, ccount}
-use Rattle.c_terms.specs.Typing.{CAt, CHas, CHave, CGood, cargs_onto, crens_scope}
+use Rattle.c_terms.specs.Typing.{CHas, CHave, CGood, cargs_onto, crens_scope}
 use Rattle.c_terms.specs.Scope.{CScoped_v, CScoped_vs, CScoped}
+use Rattle.term_core.proofs.Lifts.{lift_add}
+use Rattle.term_core.proofs.Scopes.{scope_length as crens_length, named_below as cat_lt}
 
-lift_add : (n i : ℕ) → lift n i ≡ n + i
-lift_add zero i = omega arith
-lift_add (suc n) i = omega (arith, lift_add n i)
-
-cat_lt : (g : List CTy) (i : ℕ) (t : CTy) → CAt g i t → i < length g
-cat_lt [] i t h = absurd h
-cat_lt (u ∷ g) zero t h = omega arith
-cat_lt (u ∷ g) (suc i) t h = omega (arith, cat_lt g i t h)
-
-crens_length : (r : ℕ → ℕ) (g : List CTy) → length (crens_scope r g) ≡ length g
-crens_length r [] = refl
-crens_length r (t ∷ g) = ap suc (crens_length r g)
-
-cargs_length : (ts : CTys) (g : List CTy) → length (cargs_onto ts g) ≡ ccount ts + length g
+pub cargs_length : (ts : CTys) (g : List CTy) → length (cargs_onto ts g) ≡ ccount ts + length g
 cargs_length NoCTys g = omega arith
 cargs_length (MoreCTys t ts) g = omega (arith, cargs_length ts (t ∷ g))
 

@@ -1,19 +1,9 @@
 -- The trees of the closed calculus.
 use Rattle.std.specs.Prelude.{ℤ, ℕ, suc}
 use Rattle.idx_core.specs.declared.arith.Op.{Op}
-
-mutual
-  pub data CTy : Type 0 where
-    TCInt : CTy
-    TCVar : ℕ → CTy
-    TCTuple : CTys → CTy
-    TCCode : (owes : ℕ) → (args : CTys) → CTy
-    TCSome : CTy → CTy
-    TCRef : CTy → CTy
-
-  pub data CTys : Type 0 where
-    NoCTys : CTys
-    MoreCTys : CTy → CTys → CTys
+pub use Rattle.term_core.specs.Types.{Ty as CTy, Tys as CTys, IntTy as TCInt, VarTy as TCVar, TupleTy as TCTuple}
+pub use Rattle.term_core.specs.Types.{CodeTy as TCCode, ExistsTy as TCSome, RefTy as TCRef, NoTys as NoCTys}
+pub use Rattle.term_core.specs.Types.{MoreTys as MoreCTys, count as ccount}
 
 mutual
   pub data CVal : Type 0 where
@@ -42,10 +32,6 @@ mutual
     CCall : CVal → CTys → CVals → CTm
     CIf : CVal → CTm → CTm → CTm
     CHalt : CVal → CTm
-
-abbrev pub ccount : CTys → ℕ
-ccount NoCTys = 0
-ccount (MoreCTys t ts) = suc (ccount ts)
 
 -- the first number that is free after the codes of a tree
 abbrev mutual

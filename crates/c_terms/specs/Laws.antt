@@ -1,9 +1,8 @@
 -- Laws of the closed calculus.
-use Rattle.std.specs.Prelude.{◌≡◌, ◌↔◌, ◌+◌, ◌≤◌, ℕ, []}
-use Rattle.term_core.specs.Ends.{lift}
-use Rattle.c_terms.specs.C.{CTy, TCVar, CTm}
-use Rattle.c_terms.specs.Typing.{cren, scons, csub, CIn, CGood}
-use Rattle.c_terms.specs.Walks.{shift, put, Below}
+use Rattle.std.specs.Prelude.{◌≡◌, ◌↔◌, ◌≤◌, ℕ, []}
+use Rattle.c_terms.specs.C.{CTy, CTm}
+use Rattle.c_terms.specs.Typing.{CGood}
+use Rattle.term_core.specs.Walks.{put}
 use Rattle.c_terms.specs.Each.{CGoodP}
 use Rattle.c_terms.specs.Reach.{CWithin}
 use Rattle.c_terms.specs.Bound.{CFits}
@@ -24,22 +23,9 @@ WithinIsTyped = (N R B : ℕ) (t : CTm) → CGoodP (CWithin N R B) 0 [] t → CG
 abbrev pub FitsMore : Type 0
 FitsMore = (N M R S : ℕ) (t : CTm) → N ≤ M → R ≤ S → CFits N R t → CFits M S t
 
--- two puts exchange, the one put into the other
-abbrev pub PutsExchange : Type 0
-PutsExchange = (i j : ℕ) (u v t : CTy) → i ≤ j → put j v (put i u t) ≡ put i (put j v u) (put (j + 1) (shift 1 i v) t)
-
--- the words of typing in those of shift, put and below
-abbrev pub LiftIsShift : Type 0
-LiftIsShift = (n : ℕ) (t : CTy) → cren (lift n) t ≡ shift n 0 t
-
-abbrev pub FirstIsPut : Type 0
-FirstIsPut = (s t : CTy) → csub (scons s TCVar) t ≡ put 0 s t
-
+-- one type put for one variable, by a name, is put
 abbrev pub CPutIsPut : Type 0
 CPutIsPut = (n : ℕ) (s t : CTy) → cput n s t ≡ put n s t
-
-abbrev pub InIsBelow : Type 0
-InIsBelow = (n : ℕ) (t : CTy) → CIn n t ↔ Below n t
 
 -- the names of a typed term are in scope
 abbrev pub TypedIsScoped : Type 0

@@ -1,6 +1,4 @@
 pub mod C
-pub mod Walks
-pub mod TyLaws
 pub mod Meaning
 pub mod Typing
 pub mod Each

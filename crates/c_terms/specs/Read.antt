@@ -1,31 +1,10 @@
 -- The code's types and nodes as plain ones.
 use Rattle.std.specs.Prelude.{List, [], ◌∷◌}
-use Rattle.c_terms.specs.C.{CTy, TCInt, TCVar, TCTuple, TCCode, TCSome, TCRef, CTys, NoCTys, MoreCTys}
+pub use Rattle.term_core.specs.Read.{tree as ctree, trees as ctrees, all_trees as ctys}
 use Rattle.c_terms.specs.Stream.{CNd, MVar, MInt, MTuple, MCode, MEnd, MApply, MPack, MName, MProj, MArith, MUnpack}
 use Rattle.c_terms.specs.Stream.{MCell, MGet, MSet, MCall, MIf, MElse, MHalt}
-use Rattle.c_terms.specs.declared.types.CType.{CType, Row_of-CType, end_of-CType, more_of-CType}
-use Rattle.c_terms.specs.declared.types.CType.TheVariants.{Int, Var, Tuple', Code', Exists', Ref'}
 use Rattle.c_terms.specs.declared.node.CNode.{CNode}
 use Rattle.c_terms.specs.declared.node.CNode.TheVariants as M
-
--- the plain tree of a type
-abbrev mutual
-  pub ctree : CType → CTy
-  ctree Int = TCInt
-  ctree (Var i) = TCVar i
-  ctree (Tuple' n row) = TCTuple (ctrees row)
-  ctree (Code' owes n row) = TCCode owes (ctrees row)
-  ctree (Exists' p t) = TCSome (ctree t)
-  ctree (Ref' p t) = TCRef (ctree t)
-
-  pub ctrees : {m : _} → Row_of-CType m → CTys
-  ctrees end_of-CType = NoCTys
-  ctrees (more_of-CType t rest) = MoreCTys (ctree t) (ctrees rest)
-
--- several types, of a list
-abbrev pub ctys : List CType → CTys
-ctys [] = NoCTys
-ctys (t ∷ ts) = MoreCTys (ctree t) (ctys ts)
 
 -- the plain node
 abbrev pub cnode : CNode → CNd

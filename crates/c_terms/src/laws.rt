@@ -1,7 +1,7 @@
 // Laws of the closed calculus.
 
-ghost use Rattle.c_terms.specs.Laws.{TypedIsAny, WithinIsTyped, FitsMore, PutsExchange, LiftIsShift, FirstIsPut};
-ghost use Rattle.c_terms.specs.Laws.{CPutIsPut, InIsBelow, TypedIsScoped, ReadsBack, OneTerm};
+ghost use Rattle.c_terms.specs.Laws.{TypedIsAny, WithinIsTyped, FitsMore, CPutIsPut};
+ghost use Rattle.c_terms.specs.Laws.{TypedIsScoped, ReadsBack, OneTerm};
 ghost use Rattle.c_terms.specs.Puts.{OneByOne};
 
 /// Typing is typing with the property that every type has.
@@ -19,17 +19,9 @@ pub fn fits_more_law()
     ensures { FitsMore }
 {}
 
-/// Two puts exchange.
-pub fn puts_exchange()
-    ensures { PutsExchange }
-{}
-
-/// What typing calls lifting, putting and scope is shift, put and below.
-pub fn words_law()
-    ensures lifts { LiftIsShift }
-    ensures puts { FirstIsPut }
-    ensures one { CPutIsPut }
-    ensures scopes { InIsBelow }
+/// A type put for one variable, as types are put one after the other, is put.
+pub fn put_law()
+    ensures { CPutIsPut }
 {}
 
 /// Types put one after the other are put at once.

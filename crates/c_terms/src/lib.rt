@@ -5,9 +5,7 @@ mod access;
 pub mod laws;
 mod node;
 mod program;
-mod types;
-mod walks;
 
 pub use node::CNode;
 pub use program::CProgram;
-pub use types::CType;
+pub use term_core::CoreType as CType;

@@ -4,9 +4,9 @@ use Rattle.std.proofs.Common.{◌∷◌, Some, None, length, refl, sym, ap, ◌�
 use Rattle.std.proofs.lemmas.Bool.{eq-eqb}
 use Rattle.c_law.specs.Places.{Places, further, place, kept_places, kept_count, keep_one}
 use Rattle.term_core.specs.Ends.{after_one, lift}
-use Rattle.k_terms.specs.K.{KTy, KTys, NoKTys, MoreKTys, KVal, KVar, KInt, KTuple, KCode, KVals, NoKVals, MoreKVals}
-use Rattle.k_terms.specs.K.{KDecl, KName, KProj, KArith, KPack, KUnpack, KCell, KGet, KSet, KTm, KLet, KCall, KIf}
-use Rattle.k_terms.specs.K.{KHalt, kcount, kbody_scope, opens, scope_more}
+use Rattle.k_terms.specs.K.{KTy, KTys, KVal, KVar, KInt, KTuple, KCode, KVals, NoKVals, MoreKVals, KDecl, KName, KProj}
+use Rattle.k_terms.specs.K.{KArith, KPack, KUnpack, KCell, KGet, KSet, KTm, KLet, KCall, KIf, KHalt, kcount}
+use Rattle.k_terms.specs.K.{kbody_scope, opens, scope_more}
 use Rattle.c_law.specs.Free.{occurs_v, occurs_vs, occurs_d, occurs_t}
 use Rattle.k_terms.specs.Types.{kd_type}
 use Rattle.c_terms.specs.C.{CTm, NoCVals, ccount}
@@ -21,27 +21,19 @@ use Rattle.term_core.specs.Levels.{level_of}
 use Rattle.c_walk.specs.Emit.{notes_v, notes_vs, notes_d, notes_t, Note, Calls, Packs, Info, Frame, below, spot}
 use Rattle.c_walk.specs.Emit.{fields, own_closure, frame_of, opened, closed, called, emit, info_of, infos_v, infos_vs}
 use Rattle.c_walk.specs.Emit.{infos_d, infos_t}
-use Rattle.c_walk.proofs.Spots.{Stands, At, level_below, length_levels, below_rank, rank_here, count_rank, place_kept}
-use Rattle.c_walk.proofs.Spots.{place_near, place_far, lift_add, length_from, length_kept, length_further, spot_in}
-use Rattle.c_walk.proofs.Spots.{spot_arg, spot_kept, spot_own, env_kept, width_picked}
-
-pub or_left : (a b : Bool) → a ≡ true → a || b ≡ true
-or_left true b e = refl
-or_left false b e = cc
-
-pub or_right : (a b : Bool) → b ≡ true → a || b ≡ true
-or_right true b e = refl
-or_right false b e = e
+use Rattle.c_walk.proofs.Spots.{Stands, At, length_levels, below_rank, rank_here, spot_in, spot_arg, spot_kept}
+use Rattle.c_walk.proofs.Spots.{spot_own, env_kept, width_picked}
+use Rattle.term_core.proofs.Lifts.{lift_suc, lift_add}
+use Rattle.term_core.proofs.Levels.{level_below}
+use Rattle.term_core.proofs.Substituting.{low_or_past as near_or_far}
+use Rattle.c_law.proofs.Meaning.{ctypes_count as count_ctypes}
+use Rattle.c_law.proofs.Envs.{or_left, or_right}
+use Rattle.c_law.proofs.Translating.{place_further, after_sum, count_rank, place_kept, place_near, place_far}
+use Rattle.c_law.proofs.Translating.{length_from, length_kept, length_further}
 
 fewer : (f : Frame) (d e : ℕ) (ps : Places) (live few : ℕ → Bool) → ((i : ℕ) → few i ≡ true → live i ≡ true) →
     Stands f d e ps live → Stands f d e ps few
 fewer f d e ps live few h s = record { long = s.long; at = λ i q. s.at i (h i q) }
-
-place_further : (ps : Places) (i j : ℕ) → place ps i ≡ Some j → place (further ps) i ≡ Some (suc j)
-place_further [] i j e = absurd cc
-place_further (None ∷ ps) zero j e = absurd cc
-place_further (Some k ∷ ps) zero j e = cc
-place_further (p ∷ ps) (suc i) j e = place_further ps i j e
 
 -- one more name that the source doesn't have
 deeper : (f : Frame) (d e : ℕ) (ps : Places) (live : ℕ → Bool) → Stands f d e ps live →
@@ -67,18 +59,9 @@ under_decl : (b : Bool) (u : KTy) (f : Frame) (d e : ℕ) (s : Scope) (live : �
 under_decl true u f d e s live is st = under_name f d e s.vars live is st
 under_decl false u f d e s live is st = under_name f d e s.vars live is st
 
-pub near_or_far : (n i : ℕ) → (i < n) ⊎ ((m : ℕ) × (i ≡ lift n m))
-near_or_far zero i = inr (i, refl)
-near_or_far (suc n) zero = inl (omega arith)
-near_or_far (suc n) (suc i) = elim (near_or_far n i) [ inl h ↦ inl (omega (arith, h)) | inr r ↦ inr (r.0, ap suc r.1) ]
-
 pub level_lift : (n d i : ℕ) → level_of (lift n d) (lift n i) ≡ level_of d i
 level_lift zero d i = refl
 level_lift (suc n) d i = level_lift n d i
-
-after_sum : (b : Bool) (x : ℕ) → after_one b x ≡ x + after_one b 0
-after_sum true x = omega arith
-after_sum false x = omega arith
 
 kept_length : (d : ℕ) (s : Scope) (owes : ℕ) (args : KTys) (body : KTm) → length s.vars ≡ d →
     length (info_of d s owes args body).kept ≡ kept_count (keeps args body) s.vars
@@ -189,10 +172,6 @@ level_one : (n : ℕ) → level_of (suc n) n ≡ 0
 level_one zero = refl
 level_one (suc n) = level_one n
 
-lift_suc : (n i : ℕ) → lift n (suc i) ≡ suc (lift n i)
-lift_suc zero i = refl
-lift_suc (suc n) i = ap suc (lift_suc n i)
-
 fields_of : (k i n : ℕ) (t : CTm) (rest : List CNd) →
     clin_t (suc (suc n)) (projections k i n t) rest ≡ fields k (suc (suc n)) i (clin_t (lift k (suc (suc n))) t rest)
 fields_of zero i n t rest = refl
@@ -218,10 +197,6 @@ named_of true d s owes args body t rest =
     ap (λ l. MVar l ∷ MApply i.apply_in ∷ MVar (level_of e (lift k n)) ∷ more)
     (level_lift k (suc (suc n)) (suc n) ∙ level_one n)
     ∙ ap (λ l. MVar 0 ∷ MApply i.apply_in ∷ MVar l ∷ more) (level_lift k (suc (suc n)) n ∙ level_two n)
-
-count_ctypes : (r : ℕ → ℕ) (ts : KTys) → ccount (ctypes r ts) ≡ kcount ts
-count_ctypes r NoKTys = refl
-count_ctypes r (MoreKTys t ts) = ap suc (count_ctypes r ts)
 
 body_nodes : (d : ℕ) (s : Scope) (owes : ℕ) (args : KTys) (body : KTm) (t : CTm) (rest : List CNd) → length s.vars ≡ d →
     let i = info_of d s owes args body in

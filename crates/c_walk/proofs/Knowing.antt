@@ -19,10 +19,17 @@ use Rattle.c_walk.specs.Sweep.{has, known_below}
 use Rattle.c_walk.specs.Know.{Bound, Side, above, side_var, outer_var, type_levels, bound_at, bound_type, bound_types}
 use Rattle.c_walk.specs.Know.{bound_levels, variables, side_of, info_from, bind, bind_all, side_depth, written_in}
 use Rattle.c_walk.specs.Know.{clue_of}
-use Rattle.c_walk.proofs.Spots.{level_below, lift_add, length_levels}
-use Rattle.c_walk.proofs.Fusion.{near_or_far, or_left, or_right}
-use Rattle.c_walk.proofs.Sets.{has_kept, levels_same}
-use Rattle.c_walk.proofs.TypeLaws.{ctype_ren, kren_ren, ctype_same, ctypes_same, has_type, above_rank}
+use Rattle.c_walk.proofs.Spots.{length_levels}
+use Rattle.c_walk.proofs.Sets.{has_kept, levels_same, level_twice}
+use Rattle.c_law.proofs.Types.{ctype_ren}
+use Rattle.term_core.proofs.Substituting.{ren_ren as kren_ren, low_or_past as near_or_far}
+use Rattle.c_walk.proofs.TypeLaws.{ctype_same, ctypes_same, has_type, above_rank}
+use Rattle.term_core.proofs.Lifts.{lift_suc, lift_add}
+use Rattle.term_core.proofs.Levels.{level_below}
+use Rattle.std.proofs.Math.Bool.{or-false as or_none}
+use Rattle.term_core.proofs.Scopes.{scope_length as length_krens}
+use Rattle.c_law.proofs.Ranges.{or_split, under_below as into_under}
+use Rattle.c_law.proofs.Envs.{or_left, or_right}
 
 abbrev pub Closed : ℕ → (ℕ → Bool) → Type 0
 Closed d live = (i : ℕ) → live i ≡ true → i < d
@@ -121,16 +128,6 @@ mutual
   krens_same (MoreKTys t ts) r f = ap₂ MoreKTys (kren_same t r f) (krens_same ts r f)
 
 -- free type variables of renamed types
-pub or_split : {P : Type 0} (a b : Bool) → (a ≡ true → P) → (b ≡ true → P) → a || b ≡ true → P
-or_split true b f g e = f refl
-or_split false b f g e = g e
-
-pub into_under : (m : ℕ) (q : ℕ → ℕ) (n k : ℕ) → ((i : ℕ) → i < n → q i < k) → (i : ℕ) → i < lift m n →
-    under m q i < lift m k
-into_under zero q n k f i h = f i h
-into_under (suc m) q n k f zero h = omega arith
-into_under (suc m) q n k f (suc i) h = let r = into_under m q n k f i (omega (arith, h)) in omega (arith, r)
-
 pub inner_closed : (n d : ℕ) (live : ℕ → Bool) → Closed d (λ i. live (lift n i)) → Closed (lift n d) live
 inner_closed n d live c i h = elim (near_or_far n i) [
   | inl near ↦ omega (arith, lift_add n d, near)
@@ -271,10 +268,6 @@ at_krens q [] i h = absurd (omega (arith, h))
 at_krens q (t ∷ g) zero h = refl
 at_krens q (t ∷ g) (suc i) h = at_krens q g i (omega (arith, h))
 
-pub length_krens : (q : ℕ → ℕ) (g : List KTy) → length (krens_scope q g) ≡ length g
-length_krens q [] = refl
-length_krens q (t ∷ g) = ap suc (length_krens q g)
-
 pub raise : (n td d : ℕ) (xs : List Bound) (g : List KTy) → Holds td d xs g →
     Holds (lift n td) d xs (krens_scope (lift n) g)
 raise n td d xs g h = record {
@@ -284,10 +277,6 @@ raise n td d xs g h = record {
       (sym (at_krens (lift n) g i (omega (arith, lt, h.width))))
       (raise_at n td (bound_at xs (level_of d i)) (ktype_at g i) (h.at i lt));
 }
-
-pub lift_suc : (n i : ℕ) → lift n (suc i) ≡ suc (lift n i)
-lift_suc zero i = refl
-lift_suc (suc n) i = ap suc (lift_suc n i)
 
 pub all_hold : (ts : KTys) (td d : ℕ) (xs : List Bound) (g : List KTy) → Holds td d xs g →
     Closed td (λ j. tfrees j ts) → Holds td (lift (kcount ts) d) (bind_all xs d ts td) (kargs_onto ts g)
@@ -355,12 +344,6 @@ vars q td keep r (suc n) ls acc f h =
     vars q td (λ i. keep (suc i)) (λ i. r (suc i)) n (pick_level (keep 0) n ls) (pick_type (keep 0) (TCVar (r 0)) acc)
     (λ j lt. f (suc j) (omega (arith, lt))) (vars_one q td (keep 0) n (r 0) ls acc (f 0 (omega arith)) h)
 
-pub level_twice : (d l : ℕ) → l < d → level_of d (level_of d l) ≡ l
-level_twice d l h =
-    let a = level_below d l h in
-    let b = level_below d (level_of d l) (omega (arith, a)) in
-    omega (arith, a, b)
-
 pub vars_picked : (q r : ℕ → ℕ) (td : ℕ) (keep : ℕ → Bool) → ((j : ℕ) → j < td → q j ≡ r j) →
     variables q td (levels keep td []) ≡ picked_tvars keep r td NoCTys
 vars_picked q r td keep f = vars q td keep r td [] NoCTys (λ j lt. ap q (level_twice td j lt) ∙ f j lt) refl
@@ -391,10 +374,6 @@ frees j l xs keep [] ls f = refl
 frees j l xs keep (t ∷ g) ls f =
     frees j l xs (λ i. keep (suc i)) g (pick_level (keep 0) (length g) ls) (λ i lt. f (suc i) (omega (arith, lt)))
     ∙ free_one l xs (keep 0) (length g) (tfree j t) (tfree_kept j (λ i. keep (suc i)) g) ls (f 0 (omega arith))
-
-pub or_none : (a : Bool) → a || false ≡ a
-or_none true = refl
-or_none false = refl
 
 pub free_at : (td j : ℕ) (x : Bound) (t : KTy) → j < td → HoldsAt td x t →
     has (level_of td j) (type_levels x.depth 0 x.type) ≡ tfree j t

@@ -15,12 +15,12 @@ use Rattle.c_walk.specs.Emit.{infos_t}
 use Rattle.c_walk.specs.Walks.{top_side}
 use Rattle.c_walk.specs.Know.{with_note, Clue, Bound, Side, Known, side_var, side_of, info_from, bind, bind_all}
 use Rattle.c_walk.specs.Know.{side_depth, with_info, side_with, know, clue_of, clues_v, clues_vs, clues_d, clues_t}
-use Rattle.c_walk.proofs.Spots.{lift_add}
-use Rattle.c_walk.proofs.Fusion.{or_left, or_right}
 use Rattle.c_walk.proofs.TypeLaws.{ctype_same, ctypes_same}
 use Rattle.c_walk.proofs.Knowing.{Closed, HoldsAt, Holds, Keeps, Fits, keeps_more, keeps_less, keeps_lift, still_holds}
 use Rattle.c_walk.proofs.Knowing.{bind_keeps, bind_holds, bind_long, inner_closed, scope_closed, d_closed, bound_now}
 use Rattle.c_walk.proofs.Knowing.{raise, all_hold, all_keep, info_is, inner_side, inner_fits, side_is}
+use Rattle.term_core.proofs.Lifts.{lift_add}
+use Rattle.c_law.proofs.Envs.{or_left, or_right}
 
 left : (td : ℕ) (a b : ℕ → Bool) → Closed td (λ j. a j || b j) → Closed td a
 left td a b c = λ j e. c j (or_left (a j) (b j) e)

@@ -1,12 +1,13 @@
 -- Ascending lists.
-use Rattle.std.proofs.Common.{◌≡◌, ℕ, zero, suc, ◌<◌, ◌≤◌, Bool, true, false, not, ◌||◌, ◌&&◌, ◌⊎◌, inl, inr, List, []}
-use Rattle.std.proofs.Common.{◌∷◌, length, get_or, refl, sym, ap, ◌∙◌, subst, arith}
+use Rattle.std.proofs.Common.{◌≡◌, ℕ, zero, suc, ◌<◌, ◌≤◌, Bool, true, false, not, ◌||◌, ◌&&◌, inl, inr, List, [], ◌∷◌}
+use Rattle.std.proofs.Common.{length, get_or, refl, sym, ap, ◌∙◌, subst, arith}
 use Rattle.std.specs.Prelude.{nat_lt, nat_eq}
 use Rattle.std.proofs.lemmas.Bool.{cases_lt, cases_eq, eq-eqb, ne_eqb, ltb-true, ltb-false, cases_order}
 use Rattle.term_core.specs.Levels.{level_of}
 use Rattle.c_walk.specs.Emit.{levels, pick_level}
 use Rattle.c_walk.specs.Sweep.{has, known_below, differs, thin}
-use Rattle.c_walk.proofs.Spots.{level_below}
+use Rattle.term_core.proofs.Levels.{level_below}
+use Rattle.std.proofs.Math.Bool.{or-false as or_none}
 
 abbrev pub Rising : ℕ → List ℕ → Type 0
 Rising lo [] = Unit {0}
@@ -22,10 +23,6 @@ none_below lo l [] r h = refl
 none_below lo l (x ∷ xs) r h =
     ap (λ b. b || has l xs) (ne_eqb l x (λ e. omega (arith, h, r.0, e)))
     ∙ none_below (suc x) l xs r.1 (omega (arith, h, r.0))
-
-or_cases : (a b : Bool) → a || b ≡ true → (a ≡ true) ⊎ (b ≡ true)
-or_cases true b e = inl refl
-or_cases false b e = inr e
 
 or_false : (a b : Bool) → a ≡ false → a || b ≡ b
 or_false a b e = ap (λ x. x || b) e
@@ -90,10 +87,6 @@ has_level keep (suc d) (suc i) acc h =
     has_level (λ j. keep (suc j)) d i (pick_level (keep 0) d acc) (omega arith)
     ∙ ap (λ b. keep (suc i) || b)
     (has_pick_other (keep 0) (level_of d i) d acc (λ e. omega (arith, e, level_below d i (omega arith))))
-
-or_none : (a : Bool) → a || false ≡ a
-or_none true = refl
-or_none false = refl
 
 pub has_kept : (keep : ℕ → Bool) (d i : ℕ) → i < d → has (level_of d i) (levels keep d []) ≡ keep i
 has_kept keep d i h = has_level keep d i [] h ∙ or_none (keep i)
@@ -172,7 +165,7 @@ rising_thin d lo (x ∷ xs) o = step (nat_lt x d) (differs x xs) refl (λ lo1 q.
     step true false e ih = rising_from x lo (thin d xs) o.0 (ih x o.1)
     step false b e ih = rising_from x lo (thin d xs) o.0 (ih x o.1)
 
-level_twice : (d l : ℕ) → l < d → level_of d (level_of d l) ≡ l
+pub level_twice : (d l : ℕ) → l < d → level_of d (level_of d l) ≡ l
 level_twice d l h =
     let a = level_below d l h in
     let b = level_below d (level_of d l) (omega (arith, a)) in

@@ -3,18 +3,16 @@ use Rattle.std.proofs.Common.{◌≡◌, ℕ, zero, suc, ◌+◌, ◌-◌, ◌<�
 use Rattle.std.proofs.Common.{Some, length, refl, sym, ap, ◌∙◌, arith}
 use Rattle.std.specs.Prelude.{nat_lt}
 use Rattle.std.proofs.lemmas.Bool.{lt-ltb, le-ltb, le-leb, lt-leb}
-use Rattle.c_law.specs.Places.{Places, further, place, from_on, kept_places, kept_count, keep_one}
-use Rattle.term_core.specs.Ends.{after_one, lift}
+use Rattle.c_law.specs.Places.{Places, place}
+use Rattle.term_core.specs.Ends.{after_one}
 use Rattle.c_terms.specs.C.{CVals, NoCVals, MoreCVals}
 use Rattle.c_law.specs.Close.{var_value, pick_one, picked, rank}
 use Rattle.c_terms.specs.Stream.{CNd, MVar, clin_vs, cwidth}
 use Rattle.term_core.specs.Levels.{level_of}
 use Rattle.c_walk.specs.Emit.{Frame, levels, pick_level, below, spot, spots}
-
-pub level_below : (d i : ℕ) → i < d → level_of d i + suc i ≡ d
-level_below zero i h = absurd (omega arith)
-level_below (suc d) zero h = omega arith
-level_below (suc d) (suc i) h = omega (arith, level_below d i (omega arith))
+use Rattle.term_core.proofs.Levels.{level_below}
+use Rattle.c_law.proofs.Closing.{after_add}
+use Rattle.c_law.proofs.Translating.{after_add_right}
 
 pub length_levels : (keep : ℕ → Bool) (d : ℕ) (acc : List ℕ) → length (levels keep d acc) ≡ rank keep d + length acc
 length_levels keep zero acc = omega arith
@@ -34,14 +32,6 @@ below_skip false l d acc h = refl
 below_take : (b : Bool) (l d : ℕ) (acc : List ℕ) → d < l → below l (pick_level b d acc) ≡ after_one b (below l acc)
 below_take true l d acc h = ap (λ q. after_one q (below l acc)) (lt-ltb d l h)
 below_take false l d acc h = refl
-
-after_add : (b : Bool) (x y : ℕ) → after_one b x + y ≡ after_one b (x + y)
-after_add true x y = omega arith
-after_add false x y = refl
-
-after_add_right : (b : Bool) (x y : ℕ) → x + after_one b y ≡ after_one b (x + y)
-after_add_right true x y = omega arith
-after_add_right false x y = refl
 
 -- all of the levels below d are below l
 pub below_all : (keep : ℕ → Bool) (d l : ℕ) (acc : List ℕ) → d ≤ l →
@@ -81,44 +71,6 @@ rank_here keep (suc i) h =
     over : (b : Bool) (n : ℕ) → after_one b (suc n) ≡ suc (after_one b n)
     over true n = refl
     over false n = refl
-
-pub count_rank : (keep : ℕ → Bool) (ps : Places) → kept_count keep ps ≡ rank keep (length ps)
-count_rank keep [] = refl
-count_rank keep (p ∷ ps) = ap (after_one (keep 0)) (count_rank (λ i. keep (suc i)) ps)
-
-pub place_kept : (keep : ℕ → Bool) (o : ℕ) (ps : Places) (i : ℕ) → i < length ps → keep i ≡ true →
-    place (kept_places o keep ps) i ≡ Some (o + rank keep i)
-place_kept keep o [] i h e = absurd (omega arith)
-place_kept keep o (p ∷ ps) zero h e = ap (λ q. keep_one q o) e ∙ ap Some (omega arith)
-place_kept keep o (p ∷ ps) (suc i) h e =
-    place_kept (λ j. keep (suc j)) (after_one (keep 0) o) ps i (omega arith) e
-    ∙ ap Some (after_add (keep 0) o (rank (λ j. keep (suc j)) i)
-    ∙ sym (after_add_right (keep 0) o (rank (λ j. keep (suc j)) i)))
-
-pub place_near : (o n : ℕ) (ps : Places) (i : ℕ) → i < n → place (from_on o n ps) i ≡ Some (o + i)
-place_near o zero ps i h = absurd (omega arith)
-place_near o (suc n) ps zero h = ap Some (omega arith)
-place_near o (suc n) ps (suc i) h = place_near (suc o) n ps i (omega arith) ∙ ap Some (omega arith)
-
-pub place_far : (o n : ℕ) (ps : Places) (i : ℕ) → place (from_on o n ps) (lift n i) ≡ place ps i
-place_far o zero ps i = refl
-place_far o (suc n) ps i = place_far (suc o) n ps i
-
-pub lift_add : (n i : ℕ) → lift n i ≡ n + i
-lift_add zero i = omega arith
-lift_add (suc n) i = omega (arith, lift_add n i)
-
-pub length_from : (o n : ℕ) (ps : Places) → length (from_on o n ps) ≡ lift n (length ps)
-length_from o zero ps = refl
-length_from o (suc n) ps = ap suc (length_from (suc o) n ps)
-
-pub length_kept : (keep : ℕ → Bool) (o : ℕ) (ps : Places) → length (kept_places o keep ps) ≡ length ps
-length_kept keep o [] = refl
-length_kept keep o (p ∷ ps) = ap suc (length_kept (λ i. keep (suc i)) (after_one (keep 0) o) ps)
-
-pub length_further : (ps : Places) → length (further ps) ≡ length ps
-length_further [] = refl
-length_further (p ∷ ps) = ap suc (length_further ps)
 
 pub spot_in : (f : Frame) (l : ℕ) → f.split ≤ l → spot f l ≡ (l - f.split) + f.start
 spot_in f l h =

@@ -16,9 +16,14 @@ use Rattle.k_terms.specs.Stream.{NIf, NElse, NHalt, klin_v, klin_vs, klin_d, kli
 use Rattle.term_core.specs.Levels.{level_of}
 use Rattle.c_walk.specs.Emit.{levels}
 use Rattle.c_walk.specs.Sweep.{has, known_below, Found, Swept, opened_in, sweep, found_v, found_vs, found_d, found_t}
-use Rattle.c_walk.proofs.Spots.{level_below, lift_add}
-use Rattle.c_walk.proofs.Fusion.{near_or_far, level_lift, or_left, or_right}
+use Rattle.c_walk.proofs.Fusion.{level_lift}
 use Rattle.c_walk.proofs.Sets.{has_kept, levels_same}
+use Rattle.term_core.proofs.Levels.{level_below}
+use Rattle.term_core.proofs.Lifts.{lift_add}
+use Rattle.std.proofs.lemmas.List.{append-nil as append_nil}
+use Rattle.std.proofs.Math.Bool.{or-false as or_none}
+use Rattle.term_core.proofs.Substituting.{low_or_past as near_or_far}
+use Rattle.c_law.proofs.Envs.{or_left, or_right}
 
 abbrev pub Closed : ℕ → (ℕ → Bool) → Type 0
 Closed d live = (i : ℕ) → live i ≡ true → i < d
@@ -32,19 +37,11 @@ Finds d xs live = (i : ℕ) → i < d → has (level_of d i) xs ≡ live i
 abbrev pub Sweeps : ℕ → (ℕ → Bool) → List Found → Swept → Swept → Type 0
 Sweeps d live found s0 s1 = (xs : List ℕ) × (s1 ≡ more s0 xs found) × Finds d xs live
 
-append_nil : (xs : List ℕ) → xs ++ [] ≡ xs
-append_nil [] = refl
-append_nil (x ∷ xs) = ap (λ (ys : List ℕ). x ∷ ys) (append_nil xs)
-
-or_swap : (a b : Bool) → a || b ≡ b || a
+pub or_swap : (a b : Bool) → a || b ≡ b || a
 or_swap true true = refl
 or_swap true false = refl
 or_swap false true = refl
 or_swap false false = refl
-
-or_none : (a : Bool) → a || false ≡ a
-or_none true = refl
-or_none false = refl
 
 nothing : (d : ℕ) (s : Swept) → Sweeps d (λ i. false) s.found s s
 nothing d s = (

@@ -16,11 +16,14 @@ use Rattle.c_walk.specs.Emit.{levels}
 use Rattle.c_walk.specs.Sweep.{has, known_below, Found, found_v, found_vs, found_d, found_t}
 use Rattle.c_walk.specs.Know.{Clue, type_levels, types_levels, written_in, clue_of, clues_v, clues_vs, clues_d, clues_t}
 use Rattle.c_walk.specs.TSweep.{TSwept, topened, tsweep, tfound_v, tfound_vs, tfound_d, tfound_t, zipped}
-use Rattle.c_walk.proofs.Spots.{lift_add}
-use Rattle.c_walk.proofs.Fusion.{level_lift, or_left, or_right}
+use Rattle.c_walk.proofs.Fusion.{level_lift}
 use Rattle.c_walk.proofs.Sets.{has_kept, levels_same}
 use Rattle.c_walk.proofs.TypeLaws.{has_type, has_types}
 use Rattle.c_walk.proofs.Knowing.{Closed, inner_closed, kren_same, krens_same, under_id}
+use Rattle.term_core.proofs.Lifts.{lift_add}
+use Rattle.std.proofs.lemmas.List.{append-nil as append_nil}
+use Rattle.c_walk.proofs.Sweeping.{or_swap}
+use Rattle.c_law.proofs.Envs.{or_left, or_right}
 
 abbrev pub more : TSwept → List ℕ → List (List ℕ) → TSwept
 more s xs found = record { current = s.current ++ xs; outer = s.outer; found = found }
@@ -28,16 +31,6 @@ more s xs found = record { current = s.current ++ xs; outer = s.outer; found = f
 abbrev pub TSweeps : ℕ → (ℕ → Bool) → List (List ℕ) → TSwept → TSwept → Type 0
 TSweeps d live found s0 s1 =
     (xs : List ℕ) × (s1 ≡ more s0 xs found) × ((i : ℕ) → i < d → has (level_of d i) xs ≡ live i)
-
-append_nil : (xs : List ℕ) → xs ++ [] ≡ xs
-append_nil [] = refl
-append_nil (x ∷ xs) = ap (λ (ys : List ℕ). x ∷ ys) (append_nil xs)
-
-or_swap : (a b : Bool) → a || b ≡ b || a
-or_swap true true = refl
-or_swap true false = refl
-or_swap false true = refl
-or_swap false false = refl
 
 nothing : (d : ℕ) (s : TSwept) → TSweeps d (λ i. false) s.found s s
 nothing d s = (

@@ -13,47 +13,12 @@ use Rattle.term_core.specs.Levels.{level_of}
 use Rattle.c_walk.specs.Emit.{levels, pick_level}
 use Rattle.c_walk.specs.Sweep.{has}
 use Rattle.c_walk.specs.Know.{above, level_list, type_levels, types_levels}
-use Rattle.c_walk.proofs.Spots.{level_below, lift_add}
-use Rattle.c_walk.proofs.Fusion.{near_or_far, or_left, or_right}
-
-under_ren : (n : ℕ) (q r p : ℕ → ℕ) → ((i : ℕ) → q (r i) ≡ p i) → (i : ℕ) → under n q (under n r i) ≡ under n p i
-under_ren zero q r p f i = f i
-under_ren (suc n) q r p f zero = refl
-under_ren (suc n) q r p f (suc i) = ap suc (under_ren n q r p f i)
-
-under_lift : (n : ℕ) (r : ℕ → ℕ) (i : ℕ) → under n r (lift n i) ≡ lift n (r i)
-under_lift zero r i = refl
-under_lift (suc n) r i = ap suc (under_lift n r i)
-
-mutual
-  pub ctype_ren : (t : KTy) (r q p : ℕ → ℕ) → ((i : ℕ) → r (q i) ≡ p i) → ctype r (kren q t) ≡ ctype p t
-  ctype_ren TKInt r q p f = refl
-  ctype_ren (TKVar i) r q p f = ap TCVar (f i)
-  ctype_ren (TKTuple ts) r q p f = ap TCTuple (ctypes_ren ts r q p f)
-  ctype_ren (TKSome t) r q p f = ap TCSome (ctype_ren t (under 1 r) (under 1 q) (under 1 p) (under_ren 1 r q p f))
-  ctype_ren (TKRef t) r q p f = ap TCRef (ctype_ren t r q p f)
-  ctype_ren (TKCode n ts) r q p f =
-      ap (λ y. TCSome (TCTuple (MoreCTys (TCCode n (MoreCTys (TCVar (lift n 0)) y)) (MoreCTys (TCVar 0) NoCTys))))
-      (ctypes_ren ts (under n (λ i. suc (r i))) (under n q) (under n (λ i. suc (p i)))
-      (under_ren n (λ i. suc (r i)) q (λ i. suc (p i)) (λ i. ap suc (f i))))
-
-  pub ctypes_ren : (ts : KTys) (r q p : ℕ → ℕ) → ((i : ℕ) → r (q i) ≡ p i) → ctypes r (krens q ts) ≡ ctypes p ts
-  ctypes_ren NoKTys r q p f = refl
-  ctypes_ren (MoreKTys t ts) r q p f = ap₂ MoreCTys (ctype_ren t r q p f) (ctypes_ren ts r q p f)
-
-mutual
-  pub kren_ren : (t : KTy) (r q p : ℕ → ℕ) → ((i : ℕ) → r (q i) ≡ p i) → kren r (kren q t) ≡ kren p t
-  kren_ren TKInt r q p f = refl
-  kren_ren (TKVar i) r q p f = ap TKVar (f i)
-  kren_ren (TKTuple ts) r q p f = ap TKTuple (krens_ren ts r q p f)
-  kren_ren (TKSome t) r q p f = ap TKSome (kren_ren t (under 1 r) (under 1 q) (under 1 p) (under_ren 1 r q p f))
-  kren_ren (TKRef t) r q p f = ap TKRef (kren_ren t r q p f)
-  kren_ren (TKCode n ts) r q p f =
-      ap (TKCode n) (krens_ren ts (under n r) (under n q) (under n p) (under_ren n r q p f))
-
-  pub krens_ren : (ts : KTys) (r q p : ℕ → ℕ) → ((i : ℕ) → r (q i) ≡ p i) → krens r (krens q ts) ≡ krens p ts
-  krens_ren NoKTys r q p f = refl
-  krens_ren (MoreKTys t ts) r q p f = ap₂ MoreKTys (kren_ren t r q p f) (krens_ren ts r q p f)
+use Rattle.term_core.proofs.Lifts.{lift_add}
+use Rattle.term_core.proofs.Levels.{level_below}
+use Rattle.std.proofs.Math.Bool.{or-false as or_none}
+use Rattle.c_law.proofs.TypeEnvs.{count_move as after_swap}
+use Rattle.term_core.proofs.Substituting.{low_or_past as near_or_far}
+use Rattle.c_law.proofs.Envs.{or_left, or_right}
 
 under_same : (n : ℕ) (live : ℕ → Bool) (r q : ℕ → ℕ) → ((i : ℕ) → live (lift n i) ≡ true → r i ≡ q i) → (i : ℕ) →
     live i ≡ true → under n (λ j. suc (r j)) i ≡ under n (λ j. suc (q j)) i
@@ -91,13 +56,6 @@ raise_under : (n b m : ℕ) (q : ℕ → ℕ) → Raises b m q → Raises (lift 
 raise_under zero b m q r i = r i
 raise_under (suc n) b m q r zero = refl
 raise_under (suc n) b m q r (suc i) = ap suc (raise_under n b m q r i)
-
-or_none : (a : Bool) → a || false ≡ a
-or_none true = refl
-or_none false = refl
-
-lift_back : (b i j : ℕ) → lift b i ≡ lift b j → i ≡ j
-lift_back b i j e = omega (arith, e, lift_add b i, lift_add b j)
 
 level_has : (td at m j : ℕ) (b i : ℕ) → td ≡ m + at → j < td → i < lift b at →
     has (level_of td j) (level_list at b i) ≡ nat_eq (lift b j) (under b (lift m) i)
@@ -180,10 +138,6 @@ above_none keep (suc d) l acc h =
     skip : (b : Bool) → above l (pick_level b d acc) ≡ above l acc
     skip true = ap (λ x. after_one x (above l acc)) (le-ltb l d (omega (arith, h)))
     skip false = refl
-
-after_swap : (b : Bool) (x y : ℕ) → x + after_one b y ≡ after_one b x + y
-after_swap true x y = omega arith
-after_swap false x y = refl
 
 pub above_rank : (keep : ℕ → Bool) (d i : ℕ) (acc : List ℕ) → i < d →
     above (level_of d i) (levels keep d acc) ≡ rank keep i + above (level_of d i) acc

@@ -4,14 +4,14 @@ use Rattle.std.proofs.Common.{get_or, refl, sym, ◌∙◌, ap, subst, arith, ap
 use Rattle.std.proofs.Common.{◌||◌}
 use Rattle.std.proofs.lemmas.List.{append-nil}
 use Rattle.std.proofs.Math.ListN.{drop_of_length-le}
-use Rattle.page_text.proofs.Listed.{next_item}
 use Rattle.page_text.specs.Names.{separator, type_names, value_name}
 use Rattle.c_writer.specs.Notation.{arguments_after, applied_text}
 use Rattle.c_terms.specs.C.{CTys, TCTuple, TCCode}
 use Rattle.c_terms.specs.Read.{ctree, ctys}
-use Rattle.c_terms.specs.declared.types.CType.{CType}
+use Rattle.term_core.specs.declared.types.CoreType.{CoreType as CType}
 use Rattle.c_writer.specs.Types.{names_variable, one_names_variable, type_text, types_text, types_after, closure_code}
 use Rattle.c_writer.specs.Types.{others_text, takes_hidden, are_closure}
+use Rattle.idx_core.proofs.Lists.{next_item}
 
 -- the variable is named by the next type, or is not
 pub named : (v : ℕ) (ts : List CType) (i : ℕ) (t : CType) → t ≡ get_or ts i t → i < length ts →

@@ -2,7 +2,6 @@
 use Rattle.std.proofs.Common.{◌≡◌, ◌≤◌, ◌<◌, ℕ, ◌+◌, List, [], length, drop, get_or, sym, ap, ◌∙◌, subst}
 use Rattle.std.proofs.Common.{Result, OnOk}
 use Rattle.std.proofs.Math.ListN.{drop_of_length-le}
-use Rattle.page_text.proofs.Listed.{next_item}
 use Rattle.c_terms.specs.C.{CTm}
 use Rattle.c_terms.specs.Stream.{CNd, clin_t}
 use Rattle.c_terms.specs.Read.{cnode, written}
@@ -12,6 +11,7 @@ use Rattle.c_writer.specs.Notation.{c_text}
 use Rattle.c_writer.specs.Standing.{IsPage}
 use Rattle.c_writer.specs.Walk.{Sheet, shut, step, walk, blank}
 use Rattle.c_writer.proofs.Walking.{nodes_make}
+use Rattle.idx_core.proofs.Lists.{next_item}
 
 pub as_step : {T E : Type 0} (r : Result T E) (n m : CNd) (g h : Page) → n ≡ m →
     OnOk r ((p : Sheet) → IsPage g p → IsPage h (step m p)) → OnOk r ((p : Sheet) → IsPage g p → IsPage h (step n p))

@@ -6,13 +6,12 @@ ghost use Rattle.c_writer.specs.Notation.{arguments_after, head_text};
 ghost use Rattle.c_writer.specs.Standing.{IsPage, IsShut};
 ghost use Rattle.c_writer.specs.Walk.{Sheet, enter, leave, shut, turn};
 
-use crate::depths::deeper;
 use crate::joining::piece_of;
 use crate::lines::margin_and;
 use crate::page::{Body, Page, Scope};
 use crate::types::write_type;
 use c_terms::CType;
-use idx_core::OutOfMemory;
+use idx_core::{OutOfMemory, sum};
 use page_text::{write_separator, write_type_names, write_value_name};
 use std::collections::VecDeque;
 use std::mem;
@@ -49,7 +48,7 @@ impl Page {
     {
         let mut head = Vec::new(self.alloc);
         write_head(&mut head, owes, args)?;
-        let indent = deeper(self.body.scope.indent, 1)?;
+        let indent = sum(self.body.scope.indent, 1)?;
         let text = self.pieces.bytes(head)?;
         let inner = Body {
             text,
@@ -105,7 +104,7 @@ impl Page {
         };
         let text = self.shut()?;
         let line = margin_and(self.alloc, scope.indent, b"else\n")?;
-        let indent = deeper(scope.indent, 1)?;
+        let indent = sum(scope.indent, 1)?;
         let end = self.pieces.bytes(line)?;
         self.body.text = self.pieces.joined(text, end)?;
         self.body.values = VecDeque::new(self.alloc);

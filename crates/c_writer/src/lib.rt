@@ -3,7 +3,6 @@
 
 mod bodies;
 mod closures;
-mod depths;
 mod joining;
 mod lines;
 mod operands;

@@ -5,12 +5,11 @@ ghost use Rattle.c_terms.specs.Read.{ctys};
 ghost use Rattle.c_writer.specs.Standing.{IsPage};
 ghost use Rattle.c_writer.specs.Walk.{Sheet, begun, line, declare, unpack, call, choose};
 
-use crate::depths::deeper;
 use crate::joining::wrapped;
 use crate::page::{Page, Scope};
 use crate::types::write_types;
 use c_terms::CType;
-use idx_core::OutOfMemory;
+use idx_core::{OutOfMemory, sum};
 use page_text::{write_margin, write_type_name, write_value_name};
 use std::alloc::Global;
 
@@ -69,7 +68,7 @@ impl Page {
         ensures { OnOk result ((p : Sheet) → IsPage self.old p → IsPage self.new (unpack p level)) }
     {
         let scope = self.body.scope;
-        let types = deeper(scope.types, 1)?;
+        let types = sum(scope.types, 1)?;
         let mut front = self.begin(b"let [")?;
         write_type_name(&mut front, scope.types)?;
         front.extend_from_slice(b", ")?;
@@ -102,7 +101,7 @@ impl Page {
         ensures { OnOk result ((p : Sheet) → IsPage self.old p → IsPage self.new (choose p)) }
     {
         let scope = self.body.scope;
-        let indent = deeper(scope.indent, 1)?;
+        let indent = sum(scope.indent, 1)?;
         let front = self.begin(b"if0 ")?;
         self.line(front, b" then\n")?;
         self.body.branches.push_front(scope)?;

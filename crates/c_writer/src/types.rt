@@ -6,9 +6,8 @@ ghost use Rattle.c_writer.specs.Types.{type_text, types_text, types_after, closu
 ghost use Rattle.c_writer.specs.Types.{closure_code};
 
 use crate::closures::is_closure;
-use crate::depths::deeper;
 use c_terms::CType;
-use idx_core::OutOfMemory;
+use idx_core::{OutOfMemory, sum};
 use page_text::{write_separator, write_type_name, write_type_names};
 
 // What a code or a closure begins with, up to its arguments, and how many type names are around these.
@@ -20,7 +19,7 @@ fn write_owed(text: &mut Vec<u8>, word: &[u8], depth: u64, owes: u64) -> Result<
     text.extend_from_slice(word)?;
     write_type_names(text, depth, owes)?;
     text.extend_from_slice(b"(")?;
-    let inner = deeper(depth, owes)?;
+    let inner = sum(depth, owes)?;
     Ok(inner)
 }
 
@@ -59,7 +58,7 @@ pub fn write_type(text: &mut Vec<u8>, t: &CType, depth: u64) -> Result<(), OutOf
             Ok(())
         }
         CType::Exists(t) => {
-            let inner = deeper(depth, 1)?;
+            let inner = sum(depth, 1)?;
             if is_closure(t) {
                 return write_closure(text, t, inner);
             }

@@ -22,7 +22,7 @@ use Rattle.f_terms.specs.declared.node.FShape.TheVariants as S
 use Rattle.f_terms.specs.declared.node.FTerm.{FTerm}
 use Rattle.f_terms.specs.Faults.{Passes}
 use Rattle.f_terms.proofs.TypeOf.{type_passed}
-use Rattle.f_terms.proofs.Occurs.{times, one, times_of, low, node_of, noted_same}
+use Rattle.f_terms.proofs.Occurs.{times, one, times_of, low, node_of, noted_same, total_none}
 use Rattle.f_check.specs.Walk.{Task, context, Part, Same, rest_of}
 use Rattle.f_check.specs.Notes.{IsNoted, first_type, inner, IsOf, Waits, Leading, Parts}
 use Rattle.f_check.specs.declared.frame.Frame.{Frame}
@@ -53,10 +53,6 @@ all_both P Q R f (x ∷ xs) h k =
 total_mid : (f : ℕ → ℕ) (xs : List ℕ) (x : ℕ) (ys : List ℕ) → total f (xs ++ x ∷ ys) ≡ total f xs + (f x + total f ys)
 total_mid f [] x ys = omega arith
 total_mid f (y ∷ xs) x ys = omega (arith, total_mid f xs x ys)
-
-total_none : (f : ℕ → ℕ) (ks : List ℕ) → total f ks ≡ 0 → All (λ k. f k ≡ 0) ks
-total_none f [] h = All-nil (λ k. f k ≡ 0)
-total_none f (k ∷ ks) h = All-cons (λ k. f k ≡ 0) k ks (omega (arith, h)) (total_none f ks (omega (arith, h)))
 
 -- with as many after it, an item of equal lists is the same
 long : {A : Type 0} (xs : List A) (x : A) (ys : List A) → length (xs ++ x ∷ ys) ≡ length xs + suc (length ys)

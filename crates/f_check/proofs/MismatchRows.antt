@@ -1,13 +1,14 @@
 -- Worked rows on what is at odds in a fault. The comment above each row is its text.
-use Rattle.std.proofs.Common.{◌≡◌, ℕ, zero, suc, ◌+◌, pos, refl, sym, ◌∙◌, ap, arith, inl, inr, lit<, lit≤, None}
+use Rattle.std.proofs.Common.{◌≡◌, ℕ, zero, suc, ◌+◌, pos, refl, ◌∙◌, ap, arith, inl, inr, lit<, lit≤, None}
 use Rattle.idx_core.specs.declared.arith.Op.TheVariants.{Add}
 use Rattle.f_terms.specs.declared.fault.Code.TheVariants.{E07, E08, E11, E12, E17, E18}
-use Rattle.f_terms.specs.Ty.{Ty, TInt, TVar, TArrow, TTuple, TSome, TRef, NoTys, MoreTys, shift, put, size, depth}
-use Rattle.f_terms.specs.TyLaws.{shift_none, unshift}
+use Rattle.f_terms.specs.Ty.{Ty, TInt, TVar, TArrow, TTuple, TSome, TRef, NoTys, MoreTys, put, size, depth}
+use Rattle.f_terms.specs.TyLaws.{shift_none}
 use Rattle.f_terms.specs.Tm.{Spn, Tm, SVar, SNum, SFix, SApp, SGen, STuple, SProj, SArith, SPack, SOpen, NoTms, MoreTms}
 use Rattle.f_terms.specs.Limits.{Within}
 use Rattle.f_terms.specs.Faults.{Passes}
 use Rattle.f_check.specs.Mismatch.{WType, WFunction, WField, WOutside, odds, FaultWith}
+use Rattle.f_terms.proofs.FaultRows.{hidden_is_inside}
 
 abbrev one : Spn → Tm
 one s = SNum s (pos 1)
@@ -73,11 +74,6 @@ pack_does_not_fit =
     )
 
 -- open [a,x] = pack[int,3] as some a. a in x: the type of x, under its name
-hidden_is_inside : (t : Ty) → TVar 0 ≡ shift 1 0 t → ⊥
-hidden_is_inside t e =
-    let same : TInt ≡ t = ap (λ (u : Ty). put 0 TInt u) e ∙ unshift t in
-    let h : TVar 0 ≡ TInt = e ∙ ap (λ (u : Ty). shift 1 0 u) (sym same) in cc
-
 hidden_type_escapes :
     FaultWith (SOpen (0, 42) (SPack (13, 37) TInt (SNum (22, 23) (pos 3)) (TSome (TVar 0))) (SVar (41, 42) 0)) 0 NoTys
     E18 (41, 42) (odds 1 WOutside (TVar 0))

@@ -12,7 +12,7 @@ use Rattle.f_parser.specs.Scope.{of_no_types, of_more_types, TermOf, of_var, of_
 use Rattle.f_parser.specs.Scope.{of_fields, of_proj, of_arith, of_if0, of_let, of_pack, of_open, of_cell, of_deref}
 use Rattle.f_parser.specs.Scope.{of_assign, TermsOf, of_no_terms, of_more_terms}
 
-place_below : (x : Name) (ns : List Name) (i : ℕ) → IsPlace x ns i → i < length ns
+pub place_below : (x : Name) (ns : List Name) (i : ℕ) → IsPlace x ns i → i < length ns
 place_below x [] i p = absurd p
 place_below x (n ∷ ns) zero p = omega arith
 place_below x (n ∷ ns) (suc i) p = let h = place_below x ns i p.1 in omega arith

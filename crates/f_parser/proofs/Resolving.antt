@@ -5,12 +5,11 @@ use Rattle.std.proofs.lemmas.List.{map-append, take_more, take-append-drop, drop
 use mathlib.Core.Former.{Count}
 use Rattle.idx_core.specs.declared.span.Span.{Span}
 use Rattle.idx_core.specs.Names.{Name, IsAbsent}
-use Rattle.f_terms.specs.declared.types.FType.{FType, Row_of-FType, end_of-FType, more_of-FType, items-the_row-FType}
-use Rattle.f_terms.specs.declared.types.FType.{items_hidden-the_row-FType-0}
+use Rattle.f_terms.specs.declared.types.FType.{FType, Row_of-FType, end_of-FType}
 use Rattle.f_terms.specs.declared.types.FType.TheVariants as ftype
-use Rattle.f_terms.specs.Ty.{Ty, TTuple, Tys, MoreTys, tys}
+use Rattle.f_terms.specs.Ty.{Ty, tys}
 use Rattle.f_terms.specs.Tm.{SNum}
-use Rattle.f_terms.specs.Read.{tree, trees, place}
+use Rattle.f_terms.specs.Read.{tree, place}
 use Rattle.f_grammar.specs.Raw.{RawTy, RTuple, raw_tys, RawTm, RVar, RNum}
 use Rattle.f_grammar.specs.Read.{type_of}
 use Rattle.f_grammar.specs.declared.raw.RawType.{RawType}
@@ -22,6 +21,7 @@ use Rattle.f_parser.specs.Resolve.{StopsAt}
 use Rattle.f_parser.specs.declared.resolve.Unresolved.{Unresolved}
 use Rattle.f_parser.specs.declared.resolve.Unresolved.TheVariants.{Memory, Value, «Type»}
 use Rattle.f_parser.proofs.Bound.{types_bound, first_left, first_right}
+use Rattle.f_terms.proofs.Trees.{tree_Tuple as tuple_type}
 
 -- a stop in a part
 pub stops_left : (text : List ℕ) (a b : List Use) (e : Unresolved) → StopsAt text a e → StopsAt text (a ++ b) e
@@ -39,15 +39,6 @@ stops_right text a b («Type» s) g h = (h.0, first_right text a b h.0 g h.1, h.
 abbrev type_row : FType → (n : Count) × Row_of-FType n
 type_row (ftype.Tuple' _ row) = (_, row)
 type_row _ = (_, end_of-FType)
-
-types_items : (n : _) (row : Row_of-FType n) → trees row ≡ tys (map tree (items-the_row-FType n row))
-types_items n end_of-FType = refl
-types_items n (more_of-FType t rest) = ap (λ (ts : Tys). MoreTys (tree t) ts) (types_items _ rest)
-
-pub tuple_type : (ts : Vec FType Global) → tree (ftype.Tuple ts) ≡ TTuple (tys (map tree ts.items))
-tuple_type ts =
-    let row = type_row (ftype.Tuple ts) in
-    ap TTuple (types_items row.0 row.1 ∙ ap (λ (xs : List FType). tys (map tree xs)) (items_hidden-the_row-FType-0 ts))
 
 -- types one after the other
 module _ (text : List ℕ) (a : List Name) where

@@ -295,7 +295,7 @@ opened_is_no_existential : Fault (SOpen (0, 19) (one (13, 14)) (SNum (18, 19) (p
 opened_is_no_existential = inr (TInt, refl, (refl, refl))
 
 -- open [a,x] = pack[int,3] as some a. a in x
-hidden_is_inside : (t : Ty) → TVar 0 ≡ shift 1 0 t → ⊥
+pub hidden_is_inside : (t : Ty) → TVar 0 ≡ shift 1 0 t → ⊥
 hidden_is_inside t e =
     let same : TInt ≡ t = ap (λ (u : Ty). put 0 TInt u) e ∙ unshift t in
     let h : TVar 0 ≡ TInt = e ∙ ap (λ (u : Ty). shift 1 0 u) (sym same) in cc

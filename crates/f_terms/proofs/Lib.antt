@@ -1,12 +1,11 @@
 mod Admitting
 mod Closing
 mod Decided
-mod FaultRows
+pub mod FaultRows
 mod Replacing
 mod Rows
 mod Sound
 mod TextRows
-mod Texts
 mod Turns
 pub mod Celled
 pub mod Faulty

@@ -5,7 +5,7 @@ use Rattle.std.proofs.lemmas.List.{get_or-set_other, length-set}
 use Rattle.std.proofs.lemmas.List.Elements.{All-nil, All-cons, All-head, All-tail}
 use Rattle.arena.specs.Roots.{total}
 use Rattle.arena.proofs.Once as once
-use Rattle.arena.proofs.Roots.{if_same}
+use Rattle.arena.proofs.Roots.{if_same, same_total as total_eq}
 use Rattle.f_terms.specs.Limits.{nodes}
 use Rattle.f_terms.specs.Tm.{Tm, Spn, plain, plain_all, tms, MFix, MApp, MGen, MInst, MTuple, MProj, MArith, MIf0}
 use Rattle.f_terms.specs.Tm.{MLet, MPack, MOpen, MRef, MDeref, MAssign, MoreTerms}
@@ -54,11 +54,6 @@ pub node_of : (f : FTerm) (i : ℕ) → i < count f →
     node_at f i ≡ shape_tree (node_at f) (place (at f i).span) (shape_at f i)
 node_of f i lt = node_is f i (at f i) lt (same_get no_node f.nodes.items i)
 
-total_eq : (f g : ℕ → ℕ) (ks : List ℕ) → All (λ k. f k ≡ g k) ks → total f ks ≡ total g ks
-total_eq f g [] h = refl
-total_eq f g (k ∷ ks) h =
-    omega (arith, All-head (λ k. f k ≡ g k) k ks h, total_eq f g ks (All-tail (λ k. f k ≡ g k) k ks h))
-
 abbrev full : FTerm → ℕ → ℕ
 full f = once.weight kids (λ j. 1) f.nodes.items
 
@@ -92,7 +87,7 @@ noted_here f ts i lt long =
     noted_is f ts i (at f i) (get_or ts i T.Int) lt (omega (arith, lt, long)) (same_get no_node f.nodes.items i)
     (same_get T.Int ts i)
 
-total_none : (f : ℕ → ℕ) (ks : List ℕ) → total f ks ≡ 0 → All (λ k. f k ≡ 0) ks
+pub total_none : (f : ℕ → ℕ) (ks : List ℕ) → total f ks ≡ 0 → All (λ k. f k ≡ 0) ks
 total_none f [] h = All-nil (λ k. f k ≡ 0)
 total_none f (k ∷ ks) h = All-cons (λ k. f k ≡ 0) k ks (omega (arith, h)) (total_none f ks (omega (arith, h)))
 

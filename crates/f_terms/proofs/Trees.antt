@@ -18,7 +18,7 @@ abbrev row_of : FType → (n : Count) × Row_of-FType n
 row_of (Tuple' _ row) = (_, row)
 row_of _ = (_, end_of-FType)
 
-trees_items : (n : _) (row : Row_of-FType n) → trees row ≡ tys (map tree (items-the_row-FType n row))
+pub trees_items : (n : _) (row : Row_of-FType n) → trees row ≡ tys (map tree (items-the_row-FType n row))
 trees_items n end_of-FType = refl
 trees_items n (more_of-FType t rest) = ap (MoreTys (tree t)) (trees_items _ rest)
 

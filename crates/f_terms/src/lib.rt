@@ -14,7 +14,6 @@ mod stack;
 mod step;
 mod table;
 mod term;
-mod text;
 mod types;
 
 pub use admission::admit;
@@ -31,5 +30,4 @@ pub use laws::{
 pub use node::{FNode, FParts, FShape, FTerm};
 pub use stack::{FStack, FStep};
 pub use table::{typed_node, types_aside};
-pub use text::type_text;
 pub use types::FType;

@@ -17,7 +17,8 @@ use Rattle.f_lexer.proofs.Finding.{source_signs}
 use Rattle.f_grammar.specs.Grammar.{tok}
 use Rattle.f_writer.proofs.Lexemes.{Lexeme, Reserved, ValueName, TypeName, Number, Sign, Pair, Spaced, Blank, bytes}
 use Rattle.f_writer.proofs.Lexemes.{render}
-use Rattle.f_writer.proofs.Items.{Stops, Valid, plain_sign, kind_of, width, lexeme_item, lexeme_keeps}
+use Rattle.text_core.proofs.Characters.{Stops}
+use Rattle.f_writer.proofs.Items.{Valid, plain_sign, kind_of, width, lexeme_item, lexeme_keeps}
 
 -- the length of what is written
 abbrev pub size : List Lexeme → ℕ

@@ -6,7 +6,7 @@ use Rattle.std.proofs.Common.{subst, length-append, if◌then◌else◌, ◌==�
 use Rattle.std.specs.Prelude.{nat_abs, bytes_eq}
 use Rattle.std.proofs.lemmas.Int.{ints}
 use Rattle.std.proofs.lemmas.List.{length-drop}
-use Rattle.idx_core.specs.Names.{Name, IsPlace}
+use Rattle.idx_core.specs.Names.{Name}
 use Rattle.idx_core.specs.Over.{IsWord, BelowAt}
 use Rattle.text_core.specs.Byte.{value}
 use Rattle.text_core.specs.Tokens.{Spells, s_word, s_plain, s_negative, s_sign, s_pair, Item, Spelling}
@@ -35,6 +35,7 @@ use Rattle.f_parser.specs.Scope.{of_arith, of_if0, of_let, of_pack, of_open, of_
 use Rattle.f_parser.specs.Scope.{of_no_terms, of_more_terms}
 use Rattle.f_writer.specs.Fits.{TypeFits, Fits, AllFit}
 use Rattle.f_writer.specs.Laws.{ReadTermsCanBeWritten}
+use Rattle.f_parser.proofs.Closed.{place_below}
 
 -- the numbers of tokens
 
@@ -354,11 +355,6 @@ mutual
       (fits_E n m y z.types_right z.values_right z.sound_right)
 
 -- and in the term, where each name has a binder
-
-place_below : (name : Name) (names : List Name) (i : ℕ) → IsPlace name names i → i < length names
-place_below name [] i h = absurd h
-place_below name (x ∷ xs) zero h = omega arith
-place_below name (x ∷ xs) (suc i) h = let p = place_below name xs i h.1 in omega arith
 
 longer : (x : Name) (xs : List Name) → length xs + 1 ≡ length (x ∷ xs)
 longer x xs = omega arith

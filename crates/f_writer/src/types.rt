@@ -3,10 +3,9 @@ ghost use Rattle.std.specs.Prelude.{◌≡◌, ◌++◌, [], ◌+◌, codes, OnO
 ghost use Rattle.f_terms.specs.Text.{name_text, is_grouped, separator, text_at};
 ghost use Rattle.f_terms.specs.Read.{tree};
 
-use crate::depths::deeper;
 use crate::names::write_type_name;
 use f_terms::FType;
-use idx_core::OutOfMemory;
+use idx_core::{OutOfMemory, sum};
 use std::alloc::Global;
 
 // A binder inside `depth` type names, and how many there are in what follows it.
@@ -18,7 +17,7 @@ fn write_binder(text: &mut Vec<u8>, word: &[u8], depth: u64) -> Result<u64, OutO
     text.extend_from_slice(word)?;
     write_type_name(text, depth)?;
     text.extend_from_slice(b". ")?;
-    let inner = deeper(depth, 1)?;
+    let inner = sum(depth, 1)?;
     Ok(inner)
 }
 
@@ -103,7 +102,8 @@ pub(crate) fn write_type(text: &mut Vec<u8>, t: &FType, depth: u64) -> Result<()
 }
 
 /// The text of a type inside so many type names (own choice): as in the text of a term, the names are numbered from the
-/// outermost. Errors: want of memory.
+/// outermost. Parentheses stand only round an arrow, an `all` or a `some` on the left of an arrow or after `ref`. Errors:
+/// want of memory.
 pub fn type_at(alloc: Global, t: &FType, names: u64) -> Result<Vec<u8>, OutOfMemory>
     ensures { IfOk result (λ text. text.items ≡ text_at names (tree t.now)) }
 {

@@ -12,6 +12,7 @@ use Rattle.a_writer.specs.Notation.{a_text}
 use Rattle.t_terms.specs.Tree.{TProg}
 use Rattle.pipeline.specs.Compilation.{IsTranslation}
 use Rattle.pipeline.specs.Made.{IsMade}
+use Rattle.pipeline.specs.OneProgram.{AsMade}
 use Rattle.forms.specs.Forms.{assembly_text, form_text}
 
 -- the notation of the program of a form in a translation
@@ -23,12 +24,13 @@ text_in Hoisted e P t = h_text t.blocks t.main
 text_in Allocated e P t = a_text t.allocated t.start
 text_in Assembly e P t = assembly_text P
 
--- There is a translation of the term by the rules of the passes in turn, the one that the passes make, and the text is
--- the notation of its program of that form.
+-- There is a translation of the term by the rules of the passes in turn, the one that the passes make, with the forms
+-- on the way that they make, and the text is the notation of its program of that form.
 pub record IsFormOf (form : Form) (e : Term) (text : List ℕ) : Type 0 where
   pub program : TProg
   pub translation : IsTranslation e program
   pub made : IsMade e program
+  pub as_made : AsMade e program translation
   pub is : text ≡ text_in form e program translation
 
 -- the law: the text of each form of a program is that of a translation

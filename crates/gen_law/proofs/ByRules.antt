@@ -1,6 +1,6 @@
 -- What is generated for a typed program is so by the rules.
 use Rattle.std.proofs.Common.{◌≡◌, ◌<◌, ◌≤◌, ℕ, zero, suc, ◌+◌, ◌-◌, List, [], ◌∷◌, ◌++◌, length, Option, Some, None}
-use Rattle.std.proofs.Common.{refl, sym, ap, ◌∙◌, subst, arith, ⊎_elim, inr, slice_get, length-append}
+use Rattle.std.proofs.Common.{refl, sym, ap, ◌∙◌, subst, arith, ⊎_elim, inr, slice_get, length-append, inl}
 use Rattle.std.specs.Prelude.{◌==◌, Bool, true, ◌&&◌, ◌||◌}
 use Rattle.std.proofs.lemmas.Bool.{eq-eqb, eqb-true, cond_both, cond-true, or_cases, or_left, or_right, and_from}
 use Rattle.std.proofs.lemmas.Bool.{and_parts}
@@ -25,11 +25,12 @@ use Rattle.gen_law.specs.GenLaws.{length_extras}
 use Rattle.gen_law.specs.Counting.{first_of}
 use Rattle.gen_law.specs.Rules.{Held, holding, nothing, IsPlain, Reads, most, Spare, Distinct}
 use Rattle.gen_law.specs.Rules.{Declares, Covers, Code, Fields, Tuples, GeneratedIsByRules, before}
+use Rattle.gen_law.specs.Rules.{IsPartOf, operands}
 use Rattle.gen_law.proofs.Free.{top_place, top_least, top_fewer, free_apart, spare_apart}
 use Rattle.gen_law.proofs.Covers.{Apart, apart_fewer, apart_args, look_header, header_only, in_scope}
 use Rattle.gen_law.proofs.Laying.{laid_out}
 use Rattle.gen_law.proofs.Loads.{Known, known_kept, known_fewer, known_above, brings_on, before_on, base_reg}
-use Rattle.gen_law.proofs.Loads.{reads_same}
+use Rattle.gen_law.proofs.Loads.{reads_same, whole_part}
 use Rattle.gen_law.proofs.Loads.{unnest_is, move_is, settled_is, named_is, home_low, call_comes}
 use Rattle.gen_law.proofs.Places.{HasAt, has_all, has_front, has_back, length_firsts, main_block, extras_at}
 use Rattle.gen_law.proofs.OneMore.{apart_next}
@@ -130,7 +131,7 @@ module _ (m : List ℕ) (e : ATm) (rest : TSeq) where
     held : Held
     next : TSeq
     comes : (ms : List Rattle.gen_law.specs.Rules.Move) × (is ≡ before ms next) × (length ms ≤ most x)
-        × Rattle.gen_law.specs.Rules.Brings c ms held
+        × Rattle.gen_law.specs.Rules.Brings (operands x) c ms held
     does : Declares held m after r x next rest
     stay : (n : ℕ) → after n ≡ true → held (place m n) ≡ c (place m n)
 
@@ -148,7 +149,7 @@ module _ (m : List ℕ) (e : ATm) (rest : TSeq) where
       let d = over m u in
       let far : (n : ℕ) → after n ≡ true → place m n < d = λ n y. (a n (or_right (uses v n) (after n) y)).1 in
       let few = known_fewer c m d u (uses v) (λ n y. or_left (uses v n) (after n) y) a in
-      let g = named_is v c m d d after e rest (omega arith) far few in
+      let g = named_is (v ∷ []) v c m d d after e rest (λ x i. inl i) (omega arith) far few in
       record {
         held = g.held;
         next = rest;
@@ -162,7 +163,7 @@ module _ (m : List ℕ) (e : ATm) (rest : TSeq) where
       let r = free m after e in
       let few = known_fewer c m d u (uses v) (λ n y. or_left (uses v n) (after n) y) a in
       let q = home r (small r m v) in
-      let g = settled_is v c m d r (Then (T.Ld r q (i - 1)) rest) few in
+      let g = settled_is (v ∷ []) v c m d r (Then (T.Ld r q (i - 1)) rest) (λ x i. inl i) few in
       record {
         held = g.held;
         next = Then (T.Ld r q (i - 1)) rest;
@@ -181,10 +182,11 @@ module _ (m : List ℕ) (e : ATm) (rest : TSeq) where
       (or_left (uses v n) (uses w n) z)) a in
       let few2 = known_fewer c m d u (uses w) (λ n z. or_left (uses v n || uses w n) (after n)
       (or_right (uses v n) (uses w n) z)) a in
-      let g = settled_is v c m d d (unnest (suc d) m w last) few in
+      let ws = v ∷ w ∷ [] in
+      let g = settled_is ws v c m d d (unnest (suc d) m w last) (λ x i. inl i) few in
       let low = home_low v c m d d few (omega arith) in
       let kept = known_kept c g.held m d (uses w) (λ j lt. g.others j (λ z. absurd (omega (arith, z, lt)))) few2 in
-      let k = unnest_is w g.held m d (suc d) last kept in
+      let k = unnest_is ws w g.held m d (suc d) last (λ x i. inr (inl i)) kept in
       let first = reads_same g.held k.held v (reg q) (λ j z.
       (let s = base_reg z in k.others j (λ t. absurd (omega (arith, s, t, low))))) g.here in
       record {
@@ -194,7 +196,7 @@ module _ (m : List ℕ) (e : ATm) (rest : TSeq) where
           g.moves ++ k.moves,
           g.same ∙ ap (before g.moves) k.same ∙ sym (before_on g.moves k.moves last),
           (let z = length-append g.moves k.moves in omega (arith, z, g.few, k.few)),
-          brings_on g.moves k.moves c g.held k.held g.brings k.brings,
+          brings_on ws g.moves k.moves c g.held k.held g.brings k.brings,
         );
         does = (q, y, refl, first, k.here, free_spare);
         stay = λ n z.
@@ -207,7 +209,7 @@ module _ (m : List ℕ) (e : ATm) (rest : TSeq) where
       let d = over m u in
       let r = free m after e in
       let few = known_fewer c m d u (uses v) (λ n y. or_left (uses v n) (after n) y) a in
-      let g = unnest_is v c m d r (Then (T.Unpack r (small r m v)) rest) few in
+      let g = unnest_is (v ∷ []) v c m d r (Then (T.Unpack r (small r m v)) rest) (λ x i. inl i) few in
       record {
         held = g.held;
         next = Then (T.Unpack r (small r m v)) rest;
@@ -241,10 +243,11 @@ module _ (m : List ℕ) (e : ATm) (rest : TSeq) where
       (or_left (uses v n) (uses w n) z)) a in
       let few2 = known_fewer c m d all (uses w) (λ n z. or_left (uses v n || uses w n) (after n)
       (or_right (uses v n) (uses w n) z)) a in
-      let g = named_is v c m d s u e (unnest s m w (settle s (small s m w) last)) own.0 far few in
+      let ws = v ∷ w ∷ [] in
+      let g = named_is ws v c m d s u e (unnest s m w (settle s (small s m w) last)) (λ x i. inl i) own.0 far few in
       let kept : Known g.held m d (uses w) = λ n y.
       (let x = few2 n y in (g.stays n (or_left (uses w n) (after n) y) ∙ x.0, x.1)) in
-      let k = settled_is w g.held m d s last kept in
+      let k = settled_is ws w g.held m d s last (λ x i. inr (inl i)) kept in
       let tuple = reads_same g.held k.held v (reg r) (λ j z.
       (let t = base_reg z in k.others j (λ y. absurd (own.2 (t ∙ y))))) g.here in
       record {
@@ -254,7 +257,7 @@ module _ (m : List ℕ) (e : ATm) (rest : TSeq) where
           g.moves ++ k.moves,
           g.same ∙ ap (before g.moves) k.same ∙ sym (before_on g.moves k.moves last),
           (let z = length-append g.moves k.moves in omega (arith, z, g.few, k.few)),
-          brings_on g.moves k.moves c g.held k.held g.brings k.brings,
+          brings_on ws g.moves k.moves c g.held k.held g.brings k.brings,
         );
         does = (q, refl, tuple, k.here);
         stay = λ n z.
@@ -292,9 +295,14 @@ module _ (p : AProg) (P : List TBlock) where
       let b = above m v vs in
       let least = top_least (length vs) m u in
       let more = top_fewer 0 (length vs) m u u (λ n y. y) (omega arith) in
-      let d = call_comes v ts vs 1 b m c (omega arith) (omega (arith, least))
+      let d = call_comes (Apply v ts ∷ vs) v ts vs 1 b m c (λ x i. of_call x i) (omega arith) (omega (arith, least))
       (known_above c m (over m u) b u (omega (arith, more)) known) in
       (d.held, d.code, (d.moves, d.same, d.few, d.brings), d.goes, d.order)
+    where
+      -- a part of the code is one of it with its types
+      of_call : (x : AVal) → IsPartOf x (v ∷ vs) → IsPartOf x (Apply v ts ∷ vs)
+      of_call x (inl i) = inl (inr i)
+      of_call x (inr i) = inr i
   code_is (If0 v a b) k m g at ap h has =
       let u = used (If0 v a b) in
       let d = over m u in
@@ -303,7 +311,8 @@ module _ (p : AProg) (P : List TBlock) where
       let few = known_fewer c m d u (uses v) (λ n y. or_left (uses v n) (used a n || used b n) y) known in
       let q = home d (small d m v) in
       let second = code k m (suc at) a in
-      let s = settled_is v c m d d (Then (T.Bnz q (T.Plain (T.Label at) (tvars k))) second) few in
+      let tests = Then (T.Bnz q (T.Plain (T.Label at) (tvars k))) second in
+      let s = settled_is (v ∷ []) v c m d d tests (λ x i. inl i) few in
       let in_a : (n : ℕ) → used a n ≡ true → u n ≡ true = λ n y.
       or_right (uses v n) (used a n || used b n) (or_left (used a n) (used b n) y) in
       let in_b : (n : ℕ) → used b n ≡ true → u n ≡ true = λ n y.
@@ -336,14 +345,14 @@ module _ (p : AProg) (P : List TBlock) where
       let c = holding 0 m u in
       let known = starts m g u a (λ n y. term_in p k g n (Halt v) h y) in
       let x = small d m v in
-      let r = unnest_is v c m d d (Rattle.gen_law.specs.Gen.move 1 x (Ends T.Halt)) known in
-      let q = (move_is 1 x v r.held (Ends T.Halt) r.here).0 in (
+      let r = unnest_is (v ∷ []) v c m d d (Rattle.gen_law.specs.Gen.move 1 x (Ends T.Halt)) (λ y i. inl i) known in
+      let q = (move_is (v ∷ []) 1 x v r.held (Ends T.Halt) (inl (whole_part v)) r.here).0 in (
         q.held,
         (
           r.moves ++ q.moves,
           r.same ∙ ap (before r.moves) q.same ∙ sym (before_on r.moves q.moves (Ends T.Halt)),
           (let z = length-append r.moves q.moves in omega (arith, z, r.few, q.few)),
-          brings_on r.moves q.moves c r.held q.held r.brings q.brings,
+          brings_on (v ∷ []) r.moves q.moves c r.held q.held r.brings q.brings,
         ),
         q.here,
       )

@@ -83,18 +83,18 @@ pub record Moved (B : List ESeq) (h : EHeap) (log : List ℕ) (env : List AWord)
   pub fits : Fits regs d env
 
 pub moves_run : (B : List ESeq) (h : EHeap) (log : List ℕ) (env : List AWord) (next : TSeq) (ms : List Move)
-    (c d : Held)
-    (ρ : ERegs) → Fits ρ c env → Brings c ms d → Moved B h log env ρ d (before ms next) next
-moves_run B h log env next [] c d ρ fits e =
+    (ws : List AVal) (c d : Held)
+    (ρ : ERegs) → Fits ρ c env → Brings ws c ms d → Moved B h log env ρ d (before ms next) next
+moves_run B h log env next [] ws c d ρ fits e =
     record { regs = ρ; leads = leads_none B _; fits = subst (λ z. Fits ρ z env) e fits }
-moves_run B h log env next (x ∷ ms) c d ρ fits (v, s, more) =
+moves_run B h log env next (x ∷ ms) ws c d ρ fits (v, part, s, more) =
     let r = reads_word ρ c env fits v x.value s in
     let σ = with_reg ρ x.to (word r.0) in
     let step : lstep B (at h ρ (Then (T.Mov x.to x.value) (before ms next)) log) ≡ Some (at h σ (before ms next) log) =
     ap (λ o. option_map (logged log) (option_map (λ w. EGoes Next
     (EAt h (with_reg ρ x.to w) (erase_seq (before ms next)))) o))
     r.2 in
-    let rest = moves_run B h log env next ms (with_reg c x.to v) d σ (fits_write ρ c env x.to v r.0 fits r.1) more in
+    let rest = moves_run B h log env next ms ws (with_reg c x.to v) d σ (fits_write ρ c env x.to v r.0 fits r.1) more in
     record { regs = rest.regs; leads = leads_on B _ _ _ (leads_step B _ _ step) rest.leads; fits = rest.fits }
 
 -- the instructions lead from is to rest, with w in the register r of the variable that is declared, where e is the rest

@@ -1,13 +1,10 @@
 -- Registers above those that are used, and free ones.
 use Rattle.std.proofs.Common.{◌≡◌, ℕ, zero, suc, ◌+◌, ◌<◌, ◌≤◌, List, [], ◌∷◌, sym, ◌∙◌, arith, cond, ⊎_elim}
-use Rattle.std.specs.Prelude.{◌==◌, nat_lt, Bool, true, false, ◌&&◌, not, length}
+use Rattle.std.specs.Prelude.{◌==◌, nat_lt, Bool, true, ◌&&◌, not, length}
 use Rattle.std.proofs.lemmas.Bool.{eq-eqb, eqb-true, ltb-true, ltb-false, cond_both, or_left, or_right, or_cases}
-use Rattle.std.proofs.lemmas.Bool.{and_from, and_parts, and_cases, not-true}
+use Rattle.std.proofs.lemmas.Bool.{and_from, and_parts, and_cases, not-true, true≢false as clash}
 use Rattle.a_terms.specs.Tree.{AVal, ATm, Let, Call, If0, Halt}
 use Rattle.gen_law.specs.Gen.{place, top, busy, first_free, names, argument, wanted, arguments, picked, free, spare}
-
-clash : true ≡ false → ⊥
-clash y = cc
 
 -- one register among them
 step : (b r : ℕ) (o : Bool) → (b ≤ cond (o && nat_lt b r) r b) × (o ≡ true → r ≤ cond (o && nat_lt b r) r b)

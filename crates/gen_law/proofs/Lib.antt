@@ -1,7 +1,7 @@
 mod Accepted
 mod ByRules
 mod Correct
-mod Covers
+pub mod Covers
 mod Decls
 mod Flats
 pub mod Free

@@ -1,7 +1,7 @@
 -- One more variable: its register is apart from those of the variables that are still used, and all are live.
 use Rattle.std.proofs.Common.{◌≡◌, ℕ, zero, suc, ◌<◌, List, ◌∷◌, length, Some, refl, sym, ap, ◌∙◌, arith}
-use Rattle.std.specs.Prelude.{Bool, true, false, ◌&&◌, ◌||◌}
-use Rattle.std.proofs.lemmas.Bool.{eq-eqb, cond_both, or_left, or_right, and_from}
+use Rattle.std.specs.Prelude.{Bool, true, ◌&&◌, ◌||◌}
+use Rattle.std.proofs.lemmas.Bool.{eq-eqb, cond_both, or_left, or_right, and_from, true≢false as not_both}
 use Rattle.a_terms.specs.Tree.{ATy, ATuple, AVal, Var, Num, Lab, Data, Apply, Pack, ADecl, Value, Proj, Arith, Unpack}
 use Rattle.a_terms.specs.Tree.{Malloc, Init, ATm, Let, AProg}
 use Rattle.a_terms.specs.Typing.{type_of, declared, Decl-ok}
@@ -39,9 +39,6 @@ apart_push m g g2 u v r a k len new = record { same = omega (arith, a.same, len)
     own zero (suc j) x y li lj e = absurd (new j x y (omega arith) e)
     own (suc i) zero x y li lj e = absurd (new i y x (omega arith) (sym e))
     own (suc i) (suc j) x y li lj e = ap suc (a.own i j (k i x) (k j y) (omega arith) (omega arith) e)
-
-not_both : true ≡ false → ⊥
-not_both y = cc
 
 -- where w tells what is still used, the rest's variables among them
 owner_apart : (p : AProg) (g : List ATy) (v : AVal) (t : ATy) (m : List ℕ) (w : ℕ → Bool) (e : ATm) (u : ℕ → Bool) →

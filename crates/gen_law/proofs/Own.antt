@@ -5,6 +5,7 @@ use Rattle.std.proofs.Common.{◌≡◌, ℕ, zero, suc, ◌<◌, ◌≤◌, Lis
 use Rattle.std.proofs.Common.{inr}
 use Rattle.std.specs.Prelude.{Bool, true, false, ◌&&◌, ◌||◌, ◌==◌, nat_lt, not}
 use Rattle.std.proofs.lemmas.Bool.{eq-eqb, cond_both, cases_order, or_left, or_right, and_from, and_parts}
+use Rattle.std.proofs.lemmas.Bool.{true≢false as not_both}
 use Rattle.a_terms.specs.Tree.{AVal, Var, Num, Lab, Data, Apply, Pack, ADecl, Value, Proj, Arith, Unpack, Malloc, Init}
 use Rattle.a_terms.specs.Tree.{ATm, Let}
 use Rattle.gen_law.specs.Gen.{place, uses, uses_decl, used, top, busy, first_free, picked, free, owner, target}
@@ -23,9 +24,6 @@ own_push m u v r o k new = go
     go zero (suc j) x y l e = absurd (new j x y l e)
     go (suc i) zero x y l e = absurd (new i y x (omega (arith, e)) (sym e))
     go (suc i) (suc j) x y l e = ap suc (o i j (k i x) (k j y) l e)
-
-not_both : true ≡ false → ⊥
-not_both y = cc
 
 own_owner : (v : AVal) (m : List ℕ) (w : ℕ → Bool) (e : ATm) (u : ℕ → Bool) → Own m u →
     ((n : ℕ) → used e (suc n) ≡ true → u n ≡ true) → ((n : ℕ) → uses v n ≡ true → u n ≡ true) →

@@ -3,13 +3,14 @@ use Rattle.std.proofs.Common.{◌≡◌, ◌<◌, ℕ, zero, suc, List, [], ◌�
 use Rattle.std.proofs.lemmas.Bool.{eqb-true}
 use Rattle.std.specs.Prelude.{pos, Some, true}
 use Rattle.idx_core.specs.declared.arith.Op.TheVariants.{Add, Mul}
-use Rattle.a_terms.specs.Tree.{Var, Num, Arith, ATm, Let, Halt}
+use Rattle.a_terms.specs.Tree.{AVal, Var, Num, Arith, ATm, Let, Halt}
 use Rattle.t_terms.specs.Tree as T
 use Rattle.t_terms.specs.Tree.{TSeq, Then, Ends}
 use Rattle.t_rules.specs.Registers.{with_reg}
 use Rattle.gen_law.specs.Gen.{reg, used}
 use Rattle.gen_law.specs.Worked.{alone}
-use Rattle.gen_law.specs.Rules.{Held, nothing, holding, Move, Brings, Declares, InOrder, Code}
+use Rattle.gen_law.specs.Rules.{Held, nothing, holding, Move, Brings, Declares, InOrder, Code, IsPartOf}
+use Rattle.gen_law.specs.Rules.{operands}
 
 abbrev number : ℕ → T.TValue
 number n = T.Plain (T.Int (pos n)) []
@@ -42,7 +43,7 @@ chosen_by_rules = (
   with_reg nothing 3 (Num (pos 1)),
   _,
   _,
-  (record { to = 3; value = number 1 } ∷ [], refl, omega arith, (Num (pos 1), inr refl, refl)),
+  (record { to = 3; value = number 1 } ∷ [], refl, omega arith, (Num (pos 1), inl refl, inr refl, refl)),
   (3, number 2, refl, inl (3, refl, refl), inr refl, λ n y l z. not_two n l),
   (λ n y l. absurd (not_two n l)),
   (λ i j x y a b e. one_only i j a b),
@@ -55,7 +56,11 @@ chosen_by_rules = (
     (7, reg 7, refl, (7, refl, refl), (7, refl, refl), λ n y l z. only_last n y),
     (λ n y l. absurd (only_last n y)),
     distinct,
-    (_, (record { to = 1; value = reg 5 } ∷ [], refl, omega arith, (Var 0, (5, refl, refl), refl)), (1, refl, refl)),
+    (
+      _,
+      (record { to = 1; value = reg 5 } ∷ [], refl, omega arith, (Var 0, inl refl, (5, refl, refl), refl)),
+      (1, refl, refl),
+    ),
   ),
 )
   where
@@ -73,10 +78,15 @@ abbrev by_way : List Move
 by_way =
     record { to = 9; value = reg 1 } ∷ record { to = 1; value = reg 2 } ∷ record { to = 2; value = reg 9 } ∷ []
 
-by_way_brings : (c : Held) × Brings both by_way c × InOrder c 1 (Var 0 ∷ Var 1 ∷ [])
+by_way_brings : (c : Held) × Brings (Var 0 ∷ Var 1 ∷ []) both by_way c × InOrder c 1 (Var 0 ∷ Var 1 ∷ [])
 by_way_brings = (
   _,
-  (Var 1, (1, refl, refl), (Var 0, (2, refl, refl), (Var 1, (9, refl, refl), refl))),
+  (
+    Var 1,
+    inr (inl refl),
+    (1, refl, refl),
+    (Var 0, inl refl, (2, refl, refl), (Var 1, inr (inl refl), (9, refl, refl), refl)),
+  ),
   ((1, refl, refl), ((2, refl, refl), tt)),
 )
 
@@ -84,10 +94,16 @@ by_way_brings = (
 abbrev over_it : List Move
 over_it = record { to = 1; value = reg 2 } ∷ record { to = 2; value = reg 1 } ∷ []
 
-over_it_brings : (c : Held) × Brings both over_it c × (c 2 ≡ Some (Var 0))
-over_it_brings = (_, (Var 0, (2, refl, refl), (Var 0, (1, refl, refl), refl)), refl)
+over_it_brings : (c : Held) × Brings (Var 0 ∷ []) both over_it c × (c 2 ≡ Some (Var 0))
+over_it_brings = (_, (Var 0, inl refl, (2, refl, refl), (Var 0, inl refl, (1, refl, refl), refl)), refl)
 
 -- a sum that is written over a variable that is still used is none: x in register 1, y = x + 1 in register 1
 clobbers : (c : Held) (m : TSeq) → Declares c (1 ∷ []) (λ n. true) 1 (Arith Add (Var 0) (Num (pos 1))) m (Ends T.Halt) →
     ⊥
 clobbers c m (q, y, is, first, second, spare) = spare 0 refl (omega arith) refl
+
+-- nor is a move of a value that nobody asks for before y = x * x
+idle : (v : AVal) → IsPartOf v (operands (Arith Mul (Var 0) (Var 0))) → v ≡ Var 0
+idle v (inl is) = is
+idle v (inr (inl is)) = is
+idle v (inr (inr is)) = absurd is

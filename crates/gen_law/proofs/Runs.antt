@@ -17,7 +17,7 @@ use Rattle.t_rules.specs.Erase.{ERegs, ELabel, EAt, ESeq, EThen, EJmp, EHalt, ba
 use Rattle.t_rules.specs.Erase.{erase_block}
 use Rattle.gen_law.specs.Gen.{reg, place, uses, used, tvars, rows, ty_args}
 use Rattle.gen_law.specs.Counting.{one, count, first_of, spare, share_of, share, credit}
-use Rattle.gen_law.specs.Rules.{Held, holding, Comes, InOrder, Code, IsBlock}
+use Rattle.gen_law.specs.Rules.{Held, holding, Comes, InOrder, Code, IsBlock, operands}
 use Rattle.gen_law.proofs.Leads.{LState, On, lstep, after, Leads, Moves, leads_on, leads_step, moves_step}
 use Rattle.gen_law.proofs.Lift.{HaltsAt}
 use Rattle.gen_law.proofs.Words.{word, heap, Agree, Fits, agree_fewer, agree_stay, fits_start}
@@ -218,11 +218,11 @@ module _ (p : AProg) (P : List TBlock) (at0 k main : ℕ) (laid : Laid p P at0) 
       Follows B k limit (at (heap h) ρ (Ends (T.Jmp x)) tlog) c (calls p.blocks c l ws h log)
 
   -- the moves before an instruction
-  comes : (m : List ℕ) (u : ℕ → Bool) (n : ℕ) (is next : TSeq) (d : Held) (h : AHeap) (tlog : List ℕ)
-      (env : List AWord) (ρ : ERegs) → length m ≡ length env → Agree ρ m env u → Comes m u n is next d →
+  comes : (ws : List AVal) (m : List ℕ) (u : ℕ → Bool) (n : ℕ) (is next : TSeq) (d : Held) (h : AHeap) (tlog : List ℕ)
+      (env : List AWord) (ρ : ERegs) → length m ≡ length env → Agree ρ m env u → Comes ws m u n is next d →
       Moved B (heap h) tlog env ρ d is next
-  comes m u n is next d h tlog env ρ long agree (ms, same, few, brings) =
-      let r = moves_run B (heap h) tlog env next ms (holding 0 m u) d ρ (fits_start ρ m env u long agree) brings in
+  comes ws m u n is next d h tlog env ρ long agree (ms, same, few, brings) =
+      let r = moves_run B (heap h) tlog env next ms ws (holding 0 m u) d ρ (fits_start ρ m env u long agree) brings in
       record {
         regs = r.regs;
         leads = subst (λ z. Leads B (at (heap h) ρ z tlog) (at (heap h) r.regs next tlog)) (sym same) r.leads;
@@ -236,7 +236,7 @@ module _ (p : AProg) (P : List TBlock) (at0 k main : ℕ) (laid : Laid p P at0) 
         Follows B k limit (at (heap h) ρ is tlog) c (term (calls p.blocks c) e env h log)
     term_runs (Let x e) is env tv n m g h log ρ tlog (r, d, next, rest, moves, does, stay, own, more) long agree le =
         let s = at (heap h) ρ is tlog in
-        let a = comes m (used (Let x e)) _ is next d h tlog env ρ long agree moves in
+        let a = comes (operands x) m (used (Let x e)) _ is next d h tlog env ρ long agree moves in
         let ok = decl_runs B tlog m r e a.regs h env d next rest long a.fits stay x does in
         on_made B k limit s c log tlog m r e a.regs env h next rest (decl x env h) _ ok (λ w h2 f.
         follows_on B k limit s (at (heap h2) f.regs rest tlog) c _ (leads_on B _ _ _ a.leads f.leads)
@@ -245,7 +245,7 @@ module _ (p : AProg) (P : List TBlock) (at0 k main : ℕ) (laid : Laid p P at0) 
     term_runs (Call v ts vs) is env tv n m g h log ρ tlog (d, y, moves, code_reads, order) long agree le =
         let s = at (heap h) ρ is tlog in
         on_call B k limit s c log (value env v) _ (λ l x. on_args B k limit s c log (values env vs) _ (λ ws z.
-        let a = comes m (used (Call v ts vs)) _ is (Ends (T.Jmp y)) d h tlog env ρ long agree moves in
+        let a = comes (Apply v ts ∷ vs) m (used (Call v ts vs)) _ is (Ends (T.Jmp y)) d h tlog env ρ long agree moves in
         let goes = reads_this a.regs d env a.fits (Apply v ts) y (ZLabel l) code_reads x in
         let holds = order_holds a.regs d env a.fits vs ws 1 order z in
         follows_on B k limit s (at (heap h) a.regs (Ends (T.Jmp y)) tlog) c _ a.leads
@@ -258,7 +258,7 @@ module _ (p : AProg) (P : List TBlock) (at0 k main : ℕ) (laid : Laid p P at0) 
         let sum = spare_add k (suc n) (thirds a) (thirds b) in
         on_branch B k limit s c log (value env v) (term (calls p.blocks c) a env h log)
         (term (calls p.blocks c) b env h log) (λ i x.
-        let t = comes m (used (If0 v a b)) _ is (Then jumps second) d h tlog env ρ long agree moves in
+        let t = comes (v ∷ []) m (used (If0 v a b)) _ is (Then jumps second) d h tlog env ρ long agree moves in
         let here = reads_this t.regs d env t.fits v (reg q) (ZInt i) tests x in
         let kept = agree_stay t.regs d m env (λ j. used a j || used b j) long t.fits stay in
         on_pick B k limit s c (is_zero i) _ _
@@ -284,7 +284,7 @@ module _ (p : AProg) (P : List TBlock) (at0 k main : ℕ) (laid : Laid p P at0) 
     term_runs (Halt v) is env tv n m g h log ρ tlog (d, moves, reads) long agree le =
         let s = at (heap h) ρ is tlog in
         on_halt B k limit s c log (value env v) (λ i x.
-        let a = comes m (uses v) _ is (Ends T.Halt) d h tlog env ρ long agree moves in
+        let a = comes (v ∷ []) m (uses v) _ is (Ends T.Halt) d h tlog env ρ long agree moves in
         let j = a.leads.by 0 in
         record {
           steps = j.0;

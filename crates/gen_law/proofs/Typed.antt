@@ -3,7 +3,7 @@ use Rattle.std.proofs.Common.{◌≡◌, ℕ, zero, suc, ◌+◌, ◌-◌, ◌<�
 use Rattle.std.proofs.Common.{ap, ◌∙◌, subst, arith, inl, inr, ⊎_elim, slice_get}
 use Rattle.std.specs.Prelude.{◌≢◌, ◌==◌, Bool, true, false, not, ◌&&◌, ◌||◌}
 use Rattle.std.proofs.lemmas.Bool.{eq-eqb, eqb-true, cond_both, cases_eq, or_cases, or_left, or_right, and_parts}
-use Rattle.std.proofs.lemmas.Bool.{and_cases}
+use Rattle.std.proofs.lemmas.Bool.{and_cases, not-false as true_from_not}
 use Rattle.a_terms.specs.Tree.{ATy, AInt, ATuple, ACode, AExists, ATys, NoATys, MoreATys, AVal, Var, Num, Lab, Data}
 use Rattle.a_terms.specs.Tree.{Apply, Pack, ADecl, Value, Proj, Arith, Unpack, Malloc, Init, ATm, Let, Call, If0, Halt}
 use Rattle.a_terms.specs.Tree.{AProg, ashift, aput, ABelow-types}
@@ -31,7 +31,7 @@ use Rattle.gen_law.proofs.Covers.{look_same, look_other, Live, live_kept, live_f
 use Rattle.gen_law.proofs.Covers.{live_shift, fits_header, Apart, apart_fewer, in_scope, Keeps, live_stays, live_over}
 use Rattle.gen_law.proofs.Places.{HasAt, has_front}
 use Rattle.gen_law.proofs.Loads.{home_applied, wants, of_code, of_first, of_rest, later_none, owns_stands}
-use Rattle.gen_law.proofs.Loads.{true_from_not, place_instead, instead_not}
+use Rattle.gen_law.proofs.Loads.{place_instead, instead_not}
 use Rattle.gen_law.proofs.Free.{top_least, top_place, top_fewer, free_apart, spare_apart}
 use Rattle.gen_law.proofs.Values.{below_ty, below_tys, below_header, same_fits, tuple_fits, int_no_tuple}
 use Rattle.gen_law.proofs.Values.{code_no_tuple, exists_no_tuple, Labels, has_vars, applied_none, takes_types}

@@ -10,6 +10,7 @@ use Rattle.t_rules.specs.Registers.{with_reg}
 use Rattle.t_rules.specs.Erase.{EWord, EInt, EAddress, ELabel, EEmpty, EHeap, ERegs}
 use Rattle.gen_law.specs.Gen.{tys, place}
 use Rattle.gen_law.specs.Rules.{Held, holding, Stay}
+use Rattle.t_rules.proofs.Settled.{there}
 
 abbrev pub word : AWord → EWord
 word (ZInt i) = EInt i
@@ -49,11 +50,6 @@ agree_fewer ρ m env u v k a = λ n w y x. a n w (k n y) x
 -- each register that holds a value has its word
 abbrev pub Fits : ERegs → Held → List AWord → Type 0
 Fits ρ c env = (r : ℕ) (v : AVal) → c r ≡ Some v → (w : AWord) × (value env v ≡ Some w) × (ρ r ≡ Some (word w))
-
-there : {A : Type 0} (xs : List A) (n : ℕ) → n < length xs → (x : A) × (slice_get xs n ≡ Some x)
-there [] n l = absurd (omega arith)
-there (x ∷ xs) zero l = (x, refl)
-there (x ∷ xs) (suc n) l = there xs n (omega arith)
 
 none_some : {A : Type 0} (x : A) → None ≡ Some x → ⊥
 none_some x e = cc

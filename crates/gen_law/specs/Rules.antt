@@ -1,7 +1,7 @@
 -- Code generation by rules. Each variable that is still used has a register of its own, and any registers will do. A
--- declaration becomes its instruction, a call its jump, with moves before it where an operand is not at hand. Moves are
--- run on names: what value each register holds. A third part is a block of its own, which takes the variables that it
--- uses.
+-- declaration becomes its instruction, a call its jump, with moves before it where an operand is not at hand, of its
+-- operands and their parts alone. Moves are run on names: what value each register holds. A third part is a block of
+-- its own, which takes the variables that it uses.
 use Rattle.std.specs.Prelude.{◌≡◌, ◌⊎◌, ◌<◌, ◌≤◌, ℕ, suc, ◌+◌, ◌-◌, ◌==◌, List, [], ◌∷◌, length, slice_get, Option}
 use Rattle.std.specs.Prelude.{Some}
 use Rattle.std.specs.Prelude.{None, Bool, true, cond, ◌&&◌, ◌||◌}
@@ -16,6 +16,7 @@ use Rattle.a_terms.specs.Tree.{ATy, AVal, Var, Num, Lab, Data, Apply, Pack, ADec
 use Rattle.a_terms.specs.Tree.{Init, ATm, Let, Call, If0, Halt, ABlk, AConsts, AProg, arity}
 use Rattle.a_terms.specs.Typing.{declared, more_vars, types_of, Program-ok}
 use Rattle.a_terms.specs.Bound.{thirds, all_thirds}
+use Rattle.a_terms.specs.Meaning.{NeverWrong}
 use Rattle.gen_law.specs.Gen.{ty, ty_args, tys, reg, applied_to, place, uses, used, tvars, rows, generated}
 use Rattle.gen_law.specs.Counting.{first_of, first_third}
 use Rattle.gen_law.specs.Correct.{Keeps}
@@ -58,14 +59,37 @@ abbrev pub before : List Move → TSeq → TSeq
 before [] rest = rest
 before (x ∷ ms) rest = Then (T.Mov x.to x.value) (before ms rest)
 
--- the moves in order, after which the registers hold d
-abbrev pub Brings : Held → List Move → Held → Type 0
-Brings c [] d = c ≡ d
-Brings c (x ∷ ms) d = (v : AVal) × Reads c v x.value × Brings (with_reg c x.to v) ms d
+-- v is a value, or what is applied or packed in it
+abbrev pub IsPart : AVal → AVal → Type 0
+IsPart v (Var n) = v ≡ Var n
+IsPart v (Num i) = v ≡ Num i
+IsPart v (Lab l) = v ≡ Lab l
+IsPart v (Data n) = v ≡ Data n
+IsPart v (Apply w ts) = (v ≡ Apply w ts) ⊎ IsPart v w
+IsPart v (Pack h w s) = (v ≡ Pack h w s) ⊎ IsPart v w
 
--- before the instructions next come at most n moves, after which the registers hold c
-abbrev pub Comes : List ℕ → (ℕ → Bool) → ℕ → TSeq → TSeq → Held → Type 0
-Comes m u n is next c = (ms : List Move) × (is ≡ before ms next) × (length ms ≤ n) × Brings (holding 0 m u) ms c
+-- it is a part of one of these
+abbrev pub IsPartOf : AVal → List AVal → Type 0
+IsPartOf v [] = ⊥
+IsPartOf v (w ∷ ws) = IsPart v w ⊎ IsPartOf v ws
+
+-- moves of parts of the operands ws, in order, after which the registers hold d
+abbrev pub Brings : List AVal → Held → List Move → Held → Type 0
+Brings ws c [] d = c ≡ d
+Brings ws c (x ∷ ms) d = (v : AVal) × IsPartOf v ws × Reads c v x.value × Brings ws (with_reg c x.to v) ms d
+
+-- before the instructions next come at most n such moves, after which the registers hold c
+abbrev pub Comes : List AVal → List ℕ → (ℕ → Bool) → ℕ → TSeq → TSeq → Held → Type 0
+Comes ws m u n is next c = (ms : List Move) × (is ≡ before ms next) × (length ms ≤ n) × Brings ws (holding 0 m u) ms c
+
+-- the operands of a declaration
+abbrev pub operands : ADecl → List AVal
+operands (Value v) = v ∷ []
+operands (Proj i v) = v ∷ []
+operands (Arith o v w) = v ∷ w ∷ []
+operands (Unpack v) = v ∷ []
+operands (Malloc ts) = []
+operands (Init v i w) = v ∷ w ∷ []
 
 -- a move for each package, as one inside another goes through a register
 abbrev pub packages : AVal → ℕ
@@ -130,20 +154,22 @@ pub record Covers (u : ℕ → Bool) (m : List ℕ) (g : List ATy) (f : TFile) :
 -- third parts are blocks of P, from block at on
 abbrev pub Code : List TBlock → AProg → ℕ → List ℕ → List ATy → ℕ → ATm → TSeq → Type 0
 Code P p k m g at (Let x e) is =
-    (r : ℕ) × (c : Held) × (next : TSeq) × (rest : TSeq) × Comes m (used (Let x e)) (most x) is next c
+    (r : ℕ) × (c : Held) × (next : TSeq) × (rest : TSeq) × Comes (operands x) m (used (Let x e)) (most x) is next c
     × Declares c m (λ n. used e (suc n)) r x next rest × Stay m (λ n. used e (suc n)) c × Distinct (r ∷ m) (used e)
     × Code P p (more_vars x k) (r ∷ m) (declared p g x) at e rest
 Code P p k m g at (Call v ts vs) is =
-    (c : Held) × (y : TValue) × Comes m (used (Call v ts vs)) (most_all vs + packages v) is (Ends (T.Jmp y)) c
+    (c : Held) × (y : TValue)
+    × Comes (Apply v ts ∷ vs) m (used (Call v ts vs)) (most_all vs + packages v) is (Ends (T.Jmp y)) c
     × Reads c (Apply v ts) y × InOrder c 1 vs
 Code P p k m g at (If0 v a b) is =
     (q : ℕ) × (c : Held) × (second : TSeq) × (third : TBlock)
-    × Comes m (used (If0 v a b)) (suc (packages v)) is (Then (T.Bnz q (T.Plain (T.Label at) (tvars k))) second) c
+    × Comes (v ∷ []) m (used (If0 v a b)) (suc (packages v)) is
+    (Then (T.Bnz q (T.Plain (T.Label at) (tvars k))) second) c
     × Reads c v (reg q) × Stay m (λ n. used a n || used b n) c × (slice_get P at ≡ Some third) × (third.owes ≡ k)
     × Covers (used b) m g third.file × Code P p k m g (suc at) a second
     × Code P p k m g (suc at + thirds a) b third.code
 Code P p k m g at (Halt v) is =
-    (c : Held) × Comes m (uses v) (suc (packages v)) is (Ends T.Halt) c × Reads c v (reg 1)
+    (c : Held) × Comes (v ∷ []) m (uses v) (suc (packages v)) is (Ends T.Halt) c × Reads c v (reg 1)
 
 -- a block of code, for a term
 pub record IsBlock (P : List TBlock) (p : AProg) (k : ℕ) (f : TFile) (m : List ℕ) (g : List ATy) (at : ℕ) (e : ATm)
@@ -180,8 +206,8 @@ pub record Generates (p : AProg) (main : ATm) (P : TProg) : Type 0 where
 abbrev pub GeneratedIsByRules : Type 0
 GeneratedIsByRules = (p : AProg) (main : ATm) → Program-ok p main → Generates p main (generated p main)
 
--- whatever is so by the rules, and is accepted, means the same as the typed program
+-- whatever is so by the rules, and is accepted, means the same as a program that is never wrong, as each typed one
 abbrev pub RulesMeanTheSame : Type 0
 RulesMeanTheSame =
-    (p : AProg) (main : ATm) (P : TProg) → Program-ok p main → Generates p main P → Whole P → Accepted P →
+    (p : AProg) (main : ATm) (P : TProg) → NeverWrong p main → Generates p main P → Whole P → Accepted P →
     Keeps p main P

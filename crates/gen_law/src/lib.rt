@@ -37,12 +37,11 @@ pub fn generated_programs_are_by_rules()
     ensures { GeneratedIsByRules }
 {}
 
-/// Whatever is so by the rules, keeps the invariant of programs and is accepted means the same as the typed program,
-/// both ways, and its machine enters no block more often than the calls of that do.
+/// Whatever is so by the rules, keeps the invariant of programs and is accepted means the same as the allocated
+/// program, where that is never wrong, both ways, and its machine enters no block more often than the calls of that do.
 pub fn rules_mean_the_same()
     ensures { RulesMeanTheSame }
 {
-    a_terms::laws::typed_programs_are_never_wrong();
     t_rules::erased_runs_are_runs();
     t_rules::erased_runs_halt_alike();
     t_rules::erased_runs_join();
@@ -53,6 +52,7 @@ pub fn rules_mean_the_same()
 pub fn meaning_is_kept()
     ensures { MeaningKept }
 {
+    a_terms::laws::typed_programs_are_never_wrong();
     generated_programs_are_by_rules();
     rules_mean_the_same();
     types_are_kept();

@@ -16,14 +16,17 @@ use Rattle.c_terms.specs.Stream.{CNd, MApply, MArith, MCall, MCell, MCode, MElse
 use Rattle.c_terms.specs.Stream.{MPack, MProj, MSet, MTuple, MUnpack, MVar, clin_d, clin_t, clin_v, clin_vs, cwidth}
 use Rattle.h_terms.specs.H.{HApply, HArith, HBlks, HCall, HCell, HDecl, HGet, HIf, HLabel, HLet, HName, HPack, HProj}
 use Rattle.h_terms.specs.H.{HSet, HTm, HTuple, HUnpack, HVal, HVals, HVar, MoreHVals, NoHVals}
-use Rattle.h_terms.specs.Nodes.{at_last, no_term, tied, tupled, values}
+use Rattle.h_terms.specs.Nodes.{at_last, no_term, tied, tupled}
 use Rattle.h_terms.specs.Row.{others, top}
-use Rattle.h_pass.proofs.Spots.{deep, deep_suc, first_or, lift_add, near, self}
+use Rattle.h_pass.proofs.Spots.{deep, deep_suc, first_or, near, self}
 use Rattle.h_pass.specs.Hoist.{Code, Nobody, Own, blocks_d, blocks_t, blocks_v, blocks_vs, hoist_d, hoist_t, hoist_v}
 use Rattle.h_pass.specs.Hoist.{hoist_vs, spot, spot_value}
 use Rattle.h_pass.specs.Stream.{Around, Found, both, call_of, call_ok, code_found, end_found, found_in, hoisted}
 use Rattle.h_pass.specs.Stream.{name_at, whole}
 use Rattle.h_pass.specs.Walk.{Ends}
+use Rattle.term_core.proofs.Lifts.{lift_add}
+use Rattle.idx_core.proofs.Lists.{taken_all as take_left}
+use Rattle.h_terms.proofs.Parts.{at_last_push}
 
 -- blocks before what was found, and one more term
 abbrev pub with : HBlks → Found → Found
@@ -79,15 +82,6 @@ listed (MoreHVals v vs) = v ∷ listed vs
 tied_listed : (vs : HVals) → tied (listed vs) ≡ vs
 tied_listed NoHVals = refl
 tied_listed (MoreHVals v vs) = ap (MoreHVals v) (tied_listed vs)
-
-at_last_push : {X : Type 0} (f : X → X) (xs : List X) (x : X) → at_last f (xs ++ x ∷ []) ≡ xs ++ f x ∷ []
-at_last_push f [] x = refl
-at_last_push f (y ∷ []) x = refl
-at_last_push f (y ∷ z ∷ xs) x = ap (λ ys. y ∷ ys) (at_last_push f (z ∷ xs) x)
-
-take_left : {X : Type 0} (xs ys : List X) → take (length xs) (xs ++ ys) ≡ xs
-take_left [] ys = refl
-take_left {X} (x ∷ xs) ys = ap (λ (zs : List X). x ∷ zs) (take_left xs ys)
 
 drop_left : {X : Type 0} (xs ys : List X) → drop (length xs) (xs ++ ys) ≡ ys
 drop_left [] ys = refl

@@ -1,30 +1,27 @@
 -- Hoisting keeps the meaning.
-use Rattle.std.proofs.Common.{Bool, true, false, pos, ◌≡◌, ℕ, zero, suc, ◌+◌, nat_eq, [], ◌∷◌, ◌++◌, length, Option}
-use Rattle.std.proofs.Common.{Some, None, refl, sym, ap, ◌∙◌, subst, subst₂, arith, append_assoc, length-append}
+use Rattle.std.proofs.Common.{Bool, true, false, pos, ◌≡◌, ℕ, zero, suc, ◌+◌, nat_eq, [], ◌∷◌, ◌++◌, length}
+use Rattle.std.proofs.Common.{Some, refl, sym, ap, ◌∙◌, subst, subst₂, arith, append_assoc, length-append}
 use Rattle.std.proofs.Common.{eqb-true}
-use Rattle.idx_core.specs.declared.arith.Op.{Op}
-use Rattle.idx_core.specs.Arith.{is_zero}
-use Rattle.term_core.specs.Ends.{Result, enters, if_fits, lift, pick}
-use Rattle.c_terms.proofs.Putting.{lift_suc, lift_zero}
+use Rattle.term_core.proofs.Lifts.{lift_suc, lift_zero}
+use Rattle.term_core.specs.Ends.{Result, enters, if_fits, lift}
 use Rattle.c_terms.specs.C.{CApply, CArith, CCall, CCell, CCode, CDecl, CGet, CHalt, CIf, CInt, CLet, CName, CPack}
 use Rattle.c_terms.specs.C.{CProj, CSet, CTm, CTuple, CTys, CUnpack, CVal, CVals, CVar, MoreCVals, NoCVals, ccount}
 use Rattle.c_terms.specs.C.{cd_next, ct_next, cv_next, cvs_next}
-use Rattle.c_terms.specs.Meaning.{CEnter, CFails, CGives, CMade, CWord, CWords, MoreCWords, NoCWords, XCell, XCode}
-use Rattle.c_terms.specs.Meaning.{XInt, XTuple, cat, cat_zero, cd_value, center, cfield, cget, cgiven, chalt_with}
-use Rattle.c_terms.specs.Meaning.{cheld, chold, cone_more, conto, copen, coperate, cproject, crun, cset, csize, cterm}
-use Rattle.c_terms.specs.Meaning.{cv_value, cvs_value, cwith_value}
+use Rattle.c_terms.specs.Meaning.{CEnter, CWord, CWords, MoreCWords, NoCWords, XCell, XCode}
+use Rattle.c_terms.specs.Meaning.{XInt, XTuple, cat, cd_value, center}
+use Rattle.c_terms.specs.Meaning.{conto, copen, crun, csize, cterm}
+use Rattle.c_terms.specs.Meaning.{cv_value, cvs_value}
 use Rattle.h_terms.specs.H.{HBlk, HBlks, block_at}
-use Rattle.h_terms.specs.Meaning.{HEnter, HFails, HGives, HMade, HWord, HWords, MoreHWords, NoHWords, YCell, YInt}
-use Rattle.h_terms.specs.Meaning.{YLabel, YTuple, hat_zero, hd_value, henter, hfield, hget, hgiven, hhalt_with, hheld}
-use Rattle.h_terms.specs.Meaning.{hhold, hone_more, honto, hopen, hoperate, hproject, hrun, hset, hsize, hterm}
-use Rattle.h_terms.specs.Meaning.{hv_value, hvs_value, hwith_value, with_block}
+use Rattle.h_terms.specs.Meaning.{HEnter, HWord, HWords, MoreHWords, NoHWords, YCell, YInt}
+use Rattle.h_terms.specs.Meaning.{YLabel, hd_value, henter}
+use Rattle.h_terms.specs.Meaning.{honto, hopen, hrun, hsize, hterm}
+use Rattle.h_terms.specs.Meaning.{hv_value, hvs_value, with_block}
+use Rattle.h_pass.proofs.Words.{MadeStands, StandAll, Stands, all_size, compute_stands, get_stands, given_stands}
+use Rattle.h_pass.proofs.Words.{halt_stands, more_stands, project_stands, set_stands, value_stands, zero_stands}
 use Rattle.h_pass.specs.Hoist.{Code, Lost, Near, Nobody, Own, Self, Spot, block_of, blocks_d, blocks_of, blocks_t}
 use Rattle.h_pass.specs.Hoist.{blocks_v, blocks_vs, deeper, hoist_d, hoist_t, hoist_v, hoist_vs, main_of, spot}
 use Rattle.h_pass.specs.Hoist.{spot_value}
-
-fits_step : (k : Bool) (r q : Result) → (k ≡ true → r ≡ q) → if_fits k r ≡ if_fits k q
-fits_step true r q f = f refl
-fits_step false r q f = refl
+use Rattle.term_core.proofs.Ends.{fits_step}
 
 -- the program has the blocks of a tree whose codes are numbered from b on
 abbrev mutual
@@ -172,32 +169,23 @@ mutual
       )
   holds_t (CHalt v) ks b h = holds_v v ks b h
 
--- values
-abbrev mutual
-  Stands : HBlks → CWord → HWord → Type 0
-  Stands ks (XInt n) y = y ≡ YInt n
-  Stands ks (XTuple vs) y = (ys : HWords) × (y ≡ YTuple ys) × StandAll ks vs ys
-  Stands ks (XCell p) y = y ≡ YCell p
-  Stands ks (XCode b args body) y =
-      (owes : ℕ) × (y ≡ YLabel b) × (block_at ks b ≡ Some (block_of b owes args body)) × HoldsT ks (suc b) body
-
-  StandAll : HBlks → CWords → HWords → Type 0
-  StandAll ks NoCWords ys = ys ≡ NoHWords
-  StandAll ks (MoreCWords v vs) ys =
-      (z : HWord) × (zs : HWords) × (ys ≡ MoreHWords z zs) × Stands ks v z × StandAll ks vs zs
+-- the block of a code
+abbrev IsBlock : HBlks → ℕ → CTys → CTm → ℕ → Type 0
+IsBlock ks b args body l =
+    (l ≡ b) × (owes : ℕ) × (block_at ks b ≡ Some (block_of b owes args body)) × HoldsT ks (suc b) body
 
 -- an environment under d variables
 abbrev EnvOwn : HBlks → Own → CWords → Type 0
 EnvOwn ks Nobody NoCWords = Unit {0}
 EnvOwn ks Nobody (MoreCWords w ws) = ⊥
 EnvOwn ks (Code l) NoCWords = ⊥
-EnvOwn ks (Code l) (MoreCWords w ws) = Stands ks w (YLabel l) × (ws ≡ NoCWords)
+EnvOwn ks (Code l) (MoreCWords w ws) = Stands (IsBlock ks) w (YLabel l) × (ws ≡ NoCWords)
 
 abbrev EnvOk : HBlks → Own → ℕ → CWords → HWords → Type 0
 EnvOk ks own zero ws ys = EnvOwn ks own ws
 EnvOk ks own (suc d) NoCWords ys = ⊥
 EnvOk ks own (suc d) (MoreCWords w ws) NoHWords = ⊥
-EnvOk ks own (suc d) (MoreCWords w ws) (MoreHWords y ys) = Stands ks w y × EnvOk ks own d ws ys
+EnvOk ks own (suc d) (MoreCWords w ws) (MoreHWords y ys) = Stands (IsBlock ks) w y × EnvOk ks own d ws ys
 
 deeper_value : (s : Spot) (y : HWord) (ys : HWords) → hv_value (spot_value (deeper s)) (MoreHWords y ys)
     ≡ hv_value (spot_value s) ys
@@ -206,200 +194,83 @@ deeper_value (Self l) y ys = refl
 deeper_value Lost y ys = refl
 
 var_stands : (ks : HBlks) (own : Own) (d i : ℕ) (ws : CWords) (ys : HWords) → EnvOk ks own d ws ys →
-    Stands ks (cat ws i) (hv_value (spot_value (spot own d i)) ys)
+    Stands (IsBlock ks) (cat ws i) (hv_value (spot_value (spot own d i)) ys)
 var_stands ks Nobody zero i NoCWords ys h = refl
 var_stands ks Nobody zero i (MoreCWords w ws) ys h = absurd h
 var_stands ks (Code l) zero i NoCWords ys h = absurd h
 var_stands ks (Code l) zero zero (MoreCWords w ws) ys h = h.0
 var_stands ks (Code l) zero (suc i) (MoreCWords w ws) ys h =
-    subst (λ z. Stands ks (cat z i) (YInt (pos 0))) (sym h.1) refl
+    subst (λ z. Stands (IsBlock ks) (cat z i) (YInt (pos 0))) (sym h.1) refl
 var_stands ks own (suc d) i NoCWords ys h = absurd h
 var_stands ks own (suc d) i (MoreCWords w ws) NoHWords h = absurd h
 var_stands ks own (suc d) zero (MoreCWords w ws) (MoreHWords y ys) h = h.0
 var_stands ks own (suc d) (suc i) (MoreCWords w ws) (MoreHWords y ys) h =
-    subst (Stands ks (cat ws i)) (sym (deeper_value (spot own d i) y ys)) (var_stands ks own d i ws ys h.1)
+    subst (Stands (IsBlock ks) (cat ws i)) (sym (deeper_value (spot own d i) y ys)) (var_stands ks own d i ws ys h.1)
 
 mutual
   stands_v : (v : CVal) (ks : HBlks) (own : Own) (d b : ℕ) (ws : CWords) (ys : HWords) → HoldsV ks b v →
-      EnvOk ks own d ws ys → Stands ks (cv_value b v ws) (hv_value (hoist_v own d b v) ys)
+      EnvOk ks own d ws ys → Stands (IsBlock ks) (cv_value b v ws) (hv_value (hoist_v own d b v) ys)
   stands_v (CVar i) ks own d b ws ys k h = var_stands ks own d i ws ys h
   stands_v (CInt n) ks own d b ws ys k h = refl
   stands_v (CTuple vs) ks own d b ws ys k h = (_, refl, stands_vs vs ks own d b ws ys k h)
-  stands_v (CCode owes args body) ks own d b ws ys k h = (owes, refl, k.0, k.1)
+  stands_v (CCode owes args body) ks own d b ws ys k h = (b, refl, (refl, owes, k.0, k.1))
   stands_v (CApply v ts) ks own d b ws ys k h = stands_v v ks own d b ws ys k h
   stands_v (CPack hid v s) ks own d b ws ys k h = stands_v v ks own d b ws ys k h
 
   stands_vs : (vs : CVals) (ks : HBlks) (own : Own) (d b : ℕ) (ws : CWords) (ys : HWords) → HoldsVs ks b vs →
-      EnvOk ks own d ws ys → StandAll ks (cvs_value b vs ws) (hvs_value (hoist_vs own d b vs) ys)
+      EnvOk ks own d ws ys → StandAll (IsBlock ks) (cvs_value b vs ws) (hvs_value (hoist_vs own d b vs) ys)
   stands_vs NoCVals ks own d b ws ys k h = refl
   stands_vs (MoreCVals v vs) ks own d b ws ys k h =
       (_, _, refl, stands_v v ks own d b ws ys k.0 h, stands_vs vs ks own d (cv_next b v) ws ys k.1 h)
 
-abbrev OptionStands : HBlks → Option CWord → Option HWord → Type 0
-OptionStands ks None None = Unit {0}
-OptionStands ks None (Some y) = ⊥
-OptionStands ks (Some w) None = ⊥
-OptionStands ks (Some w) (Some y) = Stands ks w y
-
-field_stands : (ks : HBlks) (i : ℕ) (vs : CWords) (ys : HWords) → StandAll ks vs ys →
-    OptionStands ks (cfield i vs) (hfield i ys)
-field_stands ks i NoCWords ys r = subst (λ z. OptionStands ks None (hfield i z)) (sym r) tt
-field_stands ks zero (MoreCWords v vs) ys r = subst (λ z. OptionStands ks None (hfield 0 z)) (sym r.2) tt
-field_stands ks (suc zero) (MoreCWords v vs) ys r = subst (λ z. OptionStands ks (Some v) (hfield 1 z)) (sym r.2) r.3
-field_stands ks (suc (suc i)) (MoreCWords v vs) ys r =
-    subst (λ z. OptionStands ks (cfield (suc i) vs) (hfield (suc (suc i)) z)) (sym r.2)
-    (field_stands ks (suc i) vs r.1 r.4)
-
-project_stands : (ks : HBlks) (i : ℕ) (v : CWord) (y : HWord) → Stands ks v y →
-    OptionStands ks (cproject i v) (hproject i y)
-project_stands ks i (XInt n) y r = subst (λ z. OptionStands ks None (hproject i z)) (sym r) tt
-project_stands ks i (XTuple vs) y r =
-    subst (λ z. OptionStands ks (cfield i vs) (hproject i z)) (sym r.1) (field_stands ks i vs r.0 r.2)
-project_stands ks i (XCode b args body) y r = subst (λ z. OptionStands ks None (hproject i z)) (sym r.1) tt
-project_stands ks i (XCell p) y r = subst (λ z. OptionStands ks None (hproject i z)) (sym r) tt
-
-compute_stands : (ks : HBlks) (op : Op) (v w : CWord) (y z : HWord) → Stands ks v y → Stands ks w z →
-    OptionStands ks (coperate op v w) (hoperate op y z)
-compute_stands ks op (XInt x) (XInt u) y z r q =
-    subst₂ (λ a c. OptionStands ks (coperate op (XInt x) (XInt u)) (hoperate op a c)) (sym r) (sym q) refl
-compute_stands ks op (XInt x) (XTuple ws) y z r q =
-    subst₂ (λ a c. OptionStands ks None (hoperate op a c)) (sym r) (sym q.1) tt
-compute_stands ks op (XInt x) (XCode b args body) y z r q =
-    subst₂ (λ a c. OptionStands ks None (hoperate op a c)) (sym r) (sym q.1) tt
-compute_stands ks op (XInt x) (XCell p) y z r q =
-    subst₂ (λ a c. OptionStands ks None (hoperate op a c)) (sym r) (sym q) tt
-compute_stands ks op (XCell p) w y z r q = subst (λ a. OptionStands ks None (hoperate op a z)) (sym r) tt
-compute_stands ks op (XTuple vs) w y z r q = subst (λ a. OptionStands ks None (hoperate op a z)) (sym r.1) tt
-compute_stands ks op (XCode b args body) w y z r q = subst (λ a. OptionStands ks None (hoperate op a z)) (sym r.1) tt
-
-all_size : (ks : HBlks) (vs : CWords) (ys : HWords) → StandAll ks vs ys → hsize ys ≡ csize vs
-all_size ks NoCWords ys r = ap hsize r
-all_size ks (MoreCWords v vs) ys r = ap hsize r.2 ∙ ap suc (all_size ks vs r.1 r.4)
-
--- stores, place by place
-held_stands : (ks : HBlks) (p : ℕ) (st : CWords) (hst : HWords) → StandAll ks st hst →
-    OptionStands ks (cheld p st) (hheld p hst)
-held_stands ks p NoCWords hst r = subst (λ z. OptionStands ks None (hheld p z)) (sym r) tt
-held_stands ks zero (MoreCWords v st) hst r = subst (λ z. OptionStands ks (Some v) (hheld 0 z)) (sym r.2) r.3
-held_stands ks (suc p) (MoreCWords v st) hst r =
-    subst (λ z. OptionStands ks (cheld p st) (hheld (suc p) z)) (sym r.2) (held_stands ks p st r.1 r.4)
-
-hold_stands : (ks : HBlks) (p : ℕ) (st : CWords) (hst : HWords) (w : CWord) (y : HWord) → StandAll ks st hst →
-    Stands ks w y → StandAll ks (chold p w st) (hhold p y hst)
-hold_stands ks p NoCWords hst w y r q = ap (hhold p y) r
-hold_stands ks zero (MoreCWords v st) hst w y r q = (y, r.1, ap (hhold 0 y) r.2, q, r.4)
-hold_stands ks (suc p) (MoreCWords v st) hst w y r q =
-    (r.0, hhold p y r.1, ap (hhold (suc p) y) r.2, r.3, hold_stands ks p st r.1 w y r.4 q)
-
-more_stands : (ks : HBlks) (st : CWords) (hst : HWords) (w : CWord) (y : HWord) → StandAll ks st hst → Stands ks w y →
-    StandAll ks (cone_more st w) (hone_more hst y)
-more_stands ks NoCWords hst w y r q = (y, NoHWords, ap (λ z. hone_more z y) r, q, refl)
-more_stands ks (MoreCWords v st) hst w y r q =
-    (r.0, hone_more r.1 y, ap (λ z. hone_more z y) r.2, r.3, more_stands ks st r.1 w y r.4 q)
-
-abbrev MadeStands : HBlks → CMade → HMade → Type 0
-MadeStands ks CFails HFails = Unit {0}
-MadeStands ks CFails (HGives y hst) = ⊥
-MadeStands ks (CGives w st) HFails = ⊥
-MadeStands ks (CGives w st) (HGives y hst) = Stands ks w y × StandAll ks st hst
-
-given_stands : (ks : HBlks) (o : Option CWord) (p : Option HWord) (st : CWords) (hst : HWords) → OptionStands ks o p →
-    StandAll ks st hst → MadeStands ks (cgiven o st) (hgiven p hst)
-given_stands ks None None st hst h r = tt
-given_stands ks None (Some y) st hst h r = absurd h
-given_stands ks (Some v) None st hst h r = absurd h
-given_stands ks (Some v) (Some y) st hst h r = (h, r)
-
-get_stands : (ks : HBlks) (v : CWord) (y : HWord) (st : CWords) (hst : HWords) → Stands ks v y → StandAll ks st hst →
-    MadeStands ks (cget v st) (hget y hst)
-get_stands ks (XInt n) y st hst h r = subst (λ z. MadeStands ks CFails (hget z hst)) (sym h) tt
-get_stands ks (XTuple vs) y st hst h r = subst (λ z. MadeStands ks CFails (hget z hst)) (sym h.1) tt
-get_stands ks (XCode b args body) y st hst h r = subst (λ z. MadeStands ks CFails (hget z hst)) (sym h.1) tt
-get_stands ks (XCell p) y st hst h r =
-    subst (λ z. MadeStands ks (cgiven (cheld p st) st) (hget z hst)) (sym h)
-    (given_stands ks (cheld p st) (hheld p hst) st hst (held_stands ks p st hst r) r)
-
-set_stands : (ks : HBlks) (v w : CWord) (y z : HWord) (st : CWords) (hst : HWords) → Stands ks v y → Stands ks w z →
-    StandAll ks st hst → MadeStands ks (cset v w st) (hset y z hst)
-set_stands ks (XInt n) w y z st hst h q r = subst (λ x. MadeStands ks CFails (hset x z hst)) (sym h) tt
-set_stands ks (XTuple vs) w y z st hst h q r = subst (λ x. MadeStands ks CFails (hset x z hst)) (sym h.1) tt
-set_stands ks (XCode b args body) w y z st hst h q r = subst (λ x. MadeStands ks CFails (hset x z hst)) (sym h.1) tt
-set_stands ks (XCell p) w y z st hst h q r =
-    subst (λ x. MadeStands ks (cset (XCell p) w st) (hset x z hst)) (sym h)
-    ((NoHWords, refl, refl), hold_stands ks p st hst w z r q)
-
 stands_d : (e : CDecl) (ks : HBlks) (own : Own) (d b : ℕ) (ws : CWords) (ys : HWords) (st : CWords) (hst : HWords) →
-    HoldsD ks b e → EnvOk ks own d ws ys → StandAll ks st hst →
-    MadeStands ks (cd_value b e ws st) (hd_value (hoist_d own d b e) ys hst)
+    HoldsD ks b e → EnvOk ks own d ws ys → StandAll (IsBlock ks) st hst →
+    MadeStands (IsBlock ks) (cd_value b e ws st) (hd_value (hoist_d own d b e) ys hst)
 stands_d (CName v) ks own d b ws ys st hst k h r = (stands_v v ks own d b ws ys k h, r)
 stands_d (CProj i v) ks own d b ws ys st hst k h r =
-    given_stands ks _ _ st hst (project_stands ks i _ _ (stands_v v ks own d b ws ys k h)) r
+    given_stands (IsBlock ks) _ _ st hst (project_stands (IsBlock ks) i _ _ (stands_v v ks own d b ws ys k h)) r
 stands_d (CArith op v w) ks own d b ws ys st hst k h r =
-    given_stands ks _ _ st hst
-    (compute_stands ks op _ _ _ _ (stands_v v ks own d b ws ys k.0 h) (stands_v w ks own d (cv_next b v) ws ys k.1 h))
+    given_stands (IsBlock ks) _ _ st hst
+    (compute_stands (IsBlock ks) op _ _ _ _ (stands_v v ks own d b ws ys k.0 h)
+    (stands_v w ks own d (cv_next b v) ws ys k.1 h))
     r
 stands_d (CUnpack v) ks own d b ws ys st hst k h r = (stands_v v ks own d b ws ys k h, r)
 stands_d (CCell v) ks own d b ws ys st hst k h r =
-    (ap YCell (all_size ks st hst r), more_stands ks st hst _ _ r (stands_v v ks own d b ws ys k h))
-stands_d (CGet v) ks own d b ws ys st hst k h r = get_stands ks _ _ st hst (stands_v v ks own d b ws ys k h) r
+    (ap YCell (all_size (IsBlock ks) st hst r), more_stands (IsBlock ks) st hst _ _ r (stands_v v ks own d b ws ys k h))
+stands_d (CGet v) ks own d b ws ys st hst k h r = get_stands (IsBlock ks) _ _ st hst (stands_v v ks own d b ws ys k h) r
 stands_d (CSet v w) ks own d b ws ys st hst k h r =
-    set_stands ks _ _ _ _ st hst (stands_v v ks own d b ws ys k.0 h) (stands_v w ks own d (cv_next b v) ws ys k.1 h) r
+    set_stands (IsBlock ks) _ _ _ _ st hst (stands_v v ks own d b ws ys k.0 h)
+    (stands_v w ks own d (cv_next b v) ws ys k.1 h) r
 
 -- terms
 abbrev HFollows : HBlks → CEnter → HEnter → Type 0
 HFollows ks ce he =
     (b : ℕ) (owes : ℕ) (args : CTys) (body : CTm) (vs : CWords) (ys : HWords) (st : CWords) (hst : HWords) →
-    block_at ks b ≡ Some (block_of b owes args body) → HoldsT ks (suc b) body → StandAll ks vs ys →
-    StandAll ks st hst → csize vs ≡ ccount args →
+    block_at ks b ≡ Some (block_of b owes args body) → HoldsT ks (suc b) body → StandAll (IsBlock ks) vs ys →
+    StandAll (IsBlock ks) st hst → csize vs ≡ ccount args →
     he b (hoist_t (Code b) (ccount args) (suc b) body) (honto ys NoHWords) hst
     ≡ ce b body (conto vs (MoreCWords (XCode b args body) NoCWords)) st
 
 call_stands : (ks : HBlks) (ce : CEnter) (he : HEnter) → HFollows ks ce he →
-    (v : CWord) (y : HWord) (vs : CWords) (ys : HWords) (st : CWords) (hst : HWords) → Stands ks v y →
-    StandAll ks vs ys → StandAll ks st hst → hopen ks he y ys hst ≡ copen ce v vs st
+    (v : CWord) (y : HWord) (vs : CWords) (ys : HWords) (st : CWords) (hst : HWords) → Stands (IsBlock ks) v y →
+    StandAll (IsBlock ks) vs ys → StandAll (IsBlock ks) st hst → hopen ks he y ys hst ≡ copen ce v vs st
 call_stands ks ce he f (XInt n) y vs ys st hst r q w = ap (λ z. hopen ks he z ys hst) r
 call_stands ks ce he f (XTuple ws) y vs ys st hst r q w = ap (λ z. hopen ks he z ys hst) r.1
 call_stands ks ce he f (XCell p) y vs ys st hst r q w = ap (λ z. hopen ks he z ys hst) r
 call_stands ks ce he f (XCode b args body) y vs ys st hst r q w =
-    ap (λ z. hopen ks he z ys hst) r.1
+    ap (λ z. hopen ks he z ys hst) (r.1 ∙ ap YLabel r.2.0)
     ∙ ap (λ o. with_block o (λ k. if_fits (nat_eq (hsize ys) (ccount k.args)) (he b k.body (honto ys NoHWords) hst)))
-    r.2
+    r.2.2
     ∙ ap (λ n. if_fits (nat_eq n (ccount args))
-    (he b (hoist_t (Code b) (ccount args) (suc b) body) (honto ys NoHWords) hst)) (all_size ks vs ys q)
+    (he b (hoist_t (Code b) (ccount args) (suc b) body) (honto ys NoHWords) hst)) (all_size (IsBlock ks) vs ys q)
     ∙ fits_step (nat_eq (csize vs) (ccount args)) _ _
-    (λ e. f b r.0 args body vs ys st hst r.2 r.3 q w (eqb-true (csize vs) (ccount args) e))
-
-zero_stands : (ks : HBlks) (v : CWord) (y : HWord) (r q s t : Result) → Stands ks v y → s ≡ r → t ≡ q →
-    hat_zero y s t ≡ cat_zero v r q
-zero_stands ks (XInt n) y r q s t h d e = ap (λ z. hat_zero z s t) h ∙ pick_same (is_zero n)
-  where
-    pick_same : (b : Bool) → pick b s t ≡ pick b r q
-    pick_same true = d
-    pick_same false = e
-zero_stands ks (XTuple ws) y r q s t h d e = ap (λ z. hat_zero z s t) h.1
-zero_stands ks (XCode b args body) y r q s t h d e = ap (λ z. hat_zero z s t) h.1
-zero_stands ks (XCell p) y r q s t h d e = ap (λ z. hat_zero z s t) h
-
-halt_stands : (ks : HBlks) (v : CWord) (y : HWord) → Stands ks v y → hhalt_with y ≡ chalt_with v
-halt_stands ks (XInt n) y h = ap hhalt_with h
-halt_stands ks (XTuple ws) y h = ap hhalt_with h.1
-halt_stands ks (XCode b args body) y h = ap hhalt_with h.1
-halt_stands ks (XCell p) y h = ap hhalt_with h
-
-value_stands : (ks : HBlks) (o : CMade) (p : HMade) (f : CWord → CWords → Result) (g : HWord → HWords → Result) →
-    MadeStands ks o p →
-    ((v : CWord) (y : HWord) (st : CWords) (hst : HWords) → Stands ks v y → StandAll ks st hst → g y hst ≡ f v st) →
-    hwith_value p g ≡ cwith_value o f
-value_stands ks CFails HFails f g h k = refl
-value_stands ks CFails (HGives y hst) f g h k = absurd h
-value_stands ks (CGives v st) HFails f g h k = absurd h
-value_stands ks (CGives v st) (HGives y hst) f g h k = k v y st hst h.0 h.1
+    (λ e. f b r.2.1 args body vs ys st hst r.2.2 r.2.3 q w (eqb-true (csize vs) (ccount args) e))
 
 stands_t : (ks : HBlks) (ce : CEnter) (he : HEnter) → HFollows ks ce he →
     (t : CTm) (own : Own) (d b : ℕ) (ws : CWords) (ys : HWords) (st : CWords) (hst : HWords) → HoldsT ks b t →
-    EnvOk ks own d ws ys → StandAll ks st hst → hterm ks he (hoist_t own d b t) ys hst ≡ cterm ce b t ws st
+    EnvOk ks own d ws ys → StandAll (IsBlock ks) st hst → hterm ks he (hoist_t own d b t) ys hst ≡ cterm ce b t ws st
 stands_t ks ce he f (CLet e t) own d b ws ys st hst k h w =
-    value_stands ks (cd_value b e ws st) (hd_value (hoist_d own d b e) ys hst) _ _
+    value_stands (IsBlock ks) (λ r. r) (cd_value b e ws st) (hd_value (hoist_d own d b e) ys hst) _ _
     (stands_d e ks own d b ws ys st hst k.0 h w)
     (λ v y st2 hst2 r w2. stands_t ks ce he f t own (suc d) (cd_next b e) (MoreCWords v ws) (MoreHWords y ys) st2 hst2
     k.1 (r, h) w2)
@@ -407,12 +278,13 @@ stands_t ks ce he f (CCall g ts vs) own d b ws ys st hst k h w =
     call_stands ks ce he f _ _ _ _ st hst (stands_v g ks own d b ws ys k.0 h)
     (stands_vs vs ks own d (cv_next b g) ws ys k.1 h) w
 stands_t ks ce he f (CIf v t u) own d b ws ys st hst k h w =
-    zero_stands ks _ _ _ _ _ _ (stands_v v ks own d b ws ys k.0 h)
+    zero_stands (IsBlock ks) (λ r. r) _ _ _ _ _ _ (stands_v v ks own d b ws ys k.0 h)
     (stands_t ks ce he f t own d (cv_next b v) ws ys st hst k.1 h w)
     (stands_t ks ce he f u own d (ct_next (cv_next b v) t) ws ys st hst k.2 h w)
-stands_t ks ce he f (CHalt v) own d b ws ys st hst k h w = halt_stands ks _ _ (stands_v v ks own d b ws ys k h)
+stands_t ks ce he f (CHalt v) own d b ws ys st hst k h w =
+    halt_stands (IsBlock ks) (λ r. r) _ _ (stands_v v ks own d b ws ys k h)
 
-env_onto : (ks : HBlks) (own : Own) (d : ℕ) (vs ws : CWords) (ys zs : HWords) → StandAll ks vs ys →
+env_onto : (ks : HBlks) (own : Own) (d : ℕ) (vs ws : CWords) (ys zs : HWords) → StandAll (IsBlock ks) vs ys →
     EnvOk ks own d ws zs → EnvOk ks own (lift (csize vs) d) (conto vs ws) (honto ys zs)
 env_onto ks own d NoCWords ws ys zs r h = subst (λ y. EnvOk ks own d ws (honto y zs)) (sym r) h
 env_onto ks own d (MoreCWords v vs) ws ys zs r h =
@@ -428,7 +300,7 @@ hfollows ks (suc n) b owes args body vs ys st hst at holds r w e =
     (subst (λ k. EnvOk ks (Code b) k (conto vs (MoreCWords (XCode b args body) NoCWords)) (honto ys NoHWords))
     (lift_zero (csize vs) ∙ e)
     (env_onto ks (Code b) 0 vs (MoreCWords (XCode b args body) NoCWords) ys NoHWords r
-    ((owes, refl, at, holds), refl))) w)
+    ((b, refl, (refl, owes, at, holds)), refl))) w)
 
 pub hoist_kept : (t : CTm) (n : ℕ) → hrun n (blocks_of t) (main_of t) ≡ crun n t
 hoist_kept t n =

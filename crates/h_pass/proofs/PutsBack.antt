@@ -1,6 +1,6 @@
 -- Each block's code put back for its label gives the closed term.
 use Rattle.std.proofs.Common.{◌≡◌, ◌<◌, ◌≤◌, ◌⊎◌, inl, inr, ℕ, zero, suc, List, [], ◌∷◌, ◌++◌, refl, sym, ap, ap₂, ◌∙◌}
-use Rattle.std.proofs.Common.{subst, append_assoc, length, ◌+◌, arith, eq-eqb}
+use Rattle.std.proofs.Common.{subst, append_assoc, length, ◌+◌, arith, eq-eqb, cond, lt-ltb}
 use Rattle.std.proofs.lemmas.List.{length-append, append-nil}
 use Rattle.std.proofs.lemmas.Bool.{ne_eqb}
 use Rattle.term_core.specs.Ends.{lift}
@@ -9,15 +9,16 @@ use Rattle.c_terms.specs.C.{CProj, CSet, CTm, CTuple, CUnpack, CVal, CVals, CVar
 use Rattle.c_terms.specs.C.{ct_next, cv_next, cvs_next}
 use Rattle.c_terms.specs.Scope.{CScoped, CScoped_d, CScoped_v, CScoped_vs}
 use Rattle.h_terms.specs.H.{HBlks}
-use Rattle.h_pass.proofs.Spots.{deep, deep_suc, first_or, lift_add, near, self}
+use Rattle.h_pass.proofs.Spots.{deep, deep_suc, first_or, near, self}
 use Rattle.h_pass.specs.Back.{IsHoisted, back_d, back_t, back_v, back_vs, code_at, codes, codes_d, codes_t, codes_v}
-use Rattle.h_pass.specs.Back.{codes_vs, if_own, name_or}
+use Rattle.h_pass.specs.Back.{codes_vs, if_own, missing, name_or}
 use Rattle.h_pass.specs.Hoist.{Code, Nobody, Own, blocks_d, blocks_of, blocks_t, blocks_v, blocks_vs, hoist_d, hoist_t}
 use Rattle.h_pass.specs.Hoist.{hoist_v, hoist_vs, main_of, spot, spot_value}
+use Rattle.term_core.proofs.Lifts.{lift_add}
 
 -- the numbers of codes
 mutual
-  many_v : (b : ℕ) (v : CVal) → cv_next b v ≡ b + length (codes_v v)
+  pub many_v : (b : ℕ) (v : CVal) → cv_next b v ≡ b + length (codes_v v)
   many_v b (CVar i) = omega arith
   many_v b (CInt n) = omega arith
   many_v b (CTuple vs) = many_vs b vs
@@ -25,12 +26,12 @@ mutual
   many_v b (CApply v ts) = many_v b v
   many_v b (CPack h v s) = many_v b v
 
-  many_vs : (b : ℕ) (vs : CVals) → cvs_next b vs ≡ b + length (codes_vs vs)
+  pub many_vs : (b : ℕ) (vs : CVals) → cvs_next b vs ≡ b + length (codes_vs vs)
   many_vs b NoCVals = omega arith
   many_vs b (MoreCVals v vs) =
       omega (arith, many_vs (cv_next b v) vs, many_v b v, length-append (codes_v v) (codes_vs vs))
 
-  many_d : (b : ℕ) (e : CDecl) → cd_next b e ≡ b + length (codes_d e)
+  pub many_d : (b : ℕ) (e : CDecl) → cd_next b e ≡ b + length (codes_d e)
   many_d b (CName v) = many_v b v
   many_d b (CProj i v) = many_v b v
   many_d b (CArith op v w) = omega (arith, many_v (cv_next b v) w, many_v b v, length-append (codes_v v) (codes_v w))
@@ -39,7 +40,7 @@ mutual
   many_d b (CGet v) = many_v b v
   many_d b (CSet v w) = omega (arith, many_v (cv_next b v) w, many_v b v, length-append (codes_v v) (codes_v w))
 
-  many_t : (b : ℕ) (t : CTm) → ct_next b t ≡ b + length (codes_t t)
+  pub many_t : (b : ℕ) (t : CTm) → ct_next b t ≡ b + length (codes_t t)
   many_t b (CLet e t) = omega (arith, many_t (cd_next b e) t, many_d b e, length-append (codes_d e) (codes_t t))
   many_t b (CCall f ts vs) =
       omega (arith, many_vs (cv_next b f) vs, many_v b f, length-append (codes_v f) (codes_vs vs))
@@ -55,11 +56,11 @@ mutual
   many_t b (CHalt v) = many_v b v
 
 -- f gives these codes from label b on
-abbrev Holds : (ℕ → CVal) → ℕ → List CVal → Type 0
+abbrev pub Holds : (ℕ → CVal) → ℕ → List CVal → Type 0
 Holds f b [] = Unit {0}
 Holds f b (x ∷ xs) = (f b ≡ x) × Holds f (suc b) xs
 
-split : (f : ℕ → CVal) (b c : ℕ) (xs ys : List CVal) → c ≡ b + length xs → Holds f b (xs ++ ys) →
+pub split : (f : ℕ → CVal) (b c : ℕ) (xs ys : List CVal) → c ≡ b + length xs → Holds f b (xs ++ ys) →
     Holds f b xs × Holds f c ys
 split f b c [] ys e h =
     let same : b ≡ c = omega (arith, e) in
@@ -83,7 +84,8 @@ other_name (Code k) d b v h = ap (λ x. if_own x (CVar d) v) (ne_eqb k b (λ e. 
 
 -- a variable comes back
 back_near : (own : Own) (d i : ℕ) (f : ℕ → CVal) → i < d → back_v own d f (spot_value (spot own d i)) ≡ CVar i
-back_near own d i f lt = ap (λ s. back_v own d f (spot_value s)) (near own d i lt)
+back_near own d i f lt =
+    ap (λ s. back_v own d f (spot_value s)) (near own d i lt) ∙ ap (λ x. cond x (CVar i) missing) (lt-ltb i d lt)
 
 back_self : (k d i : ℕ) (f : ℕ → CVal) → (i < d) ⊎ (i ≡ d) → back_v (Code k) d f (spot_value (spot (Code k) d i))
     ≡ CVar i
@@ -157,11 +159,11 @@ backs_t f own d b (CIf v t u) o s h =
 backs_t f own d b (CHalt v) o s h = ap CHalt (backs_v f own d b v o s h)
 
 -- the list of codes gives its codes
-first_at : (b : ℕ) (x : CVal) (xs : List CVal) → code_at b (x ∷ xs) b ≡ x
+pub first_at : (b : ℕ) (x : CVal) (xs : List CVal) → code_at b (x ∷ xs) b ≡ x
 first_at zero x xs = refl
 first_at (suc b) x xs = first_at b x xs
 
-later_at : (b l : ℕ) (x : CVal) (xs : List CVal) → suc b ≤ l → code_at b (x ∷ xs) l ≡ code_at (suc b) xs l
+pub later_at : (b l : ℕ) (x : CVal) (xs : List CVal) → suc b ≤ l → code_at b (x ∷ xs) l ≡ code_at (suc b) xs l
 later_at b zero x xs le = absurd (omega (arith, le))
 later_at zero (suc l) x [] le = refl
 later_at zero (suc l) x (y ∷ ys) le = refl
@@ -173,7 +175,7 @@ holds_same f g b [] same h = tt
 holds_same f g b (x ∷ xs) same h =
     (same b (omega arith) ∙ h.0, holds_same f g (suc b) xs (λ l le. same l (omega (arith, le))) h.1)
 
-holds_all : (b : ℕ) (xs : List CVal) → Holds (code_at b xs) b xs
+pub holds_all : (b : ℕ) (xs : List CVal) → Holds (code_at b xs) b xs
 holds_all b [] = tt
 holds_all b (x ∷ xs) = (
   first_at b x xs,

@@ -1,6 +1,5 @@
 -- What a variable becomes.
-use Rattle.std.proofs.Common.{◌≡◌, ◌<◌, ◌+◌, ℕ, zero, suc, ◌⊎◌, inl, inr, refl, ap, arith}
-use Rattle.term_core.specs.Ends.{lift}
+use Rattle.std.proofs.Common.{◌≡◌, ◌<◌, ℕ, zero, suc, ◌⊎◌, inl, inr, refl, ap, arith}
 use Rattle.h_pass.specs.Hoist.{Code, Near, Nobody, Own, Self, deeper, spot}
 
 -- the names in scope of a closed term: in a code's body its own name is one more
@@ -31,6 +30,3 @@ first_or (suc d) (suc i) lt = up (first_or d i (omega (arith, lt)))
     up (inl h) = inl (omega (arith, h))
     up (inr h) = inr (ap suc h)
 
-pub lift_add : (n m : ℕ) → lift n m ≡ n + m
-lift_add zero m = omega arith
-lift_add (suc n) m = omega (arith, lift_add n m)

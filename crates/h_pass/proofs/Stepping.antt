@@ -6,7 +6,7 @@ use Rattle.std.proofs.lemmas.List.{length-append, append-nil}
 use Rattle.std.proofs.lemmas.Result.{on_ok_weaker}
 use Rattle.std.proofs.lemmas.Bool.{ltb-true}
 use Rattle.c_terms.specs.Stream as S
-use Rattle.c_terms.specs.declared.types.CType.{CType}
+use Rattle.term_core.specs.declared.types.CoreType.{CoreType as CType}
 use Rattle.c_terms.specs.declared.node.CNode.{CNode}
 use Rattle.h_terms.specs.declared.node.HPart.{HPart}
 use Rattle.h_terms.specs.declared.node.HForm.{HForm}
@@ -18,22 +18,20 @@ use Rattle.h_pass.specs.declared.state.Walk.{Walk}
 use Rattle.term_core.specs.Ends.{lift}
 use Rattle.c_terms.specs.C.{CTys, ccount}
 use Rattle.c_terms.specs.Read.{ctys, written}
-use Rattle.c_terms.specs.Walks.{put}
+use Rattle.term_core.specs.Walks.{put}
 use Rattle.h_terms.specs.H.{HBlk, HBlks, HLabel, HTm, HVal}
-use Rattle.h_terms.specs.Nodes.{HArity, HRow, HRows, h_block, h_blocks, h_build, h_kids, h_terms, h_tree, more}
+use Rattle.h_terms.specs.Nodes.{HArity, HRow, HRows, h_block, h_blocks, h_build, h_kids, h_terms, h_tree}
 use Rattle.h_terms.specs.Nodes.{no_term, reads, values}
 use Rattle.h_terms.specs.Row.{IsOne, IsSome, IsTwo, others, top}
 use Rattle.h_pass.proofs.Fusing.{call_ends}
-use Rattle.h_pass.proofs.Spots.{deep, lift_add}
+use Rattle.h_pass.proofs.Spots.{deep}
 use Rattle.h_pass.specs.Hoist.{Code, Nobody, Own}
 use Rattle.h_pass.specs.Stream.{Around, Found, both, code_found, found_in, has_room, hoisted, is_none, is_one, is_some}
 use Rattle.h_pass.specs.Stream.{is_two, nothing, out_found}
 use Rattle.h_pass.specs.Walk.{Begun, Declares, Ends, Goes, IsPart, Labelled, Makes, Stands, Steps, Walked, arity}
 use Rattle.h_pass.specs.Walk.{around, body_with, built, closes, fill_own, filled, h_onto, one_name, own_of, waiting}
-
-pub reads_push : (vs : List HVal) (ps : List HPart) (p : HPart) → reads vs (ps ++ p ∷ []) ≡ more p (reads vs ps)
-reads_push vs [] p = refl
-reads_push vs (q ∷ ps) p = reads_push (more q vs) ps p
+use Rattle.term_core.proofs.Lifts.{lift_add}
+use Rattle.term_core.proofs.Trees.{count_length as count_is}
 
 -- blocks
 pub fill_blocks : (bs : List HBlock) (l : ℕ) (k : HBlock) (body : Vec HNode Global) → l < length bs →
@@ -422,10 +420,6 @@ close_goes rest w f cur inner gs outer new p call out is cur_is outer_is count m
     its_label (length w.blocks.items) w.current.own f gs
     (subst (Labelled (length w.blocks.items) w.current.own) out st.labelled)
     (λ l mine lt. end_goes rest w f cur inner gs outer l new p call out is cur_is outer_is mine lt count made rows st)
-
-count_is : (ts : List CType) → ccount (ctys ts) ≡ length ts
-count_is [] = refl
-count_is (t ∷ ts) = ap suc (count_is ts)
 
 pub begin_goes : (rest : List S.CNd) (w : Walk) (owes : ℕ) (args : Vec CType Global) (body : Vec HNode Global)
     (parts : Vec HPart Global) (inner cur : Open) (outer : List Open) (label count : ℕ) (new : List HBlock)

@@ -1,7 +1,7 @@
 -- Hoisting keeps typing, with each property of types.
 use Rattle.std.proofs.Common.{◌≡◌, ◌<◌, ℕ, zero, suc, List, [], ◌∷◌, ◌++◌, Some, refl, sym, ap, ◌∙◌, subst, ap₂, arith}
 use Rattle.term_core.specs.Ends.{lift, under}
-use Rattle.c_terms.proofs.Putting.{lift_suc, lift_zero}
+use Rattle.term_core.proofs.Lifts.{lift_suc, lift_zero}
 use Rattle.c_terms.specs.C.{CApply, CArith, CCall, CCell, CCode, CGet, CHalt, CIf, CInt, CLet, CName, CPack, CProj}
 use Rattle.c_terms.specs.C.{CSet, CTm, CTuple, CTy, CTys, CUnpack, CVal, CVals, CVar, MoreCTys, MoreCVals, NoCTys}
 use Rattle.c_terms.specs.C.{NoCVals, TCCode, TCInt, TCRef, TCSome, TCTuple, TCVar, ccount, ct_next, cv_next}
@@ -39,17 +39,17 @@ closed_same owes args r h =
     (subst (λ n. CIns n args) (sym (lift_zero owes)) h))
 
 -- a scope under d variables
-abbrev OwnT : HBlks → Own → List CTy → List CTy → Type 0
+abbrev pub OwnT : HBlks → Own → List CTy → List CTy → Type 0
 OwnT ks Nobody cg hg = cg ≡ []
 OwnT ks (Code l) cg hg = (k : HBlk) × (block_at ks l ≡ Some k) × CIns k.owes k.args × (cg ≡ TCCode k.owes k.args ∷ [])
 
-abbrev ScopeT : HBlks → Own → ℕ → List CTy → List CTy → Type 0
+abbrev pub ScopeT : HBlks → Own → ℕ → List CTy → List CTy → Type 0
 ScopeT ks own zero cg hg = OwnT ks own cg hg
 ScopeT ks own (suc d) [] hg = ⊥
 ScopeT ks own (suc d) (c ∷ cg) [] = ⊥
 ScopeT ks own (suc d) (c ∷ cg) (h ∷ hg) = (c ≡ h) × ScopeT ks own d cg hg
 
-scope_ren : (ks : HBlks) (own : Own) (d : ℕ) (cg hg : List CTy) → ScopeT ks own d cg hg →
+pub scope_ren : (ks : HBlks) (own : Own) (d : ℕ) (cg hg : List CTy) → ScopeT ks own d cg hg →
     ScopeT ks own d (crens_scope suc cg) (crens_scope suc hg)
 scope_ren ks Nobody zero cg hg s = ap (crens_scope suc) s
 scope_ren ks (Code l) zero cg hg s =
@@ -58,7 +58,7 @@ scope_ren ks own (suc d) [] hg s = absurd s
 scope_ren ks own (suc d) (c ∷ cg) [] s = absurd s
 scope_ren ks own (suc d) (c ∷ cg) (h ∷ hg) s = (ap (cren suc) s.0, scope_ren ks own d cg hg s.1)
 
-scope_onto : (ks : HBlks) (own : Own) (d : ℕ) (ts : CTys) (cg hg : List CTy) → ScopeT ks own d cg hg →
+pub scope_onto : (ks : HBlks) (own : Own) (d : ℕ) (ts : CTys) (cg hg : List CTy) → ScopeT ks own d cg hg →
     ScopeT ks own (lift (ccount ts) d) (cargs_onto ts cg) (cargs_onto ts hg)
 scope_onto ks own d NoCTys cg hg s = s
 scope_onto ks own d (MoreCTys t ts) cg hg s =

@@ -1,18 +1,27 @@
 -- Each code put back for its label, and inside the code its own name.
-use Rattle.std.specs.Prelude.{◌≡◌, pos, ℕ, zero, suc, Bool, true, false, nat_eq, List, [], ◌∷◌, ◌++◌}
+use Rattle.std.specs.Prelude.{◌≡◌, pos, ℕ, zero, suc, Bool, true, false, cond, nat_eq, nat_lt, List, [], ◌∷◌, ◌++◌}
 use Rattle.c_terms.specs.C.{CApply, CArith, CCall, CCell, CCode, CDecl, CGet, CHalt, CIf, CInt, CLet, CName, CPack}
-use Rattle.c_terms.specs.C.{CProj, CSet, CTm, CTuple, CUnpack, CVal, CVals, CVar, MoreCVals, NoCVals, ccount}
+use Rattle.c_terms.specs.C.{CProj, CSet, CTm, CTuple, CUnpack, CVal, CVals, CVar, MoreCVals, NoCTys, NoCVals}
+use Rattle.c_terms.specs.C.{ccount}
 use Rattle.h_terms.specs.H.{HApply, HArith, HBlks, HCall, HCell, HDecl, HGet, HHalt, HIf, HInt, HLabel, HLet, HName}
 use Rattle.h_terms.specs.H.{HPack, HProj, HSet, HTm, HTuple, HUnpack, HVal, HVals, HVar, MoreHVals, NoHVals}
 use Rattle.h_pass.specs.Hoist.{Code, Nobody, Own}
 
+-- what stands where there is nothing to put back: no typed term has it
+abbrev pub missing : CVal
+missing = CApply (CInt (pos 0)) NoCTys
+
 -- the code of a label, where the list begins with label b
 abbrev pub code_at : ℕ → List CVal → ℕ → CVal
-code_at b [] l = CInt (pos 0)
+code_at b [] l = missing
 code_at zero (v ∷ vs) zero = v
 code_at zero (v ∷ vs) (suc l) = code_at zero vs l
-code_at (suc b) (v ∷ vs) zero = CInt (pos 0)
+code_at (suc b) (v ∷ vs) zero = missing
 code_at (suc b) (v ∷ vs) (suc l) = code_at b (v ∷ vs) l
+
+-- variable i of d ones
+abbrev pub variable : ℕ → ℕ → CVal
+variable d i = cond (nat_lt i d) (CVar i) missing
 
 -- one of two values
 abbrev pub if_own : Bool → CVal → CVal → CVal
@@ -27,7 +36,7 @@ name_or (Code b) d l v = if_own (nat_eq b l) (CVar d) v
 -- under d variables, where f gives the code of each label
 abbrev mutual
   pub back_v : Own → ℕ → (ℕ → CVal) → HVal → CVal
-  back_v own d f (HVar i) = CVar i
+  back_v own d f (HVar i) = variable d i
   back_v own d f (HInt n) = CInt n
   back_v own d f (HLabel l) = name_or own d l (f l)
   back_v own d f (HTuple vs) = CTuple (back_vs own d f vs)
@@ -95,6 +104,7 @@ abbrev mutual
   codes_t (CHalt v) = codes_v v
 
 -- a program is the hoisted form of a closed term: its blocks are the codes of the term, one for one and in order; and
--- each block's code put back for its label gives the term
+-- each block's code put back for its label gives the term. A label that no later block has, and a variable that is not
+-- in scope, give a term that is not typed
 abbrev pub IsHoisted : HBlks → HTm → CTm → Type 0
 IsHoisted ks t closed = (codes 0 ks ≡ codes_t closed) × (put_back ks t ≡ closed)

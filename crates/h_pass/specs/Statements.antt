@@ -1,8 +1,8 @@
 -- What hoisting keeps.
-use Rattle.std.specs.Prelude.{◌≡◌, ◌≢◌, ℕ, []}
-use Rattle.term_core.specs.Ends.{Stuck}
+use Rattle.std.specs.Prelude.{◌≡◌, ◌≢◌, ℕ, List, [], map}
+use Rattle.term_core.specs.Ends.{End, Result, Stuck}
 use Rattle.c_terms.specs.Bound.{CBound, CFits}
-use Rattle.c_terms.specs.C.{CTm}
+use Rattle.c_terms.specs.C.{CTm, CVal}
 use Rattle.c_terms.specs.Each.{CGoodP}
 use Rattle.c_terms.specs.Meaning.{crun}
 use Rattle.c_terms.specs.Reach.{CWithin}
@@ -12,15 +12,32 @@ use Rattle.c_terms.specs.Stream.{clin_t}
 use Rattle.c_terms.specs.Typing.{CGood}
 use Rattle.h_terms.specs.Bound.{HFits}
 use Rattle.h_terms.specs.Each.{HProgramP}
+use Rattle.h_terms.specs.H.{HBlks, HTm}
 use Rattle.h_terms.specs.Meaning.{hrun}
 use Rattle.h_terms.specs.Typing.{HProgramGood}
-use Rattle.h_pass.specs.Back.{IsHoisted}
+use Rattle.h_pass.specs.Back.{IsHoisted, code_at, codes}
 use Rattle.h_pass.specs.Hoist.{blocks_of, main_of}
 use Rattle.h_pass.specs.Stream.{hoisted, whole}
 
 -- the hoisted form is a translation of the closed term
 abbrev pub HoistIsBack : Type 0
 HoistIsBack = (t : CTm) → CGood 0 [] t → IsHoisted (blocks_of t) (main_of t) t
+
+-- how a run ends, and the codes that it enters, one after the other
+pub record CodesRun : Type 0 where
+  pub end : End
+  pub entered : List CVal
+
+-- a run of a program with these blocks, by the codes of the labels
+abbrev pub by_codes : HBlks → Result → CodesRun
+by_codes ks r = record { end = r.end; entered = map (code_at 0 (codes 0 ks)) r.entered }
+
+-- whatever is hoisted, by the rule, from a typed closed program is typed; and within each number of calls it ends as
+-- that does, and enters the same codes. Of two blocks with one code the rule leaves open which is entered
+abbrev pub HoistedMeansTheSame : Type 0
+HoistedMeansTheSame =
+    (ks : HBlks) (t : HTm) (closed : CTm) → CGood 0 [] closed → IsHoisted ks t closed →
+    HProgramGood ks t × ((n : ℕ) → by_codes ks (hrun n ks t) ≡ by_codes ks (crun n closed))
 
 -- within any number of calls it ends as the closed term does, and the blocks entered have the numbers of the codes
 -- entered

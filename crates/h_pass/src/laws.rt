@@ -1,6 +1,6 @@
 // What hoisting keeps, on trees.
 ghost use Rattle.h_pass.specs.Statements.{HoistIsBack, HoistKept, HoistTypesKept, HoistReach, HoistFits};
-ghost use Rattle.h_pass.specs.Statements.{ClosedNeverStuck};
+ghost use Rattle.h_pass.specs.Statements.{ClosedNeverStuck, HoistedMeansTheSame};
 ghost use Rattle.h_pass.specs.Statements.{BoundIsSmall, ScopedIsBack, NodesKept};
 
 use c_terms::laws::{typed_is_any_law, typed_is_scoped_law, within_is_typed_law};
@@ -17,6 +17,12 @@ pub fn hoist_is_back_law()
 /// Within any number of calls the hoisted program ends as the closed one does, and enters the same codes.
 pub fn hoist_meaning_law()
     ensures { HoistKept }
+{}
+
+/// Whatever is hoisted by the rule from a typed closed program is typed, and within any number of calls it ends as that
+/// does and enters the same codes.
+pub fn hoisted_means_the_same_law()
+    ensures { HoistedMeansTheSame }
 {}
 
 /// Hoisting keeps typing, adds nothing to the reach of types, and keeps each bound.

@@ -1,12 +1,13 @@
 -- Typing with a property of types is typing, and with the property that every type has no more than that.
 use Rattle.std.proofs.Common.{ℕ, suc, List, [], ◌∷◌}
-use Rattle.c_terms.specs.C.{CTy, CTys, MoreCTys, NoCTys, TCInt, TCRef, TCSome, TCTuple}
-use Rattle.c_terms.specs.Each.{CAll, CProp}
+use Rattle.c_terms.specs.C.{CTy, CTys, NoCTys, TCInt, TCRef, TCSome, TCTuple}
+use Rattle.c_terms.specs.Each.{CProp}
 use Rattle.c_terms.specs.Typing.{cargs_onto, crens_scope}
 use Rattle.h_terms.specs.Each.{AllGoodP, HGoodP, HHasP, HHaveP, HProgramP}
 use Rattle.h_terms.specs.H.{HApply, HArith, HBlks, HCall, HCell, HGet, HHalt, HIf, HInt, HLabel, HLet, HName, HPack}
 use Rattle.h_terms.specs.H.{HProj, HSet, HTm, HTuple, HUnpack, HVal, HVals, HVar, MoreHVals, NoHVals}
 use Rattle.h_terms.specs.Typing.{AllGood, HGood, HHas, HHave, HProgramGood}
+use Rattle.c_terms.proofs.Each.{any_all as any_types}
 
 module _ (P : CProp) (ks : HBlks) where
   mutual
@@ -47,10 +48,6 @@ plain_program P ks t h = (plain_all P ks ks h.0, plain_t P ks t 0 [] h.1)
 -- the property that every type has
 abbrev pub Any : CProp
 Any n t = Unit {0}
-
-any_types : (n : ℕ) (ts : CTys) → CAll Any n ts
-any_types n NoCTys = tt
-any_types n (MoreCTys t ts) = (tt, any_types n ts)
 
 module _ (ks : HBlks) where
   mutual

@@ -2,3 +2,4 @@ pub mod Sound
 pub mod Each
 pub mod Mono
 mod Rows
+pub mod Parts

@@ -4,7 +4,8 @@ use Rattle.std.proofs.Common.{refl, sym, ap, ◌∙◌, subst, subst₂, eq-eqb}
 use Rattle.idx_core.specs.declared.arith.Op.{Op}
 use Rattle.idx_core.specs.Arith.{is_zero}
 use Rattle.term_core.specs.Ends.{End, Halted, Result, Spent, Stuck, if_fits, lift, pick}
-use Rattle.c_terms.proofs.Putting.{cup_cup, names_sub, names_up, scons_sub, sub_ren, sub_sub, sub_up, subs_sub}
+use Rattle.term_core.proofs.Substituting.{names_sub, names_up, scons_sub, sub_ren, sub_sub, sub_up, subs_sub}
+use Rattle.c_terms.proofs.Putting.{cup_cup}
 use Rattle.c_terms.specs.C.{CTy, CTys, MoreCTys, NoCTys, TCCode, TCInt, TCRef, TCSome, TCTuple, TCVar, ccount}
 use Rattle.c_terms.specs.Typing.{CAt, CField, cargs_onto, cren, crens_scope, csub, csubs, cup, names, scons}
 use Rattle.h_terms.specs.H.{HApply, HArith, HBlk, HBlks, HCall, HCell, HGet, HHalt, HIf, HInt, HLabel, HLet, HName}
@@ -14,41 +15,12 @@ use Rattle.h_terms.specs.Meaning.{YLabel, YTuple, hat, hat_zero, henter, hfield,
 use Rattle.h_terms.specs.Meaning.{hhold, hone_more, honto, hopen, hoperate, hproject, hrun, hset, hsize, hterm}
 use Rattle.h_terms.specs.Meaning.{hv_value, hvs_value, hwith_value, with_block}
 use Rattle.h_terms.specs.Typing.{AllGood, HGood, HHas, HHave}
+use Rattle.term_core.proofs.Opening.{Opens, opens_plain, opens_some}
 
 abbrev pub Fine : End → Type 0
 Fine (Halted i) = Unit {0}
 Fine Spent = Unit {0}
 Fine Stuck = ⊥
-
--- t with some of its outer existential types opened is u
-abbrev pub OpensBy : ℕ → CTy → CTy → Type 0
-OpensBy zero t u = t ≡ u
-OpensBy (suc k) t u = (s : CTy) × (h : CTy) × (t ≡ TCSome s) × OpensBy k (csub (scons h TCVar) s) u
-
-abbrev pub Opens : CTy → CTy → Type 0
-Opens t u = (k : ℕ) × OpensBy k t u
-
-abbrev pub is_some : CTy → Bool
-is_some TCInt = false
-is_some (TCVar i) = false
-is_some (TCTuple ts) = false
-is_some (TCCode n ts) = false
-is_some (TCSome t) = true
-is_some (TCRef t) = false
-
-opens_plain : (t u : CTy) → is_some t ≡ false → Opens t u → t ≡ u
-opens_plain t u e h = go h.0 h.1
-  where
-    go : (k : ℕ) → OpensBy k t u → t ≡ u
-    go zero q = q
-    go (suc k) q = let c = ap is_some q.2 in absurd cc
-
-opens_some : (t u : CTy) → is_some u ≡ false → Opens (TCSome t) u → (h : CTy) × Opens (csub (scons h TCVar) t) u
-opens_some t u e h = go h.0 h.1
-  where
-    go : (k : ℕ) → OpensBy k (TCSome t) u → (x : CTy) × Opens (csub (scons x TCVar) t) u
-    go zero q = let c = ap is_some q in absurd cc
-    go (suc k) q = let d : q.0 ≡ t = cc in (q.1, (k, subst (λ z. OpensBy k (csub (scons q.1 TCVar) z) u) d q.3))
 
 module _ (ks : HBlks) where
   -- values of closed types: a label's is its block's under some types, a cell's that of its place

@@ -5,7 +5,7 @@ use Rattle.page_text.specs.Names.{separator, value_name}
 use Rattle.page_text.proofs.Listed.{Left, left_none, listed}
 use Rattle.c_terms.specs.C.{ccount}
 use Rattle.c_terms.specs.Read.{ctree, ctys}
-use Rattle.c_terms.specs.declared.types.CType.{CType}
+use Rattle.term_core.specs.declared.types.CoreType.{CoreType as CType}
 use Rattle.c_writer.specs.Types.{type_text}
 use Rattle.h_terms.specs.Nodes.{h_block, h_blocks, h_tree}
 use Rattle.h_terms.specs.declared.node.HBlock.{HBlock}

@@ -5,7 +5,6 @@ use Rattle.std.specs.Prelude.{true, false}
 use Rattle.std.proofs.lemmas.List.{append-nil, reverse-append, length-reverse, length-append}
 use Rattle.std.proofs.Math.ListN.{drop_of_length-le}
 use Rattle.term_core.specs.Ends.{lift}
-use Rattle.page_text.proofs.Listed.{next_item}
 use Rattle.h_terms.specs.H.{HArith, HCell, HDecl, HGet, HLet, HName, HProj, HSet, HTm, HUnpack, HVal}
 use Rattle.h_terms.specs.Nodes.{h_build, h_kids, h_terms, h_tree, no_term, no_value, values, HArity, HRow}
 use Rattle.h_terms.specs.Row.{IsOne, IsSome, IsTwo, others, top}
@@ -15,6 +14,9 @@ use Rattle.h_terms.specs.declared.node.HNode.{HNode}
 use Rattle.h_writer.specs.declared.scope.Scope.{Scope}
 use Rattle.h_writer.specs.Notation.{decl_text, if_text, line, term_text, types_after}
 use Rattle.h_writer.specs.Scopes.{behind, below, branch, form_text, least, node_text, opening, terms_text}
+use Rattle.term_core.proofs.Lifts.{lift_add as lift_is}
+use Rattle.page_text.proofs.Joined.{if_parts}
+use Rattle.idx_core.proofs.Lists.{next_item}
 
 -- a declaration, and what follows it
 let_parts : (a b t r : List ℕ) → a ++ ((b ++ t) ++ r) ≡ (a ++ b) ++ (t ++ r)
@@ -34,10 +36,6 @@ no_more : (n : ℕ) → n ≡ n + 0
 no_more n = omega arith
 
 -- a choice, and its branches
-if_parts : (a c t e f u r : List ℕ) → e ≡ f →
-    a ++ ((c ++ (t ++ (e ++ u))) ++ r) ≡ (a ++ c) ++ (t ++ (f ++ (u ++ r)))
-if_parts a c t e f u r is = rw is (simp append_assoc)
-
 one_less : (k : ℕ) → k ≡ k + 1 - 1
 one_less k = omega arith
 
@@ -125,10 +123,6 @@ least_there H.Set vs h = two_least vs h
 least_there (H.Call us) vs h = some_least vs h
 least_there H.If0 vs h = one_least vs h
 least_there H.Halt vs h = one_least vs h
-
-lift_is : (k n : ℕ) → lift k n ≡ k + n
-lift_is zero n = omega arith
-lift_is (suc k) n = let e = lift_is k n in omega (arith, e)
 
 -- what is known of a node and of those behind it
 row_some : (x : HNode) (xs : List HNode) (n : ℕ) → HRow (x ∷ xs) n → 0 < n

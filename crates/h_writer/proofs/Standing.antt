@@ -9,7 +9,7 @@ use Rattle.pieces.specs.Pieces.{text_at, Keeps, Stands}
 use Rattle.pieces.specs.declared.pieces.Pieces.{Pieces}
 use Rattle.c_terms.specs.C.{CTy}
 use Rattle.c_terms.specs.Read.{ctys}
-use Rattle.c_terms.specs.declared.types.CType.{CType}
+use Rattle.term_core.specs.declared.types.CoreType.{CoreType as CType}
 use Rattle.c_writer.specs.Types.{type_text, types_text}
 use Rattle.h_terms.specs.H.{HPack, HTuple, HVal}
 use Rattle.h_terms.specs.Nodes.{at_last, more, reads, tied, tupled}
@@ -18,6 +18,7 @@ use Rattle.page_text.specs.Names.{separator}
 use Rattle.page_text.proofs.Listed.{listed}
 use Rattle.h_writer.specs.Notation.{applied_text, value_text, values_text}
 use Rattle.h_writer.specs.Values.{Stand, texts_of}
+use Rattle.h_terms.proofs.Parts.{reads_push}
 
 pub stand_keeps : (p q : Pieces) (n m : ℕ) (xs : List ℕ) (vs : List HVal) → Keeps p q → Stand p n m xs vs →
     Stand q n m xs vs
@@ -184,10 +185,6 @@ joining_end p q r s fields i piece close whole t le h is k last st n m vs all =
     subst (λ u. Stands s whole u) same (st l.0 t (k piece l.0 l.1) last)
 
 -- one part more
-reads_push : (vs : List HVal) (ps : List HPart) (p : HPart) → reads vs (ps ++ p ∷ []) ≡ more p (reads vs ps)
-reads_push vs [] p = refl
-reads_push vs (q ∷ ps) p = reads_push (more q vs) ps p
-
 pub reads_more : (ps : List HPart) (i : ℕ) (p : HPart) → p ≡ get_or ps i p → i < length ps →
     more p (reads [] (take i ps)) ≡ reads [] (take (i + 1) ps)
 reads_more ps i p is lt =

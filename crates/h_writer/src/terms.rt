@@ -8,9 +8,9 @@ ghost use Rattle.h_writer.specs.Scopes.{behind, below, branch, node_text, openin
 
 use crate::lines::write_form;
 use crate::parts::texts_of_parts;
-use crate::scope::{Scope, sum};
+use crate::scope::Scope;
 use h_terms::{HForm, HNode};
-use idx_core::OutOfMemory;
+use idx_core::{OutOfMemory, sum};
 use page_text::write_margin;
 use std::alloc::Global;
 

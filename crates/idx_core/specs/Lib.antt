@@ -1,4 +1,5 @@
 pub mod Arith
+pub mod Bound
 pub mod Bounds
 pub mod Laws
 pub mod Levels

@@ -2,6 +2,7 @@
 #![tactic(auto)]
 
 mod arith;
+mod bound;
 mod memory;
 mod names;
 mod salt;
@@ -9,7 +10,8 @@ mod scoped;
 mod span;
 
 pub use arith::{Op, compute};
-pub use memory::OutOfMemory;
+pub use bound::{deeper, index_below};
+pub use memory::{OutOfMemory, sum};
 pub use names::Names;
 pub use salt::Salt;
 pub use scoped::Scoped;

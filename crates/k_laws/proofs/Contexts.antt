@@ -5,7 +5,7 @@ use Rattle.std.proofs.Common.{subst, arith}
 use Rattle.term_core.specs.Ends.{lift}
 use Rattle.k_terms.specs.K.{KTy, TKInt, KTm, kren, krens_scope}
 use Rattle.k_terms.specs.Typing.{KAt}
-use Rattle.k_terms.proofs.Sound.{ren_ren}
+use Rattle.term_core.proofs.Substituting.{ren_ren, ren_none}
 use Rattle.f_terms.specs.Ty.{Ty, Tys, NoTys, MoreTys, shift}
 use Rattle.f_terms.specs.Tm.{Term, MVar, MNum, MFix, MApp, MGen, MInst, MTuple, MProj, MArith, MIf0, MLet, MPack}
 use Rattle.f_terms.specs.Tm.{MOpen, MRef, MDeref, MAssign}
@@ -13,8 +13,9 @@ use Rattle.k_laws.proofs.Below.{Belows}
 use Rattle.k_laws.specs.Keeps.{Keeps, TypeHas}
 use Rattle.k_laws.specs.Cps.{taking, kat, Atom, Level, Literal}
 use Rattle.k_laws.specs.Translates.{AnyRest, atom_of, cps}
-use Rattle.k_laws.proofs.KTypes.{ren_none, LevelsIn, lift_le, lift_lift, deeper, raised_at}
+use Rattle.k_laws.proofs.KTypes.{LevelsIn, lift_lift, deeper, raised_at}
 use Rattle.f_terms.specs.OneType.{some_is}
+use Rattle.term_core.proofs.Lifts.{lift_le}
 
 abbrev pub glength : List KTy → ℕ
 glength [] = 0

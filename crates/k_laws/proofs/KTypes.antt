@@ -11,10 +11,11 @@ use Rattle.f_terms.specs.Typing.{ty_at, field_ty}
 use Rattle.term_core.specs.Ends.{lift, under}
 use Rattle.k_terms.specs.K.{KTy, TKVar, TKTuple, TKCode, TKSome, TKRef, NoKTys, MoreKTys, kren, krens, krens_scope}
 use Rattle.k_terms.specs.Typing.{kscons, kup, ksub, ksubs, knames, KIn, KIns, KField}
-use Rattle.k_terms.proofs.Sound.{sub_ren, sub_same}
+use Rattle.term_core.proofs.Substituting.{ren_none}
 use Rattle.k_laws.specs.Cps.{kty, all_kty, taking, type_level, spot, kat}
 use Rattle.k_laws.proofs.Below.{Belows, none_is}
 use Rattle.f_terms.specs.OneType.{some_is}
+use Rattle.term_core.proofs.Lifts.{lift_add as lift_plus}
 
 abbrev arrow : KTy → KTy → KTy
 arrow a b = TKCode 0 (MoreKTys a (MoreKTys (taking b) NoKTys))
@@ -186,10 +187,6 @@ pub put_code : (s b : Ty) (p : ℕ → ℕ) →
 put_code s b p =
     ap (λ t. MoreKTys (taking t) NoKTys) (put_kty b s (kup 0 (kscons (kty p s) TKVar)) (under 1 p) p 0 (put_first s p))
 
-pub ren_none : (t : KTy) → kren (lift 0) t ≡ t
-ren_none t = sym (sub_same (kren (lift 0) t) TKVar (λ i. refl)) ∙ sub_ren t TKVar (lift 0) TKVar (λ i. refl)
-    ∙ sub_same t TKVar (λ i. refl)
-
 pub scope_none : (g : List KTy) → krens_scope (lift 0) g ≡ g
 scope_none [] = refl
 scope_none (t ∷ g) = ap₂ (λ x y. x ∷ y) (ren_none t) (scope_none g)
@@ -233,13 +230,6 @@ levels_later n tl td d le f i h = let q = f i h in omega (arith, q, le)
 pub levels_more : (n : ℕ) (tl : List ℕ) (td : ℕ) → LevelsIn n tl td → LevelsIn (n + 1) (td ∷ tl) (suc td)
 levels_more n tl td f zero h = omega arith
 levels_more n tl td f (suc i) h = let q = f i (omega (arith, h)) in omega (arith, q)
-
-lift_plus : (k i : ℕ) → lift k i ≡ k + i
-lift_plus zero i = omega arith
-lift_plus (suc k) i = let r = lift_plus k i in omega (arith, r)
-
-pub lift_le : (k i : ℕ) → i ≤ lift k i
-lift_le k i = let r = lift_plus k i in omega (arith, r)
 
 pub lift_lift : (j k i : ℕ) → lift j (lift k i) ≡ lift (lift j k) i
 lift_lift zero k i = refl

@@ -5,7 +5,7 @@ use Rattle.k_terms.specs.K.{KTy, TKVar, TKTuple, TKCode, NoKTys, MoreKTys, KVal,
 use Rattle.k_terms.specs.K.{KCall, kren}
 use Rattle.k_terms.specs.Typing.{KIn}
 use Rattle.k_terms.specs.Each.{KProp, KHasP, KHaveP, KGoodP}
-use Rattle.k_terms.proofs.Sound.{subs_same}
+use Rattle.term_core.proofs.Substituting.{subs_same}
 use Rattle.f_terms.specs.Ty.{Ty, TTuple, Tys, NoTys, MoreTys}
 use Rattle.k_laws.specs.Cps.{all_kty, taking, spot, kat, Atom, Level, Literal}
 use Rattle.k_laws.specs.Translates.{Thing, Plain, Made, Things, NoThings, MoreThings, stands, named, stand, tuple_of}

@@ -20,11 +20,12 @@ use Rattle.k_pass.specs.Emit.{cell_node, get_node, arith_node, set_node, emit_of
 use Rattle.k_laws.specs.Annotated.{Annotated, AllAnnotated}
 use Rattle.k_laws.proofs.Below.{Belows, belows_raised, typing_below}
 use Rattle.k_laws.proofs.Fits.{has_type}
-use Rattle.k_laws.proofs.KTypes.{LevelsIn, levels_later, levels_more, lift_le, deeper, opened, raised_at}
+use Rattle.k_laws.proofs.KTypes.{LevelsIn, levels_later, levels_more, deeper, opened, raised_at}
 use Rattle.k_pass.proofs.Scopes.{field_is}
 use Rattle.k_pass.proofs.Known.{Known, base, Grows, grows_same, grows_more, one_more, newest, rest_grows, fix_grows}
 use Rattle.k_pass.proofs.Known.{fix_own, fix_arg, gen_grows, open_grows, Suits, suits_later, suits_raised, found, Good}
 use Rattle.k_pass.proofs.Known.{Steady, good_later, good_same, value_node, value_type, AllGood}
+use Rattle.term_core.proofs.Lifts.{lift_le}
 
 abbrev Nodes : Type 0
 Nodes = List KNd

@@ -6,12 +6,12 @@ use Rattle.term_core.specs.Ends.{lift}
 use Rattle.k_terms.specs.K.{KTy, TKInt, TKCode, NoKTys, MoreKTys, kren, krens_scope, kbody_scope}
 use Rattle.k_terms.specs.Types.{ktype_at, kv_type}
 use Rattle.k_terms.specs.Stream.{KNd, NVar, klin_v}
-use Rattle.k_terms.proofs.Sound.{ren_ren}
+use Rattle.term_core.proofs.Substituting.{ren_ren, ren_none}
 use Rattle.term_core.proofs.Levels.{level_below}
 use Rattle.k_laws.specs.Cps.{Atom, Level, Literal, value, atom_at, kat}
 use Rattle.k_pass.specs.Emit.{atom_node}
 use Rattle.k_laws.proofs.Below.{Belows}
-use Rattle.k_laws.proofs.KTypes.{ren_none, raised_at, lift_lift, LevelsIn, deeper}
+use Rattle.k_laws.proofs.KTypes.{raised_at, lift_lift, LevelsIn, deeper}
 use Rattle.k_pass.proofs.Scopes.{at_krens}
 
 -- the name of level l has the type t

@@ -1,32 +1,20 @@
 -- A typed term has its names and its type variables in scope.
-use Rattle.std.proofs.Common.{◌≡◌, ◌<◌, ℕ, zero, suc, Bool, true, false, List, [], ◌∷◌, length, refl, ap, ◌∙◌, subst}
-use Rattle.std.proofs.Common.{arith}
+use Rattle.std.proofs.Common.{◌≡◌, ℕ, suc, Bool, true, false, List, ◌∷◌, length, refl, ap, ◌∙◌, subst}
 use Rattle.term_core.specs.Ends.{lift, after_one}
 use Rattle.k_terms.specs.K.{KTy, KTys, TKInt, TKCode, NoKTys, MoreKTys, KVal, KVar, KInt, KTuple, KCode, KVals}
 use Rattle.k_terms.specs.K.{NoKVals, MoreKVals, KDecl, KName, KProj, KArith, KPack, KUnpack, KCell, KGet, KSet, KTm}
 use Rattle.k_terms.specs.K.{KLet, KCall, KIf, KHalt, kcount, kren, krens_scope, kargs_onto, kbody_scope, opens}
 use Rattle.k_terms.specs.K.{scope_more}
-use Rattle.k_terms.specs.Typing.{KAt, KHas, KHave, KGives, KGood}
+use Rattle.k_terms.specs.Typing.{KHas, KHave, KGives, KGood}
 use Rattle.k_terms.specs.Scope.{ValueIn, ValuesIn, DeclIn, TermIn}
+use Rattle.term_core.proofs.Lifts.{lift_suc}
+use Rattle.term_core.proofs.Scopes.{scope_length as krens_length, named_below as at_in}
 
-at_in : (g : List KTy) (i : ℕ) (t : KTy) → KAt g i t → i < length g
-at_in [] i t h = absurd h
-at_in (u ∷ g) zero t h = omega arith
-at_in (u ∷ g) (suc i) t h = omega (arith, at_in g i t h)
-
-krens_length : (r : ℕ → ℕ) (g : List KTy) → length (krens_scope r g) ≡ length g
-krens_length r [] = refl
-krens_length r (t ∷ g) = ap suc (krens_length r g)
-
-more_length : (b : Bool) (g : List KTy) → length (scope_more b g) ≡ length g
+pub more_length : (b : Bool) (g : List KTy) → length (scope_more b g) ≡ length g
 more_length true g = krens_length suc g
 more_length false g = refl
 
-lift_suc : (n i : ℕ) → lift n (suc i) ≡ suc (lift n i)
-lift_suc zero i = refl
-lift_suc (suc n) i = ap suc (lift_suc n i)
-
-args_length : (ts : KTys) (g : List KTy) → length (kargs_onto ts g) ≡ lift (kcount ts) (length g)
+pub args_length : (ts : KTys) (g : List KTy) → length (kargs_onto ts g) ≡ lift (kcount ts) (length g)
 args_length NoKTys g = refl
 args_length (MoreKTys t ts) g = args_length ts (t ∷ g) ∙ lift_suc (kcount ts) (length g)
 

@@ -1,182 +1,20 @@
 -- A term of the CPS calculus that has a type is never stuck.
-use Rattle.std.proofs.Common.{ℤ, ◌≡◌, ◌<◌, ◌⊎◌, inl, inr, ⊎_elim, ℕ, zero, suc, Bool, true, false, nat_eq, ◌&&◌, List}
-use Rattle.std.proofs.Common.{[], ◌∷◌, ◌++◌, Option, Some, None, refl, sym, ap, ◌∙◌, subst, subst₂, ap₂, arith, eq-eqb}
+use Rattle.std.proofs.Common.{ℤ, ◌≡◌, ℕ, zero, suc, Bool, true, false, nat_eq, ◌&&◌, List, [], ◌∷◌, ◌++◌, Option, Some}
+use Rattle.std.proofs.Common.{None, refl, sym, ap, ◌∙◌, subst, subst₂, ap₂, eq-eqb}
 use Rattle.idx_core.specs.declared.arith.Op.{Op}
 use Rattle.idx_core.specs.Arith.{is_zero}
-use Rattle.term_core.specs.Ends.{if_fits, pick, End, Halted, Spent, Stuck, Result, lift, under, after_one}
-use Rattle.k_terms.specs.K.{KTy, KTys, TKInt, TKVar, TKTuple, TKCode, TKSome, TKRef, NoKTys, MoreKTys, KVal, KVar}
-use Rattle.k_terms.specs.K.{KInt, KTuple, KCode, KVals, NoKVals, MoreKVals, KDecl, KName, KProj, KArith, KPack}
-use Rattle.k_terms.specs.K.{KUnpack, KCell, KGet, KSet, KTm, KLet, KCall, KIf, KHalt, kcount, kren, krens, krens_scope}
-use Rattle.k_terms.specs.K.{kargs_onto, kbody_scope, kv_next, kd_next, kt_next, opens, scope_more}
+use Rattle.term_core.specs.Ends.{if_fits, pick, End, Halted, Spent, Stuck, Result, lift, after_one}
+use Rattle.k_terms.specs.K.{KTy, KTys, TKInt, TKVar, TKTuple, TKCode, TKSome, TKRef, NoKTys, MoreKTys, KVal, KVar, KInt}
+use Rattle.k_terms.specs.K.{KTuple, KCode, KVals, NoKVals, MoreKVals, KDecl, KName, KProj, KArith, KPack, KUnpack}
+use Rattle.k_terms.specs.K.{KCell, KGet, KSet, KTm, KLet, KCall, KIf, KHalt, kcount, kren, krens_scope, kargs_onto}
+use Rattle.k_terms.specs.K.{kbody_scope, kv_next, kd_next, kt_next, opens, scope_more}
 use Rattle.k_terms.specs.Meaning.{KWord, WInt, WTuple, WCode, WCell, KWords, NoWords, MoreWords, at, size, onto, field}
 use Rattle.k_terms.specs.Meaning.{project, operate, kv_value, kvs_value, held, hold, one_more, Made, Makes, Fails}
 use Rattle.k_terms.specs.Meaning.{given, get, set, kd_value, KEnter, kopen, with_value, at_zero, halt_with, kterm}
 use Rattle.k_terms.specs.Meaning.{kenter, krun}
 use Rattle.k_terms.specs.Typing.{KAt, KField, KHas, KHave, KGives, KGood, kscons, kup, ksub, ksubs, knames}
-
-pub lift_suc : (n i : ℕ) → lift n (suc i) ≡ suc (lift n i)
-lift_suc zero i = refl
-lift_suc (suc n) i = ap suc (lift_suc n i)
-
-under_ren : (n : ℕ) (q r p : ℕ → ℕ) → ((i : ℕ) → q (r i) ≡ p i) → (i : ℕ) → under n q (under n r i) ≡ under n p i
-under_ren zero q r p f i = f i
-under_ren (suc n) q r p f zero = refl
-under_ren (suc n) q r p f (suc i) = ap suc (under_ren n q r p f i)
-
-mutual
-  pub ren_ren : (t : KTy) (q r p : ℕ → ℕ) → ((i : ℕ) → q (r i) ≡ p i) → kren q (kren r t) ≡ kren p t
-  ren_ren TKInt q r p f = refl
-  ren_ren (TKVar i) q r p f = ap TKVar (f i)
-  ren_ren (TKTuple ts) q r p f = ap TKTuple (rens_ren ts q r p f)
-  ren_ren (TKCode n ts) q r p f = ap (TKCode n) (rens_ren ts (under n q) (under n r) (under n p) (under_ren n q r p f))
-  ren_ren (TKSome t) q r p f = ap TKSome (ren_ren t (under 1 q) (under 1 r) (under 1 p) (under_ren 1 q r p f))
-  ren_ren (TKRef t) q r p f = ap TKRef (ren_ren t q r p f)
-
-  rens_ren : (ts : KTys) (q r p : ℕ → ℕ) → ((i : ℕ) → q (r i) ≡ p i) → krens q (krens r ts) ≡ krens p ts
-  rens_ren NoKTys q r p f = refl
-  rens_ren (MoreKTys t ts) q r p f = ap₂ MoreKTys (ren_ren t q r p f) (rens_ren ts q r p f)
-
-up_ren : (n : ℕ) (s : ℕ → KTy) (q : ℕ → ℕ) (p : ℕ → KTy) → ((i : ℕ) → s (q i) ≡ p i) → (i : ℕ) →
-    kup n s (under n q i) ≡ kup n p i
-up_ren zero s q p f i = f i
-up_ren (suc n) s q p f zero = refl
-up_ren (suc n) s q p f (suc i) = ap (kren suc) (up_ren n s q p f i)
-
-mutual
-  pub sub_ren : (t : KTy) (s : ℕ → KTy) (q : ℕ → ℕ) (p : ℕ → KTy) → ((i : ℕ) → s (q i) ≡ p i) →
-      ksub s (kren q t) ≡ ksub p t
-  sub_ren TKInt s q p f = refl
-  sub_ren (TKVar i) s q p f = f i
-  sub_ren (TKTuple ts) s q p f = ap TKTuple (subs_ren ts s q p f)
-  sub_ren (TKCode n ts) s q p f = ap (TKCode n) (subs_ren ts (kup n s) (under n q) (kup n p) (up_ren n s q p f))
-  sub_ren (TKSome t) s q p f = ap TKSome (sub_ren t (kup 1 s) (under 1 q) (kup 1 p) (up_ren 1 s q p f))
-  sub_ren (TKRef t) s q p f = ap TKRef (sub_ren t s q p f)
-
-  subs_ren : (ts : KTys) (s : ℕ → KTy) (q : ℕ → ℕ) (p : ℕ → KTy) → ((i : ℕ) → s (q i) ≡ p i) →
-      ksubs s (krens q ts) ≡ ksubs p ts
-  subs_ren NoKTys s q p f = refl
-  subs_ren (MoreKTys t ts) s q p f = ap₂ MoreKTys (sub_ren t s q p f) (subs_ren ts s q p f)
-
-ren_up : (n : ℕ) (q : ℕ → ℕ) (s p : ℕ → KTy) → ((i : ℕ) → kren q (s i) ≡ p i) → (i : ℕ) →
-    kren (under n q) (kup n s i) ≡ kup n p i
-ren_up zero q s p f i = f i
-ren_up (suc n) q s p f zero = refl
-ren_up (suc n) q s p f (suc i) =
-    ren_ren (kup n s i) (under (suc n) q) suc (λ j. suc (under n q j)) (λ j. refl)
-    ∙ sym (ren_ren (kup n s i) suc (under n q) (λ j. suc (under n q j)) (λ j. refl))
-    ∙ ap (kren suc) (ren_up n q s p f i)
-
-mutual
-  ren_sub : (t : KTy) (q : ℕ → ℕ) (s p : ℕ → KTy) → ((i : ℕ) → kren q (s i) ≡ p i) → kren q (ksub s t) ≡ ksub p t
-  ren_sub TKInt q s p f = refl
-  ren_sub (TKVar i) q s p f = f i
-  ren_sub (TKTuple ts) q s p f = ap TKTuple (rens_sub ts q s p f)
-  ren_sub (TKCode n ts) q s p f = ap (TKCode n) (rens_sub ts (under n q) (kup n s) (kup n p) (ren_up n q s p f))
-  ren_sub (TKSome t) q s p f = ap TKSome (ren_sub t (under 1 q) (kup 1 s) (kup 1 p) (ren_up 1 q s p f))
-  ren_sub (TKRef t) q s p f = ap TKRef (ren_sub t q s p f)
-
-  rens_sub : (ts : KTys) (q : ℕ → ℕ) (s p : ℕ → KTy) → ((i : ℕ) → kren q (s i) ≡ p i) →
-      krens q (ksubs s ts) ≡ ksubs p ts
-  rens_sub NoKTys q s p f = refl
-  rens_sub (MoreKTys t ts) q s p f = ap₂ MoreKTys (ren_sub t q s p f) (rens_sub ts q s p f)
-
-sub_up : (n : ℕ) (s r p : ℕ → KTy) → ((i : ℕ) → ksub s (r i) ≡ p i) → (i : ℕ) → ksub (kup n s) (kup n r i) ≡ kup n p i
-sub_up zero s r p f i = f i
-sub_up (suc n) s r p f zero = refl
-sub_up (suc n) s r p f (suc i) =
-    sub_ren (kup n r i) (kup (suc n) s) suc (λ j. kren suc (kup n s j)) (λ j. refl)
-    ∙ sym (ren_sub (kup n r i) suc (kup n s) (λ j. kren suc (kup n s j)) (λ j. refl))
-    ∙ ap (kren suc) (sub_up n s r p f i)
-
-mutual
-  sub_sub : (t : KTy) (s r p : ℕ → KTy) → ((i : ℕ) → ksub s (r i) ≡ p i) → ksub s (ksub r t) ≡ ksub p t
-  sub_sub TKInt s r p f = refl
-  sub_sub (TKVar i) s r p f = f i
-  sub_sub (TKTuple ts) s r p f = ap TKTuple (subs_sub ts s r p f)
-  sub_sub (TKCode n ts) s r p f = ap (TKCode n) (subs_sub ts (kup n s) (kup n r) (kup n p) (sub_up n s r p f))
-  sub_sub (TKSome t) s r p f = ap TKSome (sub_sub t (kup 1 s) (kup 1 r) (kup 1 p) (sub_up 1 s r p f))
-  sub_sub (TKRef t) s r p f = ap TKRef (sub_sub t s r p f)
-
-  pub subs_sub : (ts : KTys) (s r p : ℕ → KTy) → ((i : ℕ) → ksub s (r i) ≡ p i) → ksubs s (ksubs r ts) ≡ ksubs p ts
-  subs_sub NoKTys s r p f = refl
-  subs_sub (MoreKTys t ts) s r p f = ap₂ MoreKTys (sub_sub t s r p f) (subs_sub ts s r p f)
-
-up_same : (n : ℕ) (s : ℕ → KTy) → ((i : ℕ) → s i ≡ TKVar i) → (i : ℕ) → kup n s i ≡ TKVar i
-up_same zero s f i = f i
-up_same (suc n) s f zero = refl
-up_same (suc n) s f (suc i) = ap (kren suc) (up_same n s f i)
-
-mutual
-  pub sub_same : (t : KTy) (s : ℕ → KTy) → ((i : ℕ) → s i ≡ TKVar i) → ksub s t ≡ t
-  sub_same TKInt s f = refl
-  sub_same (TKVar i) s f = f i
-  sub_same (TKTuple ts) s f = ap TKTuple (subs_same ts s f)
-  sub_same (TKCode n ts) s f = ap (TKCode n) (subs_same ts (kup n s) (up_same n s f))
-  sub_same (TKSome t) s f = ap TKSome (sub_same t (kup 1 s) (up_same 1 s f))
-  sub_same (TKRef t) s f = ap TKRef (sub_same t s f)
-
-  pub subs_same : (ts : KTys) (s : ℕ → KTy) → ((i : ℕ) → s i ≡ TKVar i) → ksubs s ts ≡ ts
-  subs_same NoKTys s f = refl
-  subs_same (MoreKTys t ts) s f = ap₂ MoreKTys (sub_same t s f) (subs_same ts s f)
-
-scons_sub : (t : KTy) (s k p : ℕ → KTy) → ((i : ℕ) → ksub s (k i) ≡ p i) → (i : ℕ) →
-    ksub s (kscons t k i) ≡ kscons (ksub s t) p i
-scons_sub t s k p f zero = refl
-scons_sub t s k p f (suc i) = f i
-
-names_sub : (ts : KTys) (s k p : ℕ → KTy) → ((i : ℕ) → ksub s (k i) ≡ p i) → (i : ℕ) →
-    ksub s (knames ts k i) ≡ knames (ksubs s ts) p i
-names_sub NoKTys s k p f i = f i
-names_sub (MoreKTys t ts) s k p f i = names_sub ts s (kscons t k) (kscons (ksub s t) p) (scons_sub t s k p f) i
-
-knames_past : (ts : KTys) (s : ℕ → KTy) (i : ℕ) → knames ts s (lift (kcount ts) i) ≡ s i
-knames_past NoKTys s i = refl
-knames_past (MoreKTys t ts) s i =
-    ap (knames ts (kscons t s)) (sym (lift_suc (kcount ts) i)) ∙ knames_past ts (kscons t s) (suc i)
-
-low_or_past : (m i : ℕ) → (i < m) ⊎ ((j : ℕ) × (i ≡ lift m j))
-low_or_past zero i = inr (i, refl)
-low_or_past (suc m) zero = inl (omega arith)
-low_or_past (suc m) (suc i) = ⊎_elim (λ h. inl (omega (arith, h))) (λ h. inr (h.0, ap suc h.1)) (low_or_past m i)
-
-names_low : (ts : KTys) (s p : ℕ → KTy) (i : ℕ) → i < kcount ts → knames ts s i ≡ knames ts p i
-names_low NoKTys s p i h = absurd (omega arith)
-names_low (MoreKTys t ts) s p i h =
-    ⊎_elim (λ l. names_low ts (kscons t s) (kscons t p) i l)
-    (λ l. ap (knames ts (kscons t s)) l.1 ∙ knames_past ts (kscons t s) l.0 ∙ first l.0 l.1
-    ∙ sym (knames_past ts (kscons t p) l.0) ∙ ap (knames ts (kscons t p)) (sym l.1))
-    (low_or_past (kcount ts) i)
-  where
-    lift_more : (m j : ℕ) → lift m (suc j) < suc m → ⊥
-    lift_more zero j q = absurd (omega arith)
-    lift_more (suc m) j q = lift_more m j (omega arith)
-
-    first : (j : ℕ) → i ≡ lift (kcount ts) j → kscons t s j ≡ kscons t p j
-    first zero e = refl
-    first (suc j) e = absurd (lift_more (kcount ts) j (subst (λ k. k < suc (kcount ts)) e h))
-
-up_low : (m : ℕ) (s : ℕ → KTy) (i : ℕ) → i < m → kup m s i ≡ TKVar i
-up_low zero s i h = absurd (omega arith)
-up_low (suc m) s zero h = refl
-up_low (suc m) s (suc i) h = ap (kren suc) (up_low m s i (omega arith))
-
-pub up_past : (m : ℕ) (s : ℕ → KTy) (j : ℕ) → kup m s (lift m j) ≡ kren (lift m) (s j)
-up_past zero s j = sym (ren_id (s j))
-  where
-    ren_id : (t : KTy) → kren (lift 0) t ≡ t
-    ren_id t = sym (sub_same (kren (lift 0) t) TKVar (λ i. refl)) ∙ sub_ren t TKVar (lift 0) TKVar (λ i. refl)
-        ∙ sub_same t TKVar (λ i. refl)
-up_past (suc m) s j = ap (kren suc) (up_past m s j) ∙ ren_ren (s j) suc (lift m) (lift (suc m)) (λ i. refl)
-
-pub names_up : (ts : KTys) (s : ℕ → KTy) (i : ℕ) → ksub (knames ts TKVar) (kup (kcount ts) s i) ≡ knames ts s i
-names_up ts s i =
-    ⊎_elim (λ h. ap (ksub (knames ts TKVar)) (up_low (kcount ts) s i h) ∙ names_low ts TKVar s i h)
-    (λ h. ap (λ k. ksub (knames ts TKVar) (kup (kcount ts) s k)) h.1
-    ∙ ap (ksub (knames ts TKVar)) (up_past (kcount ts) s h.0)
-    ∙ sub_ren (s h.0) (knames ts TKVar) (lift (kcount ts)) TKVar (knames_past ts TKVar)
-    ∙ sub_same (s h.0) TKVar (λ j. refl)
-    ∙ sym (knames_past ts s h.0) ∙ ap (knames ts s) (sym h.1))
-    (low_or_past (kcount ts) i)
+use Rattle.term_core.proofs.Substituting.{sub_ren, sub_sub, subs_sub, scons_sub, names_sub, names_up, with_types_past}
+use Rattle.term_core.proofs.Opening.{Opens, opens_plain, opens_some}
 
 -- the types of a call's arguments are those of the code's, at run time
 call_args : (ts us args : KTys) (s r : ℕ → KTy) → ksubs (kup (kcount ts) r) args ≡ ksubs (kup (kcount ts) s) us →
@@ -198,36 +36,6 @@ call_args ts us args s r e =
 
     same : kcount ts' ≡ kcount ts
     same = count ts
-
--- t with some of its outer existential types opened is u
-abbrev pub OpensBy : ℕ → KTy → KTy → Type 0
-OpensBy zero t u = t ≡ u
-OpensBy (suc k) t u = (s : KTy) × (h : KTy) × (t ≡ TKSome s) × OpensBy k (ksub (kscons h TKVar) s) u
-
-abbrev pub Opens : KTy → KTy → Type 0
-Opens t u = (k : ℕ) × OpensBy k t u
-
-abbrev pub is_some : KTy → Bool
-is_some TKInt = false
-is_some (TKVar i) = false
-is_some (TKTuple ts) = false
-is_some (TKCode n ts) = false
-is_some (TKSome t) = true
-is_some (TKRef t) = false
-
-opens_plain : (t u : KTy) → is_some t ≡ false → Opens t u → t ≡ u
-opens_plain t u e h = go h.0 h.1
-  where
-    go : (k : ℕ) → OpensBy k t u → t ≡ u
-    go zero q = q
-    go (suc k) q = let c = ap is_some q.2 in absurd cc
-
-opens_some : (t u : KTy) → is_some u ≡ false → Opens (TKSome t) u → (h : KTy) × Opens (ksub (kscons h TKVar) t) u
-opens_some t u e h = go h.0 h.1
-  where
-    go : (k : ℕ) → OpensBy k (TKSome t) u → (x : KTy) × Opens (ksub (kscons x TKVar) t) u
-    go zero q = let c = ap is_some q in absurd cc
-    go (suc k) q = let d : q.0 ≡ t = cc in (q.1, (k, subst (λ z. OpensBy k (ksub (kscons q.1 TKVar) z) u) d q.3))
 
 -- values of closed types; a code has its type under the types that its free type variables stand for, a cell that of
 -- its place
@@ -560,7 +368,7 @@ call_sound ke f (WCode b owes args body env) vs st S s ts us h k w =
     s2 = knames (ksubs s ts) h.2
 
     past : (i : ℕ) → s2 (lift owes i) ≡ (h.2) i
-    past i = ap (λ m. s2 (lift m i)) (same_owes ∙ sym (subs_count s ts)) ∙ knames_past (ksubs s ts) h.2 i
+    past i = ap (λ m. s2 (lift m i)) (same_owes ∙ sym (subs_count s ts)) ∙ with_types_past (ksubs s ts) h.2 i
 
     self : VHas S (WCode b owes args body env) (ksub s2 (kren (lift owes) (TKCode owes args)))
     self = (h.0, h.1, h.2, (0, sub_ren (TKCode owes args) s2 (lift owes) h.2 past), h.4, h.5)

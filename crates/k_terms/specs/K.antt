@@ -1,20 +1,12 @@
 -- The calculus in continuation-passing style as plain trees: types, values, declarations and terms.
-use Rattle.std.specs.Prelude.{ℤ, ℕ, suc, Bool, true, false, List, [], ◌∷◌}
+use Rattle.std.specs.Prelude.{ℤ, ℕ, suc, Bool, true, false, List, ◌∷◌}
 use Rattle.idx_core.specs.declared.arith.Op.{Op}
-use Rattle.term_core.specs.Ends.{lift, under}
-
-mutual
-  pub data KTy : Type 0 where
-    TKInt : KTy
-    TKVar : (i : ℕ) → KTy
-    TKTuple : (ts : KTys) → KTy
-    TKCode : (owes : ℕ) (args : KTys) → KTy
-    TKSome : (t : KTy) → KTy
-    TKRef : (t : KTy) → KTy
-
-  pub data KTys : Type 0 where
-    NoKTys : KTys
-    MoreKTys : (t : KTy) (ts : KTys) → KTys
+use Rattle.term_core.specs.Ends.{lift}
+pub use Rattle.term_core.specs.Types.{Ty as KTy, Tys as KTys, IntTy as TKInt, VarTy as TKVar, TupleTy as TKTuple}
+pub use Rattle.term_core.specs.Types.{CodeTy as TKCode, ExistsTy as TKSome, RefTy as TKRef, NoTys as NoKTys}
+pub use Rattle.term_core.specs.Types.{MoreTys as MoreKTys, count as kcount}
+pub use Rattle.term_core.specs.Substitution.{renamed as kren, all_renamed as krens, scope_renamed as krens_scope}
+pub use Rattle.term_core.specs.Scope.{args_onto as kargs_onto}
 
 -- in the body of a code of m arguments, 0 is the last argument, m - 1 the first, and m the code itself
 mutual
@@ -44,10 +36,6 @@ mutual
     KIf : (v : KVal) (zero_part other_part : KTm) → KTm
     KHalt : (v : KVal) → KTm
 
-abbrev pub kcount : KTys → ℕ
-kcount NoKTys = 0
-kcount (MoreKTys t ts) = suc (kcount ts)
-
 -- the first number that is free after the codes of a tree, which take numbers from b on, each before those inside it
 abbrev mutual
   pub kv_next : ℕ → KVal → ℕ
@@ -76,20 +64,6 @@ abbrev mutual
   kt_next b (KIf v t u) = kt_next (kt_next (kv_next b v) t) u
   kt_next b (KHalt v) = kv_next b v
 
--- renaming of type variables
-abbrev mutual
-  pub kren : (ℕ → ℕ) → KTy → KTy
-  kren r TKInt = TKInt
-  kren r (TKVar i) = TKVar (r i)
-  kren r (TKTuple ts) = TKTuple (krens r ts)
-  kren r (TKCode n ts) = TKCode n (krens (under n r) ts)
-  kren r (TKSome t) = TKSome (kren (under 1 r) t)
-  kren r (TKRef t) = TKRef (kren r t)
-
-  pub krens : (ℕ → ℕ) → KTys → KTys
-  krens r NoKTys = NoKTys
-  krens r (MoreKTys t ts) = MoreKTys (kren r t) (krens r ts)
-
 -- a declaration that names a type too
 abbrev pub opens : KDecl → Bool
 opens (KName v) = false
@@ -101,18 +75,10 @@ opens (KCell v) = false
 opens (KGet v) = false
 opens (KSet v w) = false
 
-abbrev pub krens_scope : (ℕ → ℕ) → List KTy → List KTy
-krens_scope r [] = []
-krens_scope r (t ∷ ts) = kren r t ∷ krens_scope r ts
-
 -- the types in scope under one more type variable, where there is one
 abbrev pub scope_more : Bool → List KTy → List KTy
 scope_more true g = krens_scope suc g
 scope_more false g = g
-
-abbrev pub kargs_onto : KTys → List KTy → List KTy
-kargs_onto NoKTys g = g
-kargs_onto (MoreKTys t ts) g = kargs_onto ts (t ∷ g)
 
 -- the scope of a code's body
 abbrev pub kbody_scope : ℕ → KTys → List KTy → List KTy

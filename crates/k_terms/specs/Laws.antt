@@ -1,10 +1,9 @@
 -- Laws of the calculus in continuation-passing style.
-use Rattle.std.specs.Prelude.{◌≡◌, ◌≢◌, ◌↔◌, ◌+◌, ◌≤◌, ℕ, []}
-use Rattle.term_core.specs.Ends.{lift, Stuck}
-use Rattle.k_terms.specs.K.{KTy, TKVar, KTm, kren, kt_next}
+use Rattle.std.specs.Prelude.{◌≡◌, ◌≢◌, ◌↔◌, ◌+◌, ℕ, []}
+use Rattle.term_core.specs.Ends.{Stuck}
+use Rattle.k_terms.specs.K.{KTm, kt_next}
 use Rattle.k_terms.specs.Meaning.{krun}
-use Rattle.k_terms.specs.Typing.{kscons, ksub, KIn, KGood}
-use Rattle.k_terms.specs.Walks.{shift, put, Below}
+use Rattle.k_terms.specs.Typing.{KGood}
 use Rattle.k_terms.specs.Each.{KGoodP}
 use Rattle.k_terms.specs.Reach.{KWithin}
 use Rattle.k_terms.specs.Size.{codes_t}
@@ -24,17 +23,3 @@ TypedIsAny = (t : KTm) → KGood 0 [] t ↔ KGoodP (λ n u. Unit {0}) 0 [] t
 -- a term whose types are within bounds is typed
 abbrev pub WithinIsTyped : Type 0
 WithinIsTyped = (N R B : ℕ) (t : KTm) → KGoodP (KWithin N R B) 0 [] t → KGood 0 [] t
-
--- two puts exchange, the one put into the other
-abbrev pub PutsExchange : Type 0
-PutsExchange = (i j : ℕ) (u v t : KTy) → i ≤ j → put j v (put i u t) ≡ put i (put j v u) (put (j + 1) (shift 1 i v) t)
-
--- the words of typing in those of shift, put and below
-abbrev pub LiftIsShift : Type 0
-LiftIsShift = (n : ℕ) (t : KTy) → kren (lift n) t ≡ shift n 0 t
-
-abbrev pub FirstIsPut : Type 0
-FirstIsPut = (s t : KTy) → ksub (kscons s TKVar) t ≡ put 0 s t
-
-abbrev pub InIsBelow : Type 0
-InIsBelow = (n : ℕ) (t : KTy) → KIn n t ↔ Below n t

@@ -1,64 +1,12 @@
 -- Typing of the CPS calculus.
-use Rattle.std.specs.Prelude.{◌≡◌, ◌<◌, ℕ, zero, suc, List, [], ◌∷◌}
+use Rattle.std.specs.Prelude.{◌≡◌, ℕ, List, ◌∷◌}
 use Rattle.term_core.specs.Ends.{lift, after_one}
+pub use Rattle.term_core.specs.Substitution.{with_type as kscons, with_types as knames, under_binders as kup}
+pub use Rattle.term_core.specs.Substitution.{substituted as ksub, all_substituted as ksubs}
+pub use Rattle.term_core.specs.Scope.{InScope as KIn, AllInScope as KIns, IsTypeOf as KAt, IsField as KField}
 use Rattle.k_terms.specs.K.{KTy, KTys, TKInt, TKVar, TKTuple, TKCode, TKSome, TKRef, NoKTys, MoreKTys, KVal, KVar, KInt}
 use Rattle.k_terms.specs.K.{KTuple, KCode, KVals, NoKVals, MoreKVals, KDecl, KName, KProj, KArith, KPack, KUnpack}
-use Rattle.k_terms.specs.K.{KCell, KGet, KSet, KTm, KLet, KCall, KIf, KHalt, kcount, kren, kbody_scope, opens}
-use Rattle.k_terms.specs.K.{scope_more}
-
--- types put for type variables
-abbrev pub kscons : KTy → (ℕ → KTy) → ℕ → KTy
-kscons t s zero = t
-kscons t s (suc i) = s i
-
-abbrev pub kup : ℕ → (ℕ → KTy) → ℕ → KTy
-kup zero s i = s i
-kup (suc n) s zero = TKVar 0
-kup (suc n) s (suc i) = kren suc (kup n s i)
-
-abbrev mutual
-  pub ksub : (ℕ → KTy) → KTy → KTy
-  ksub s TKInt = TKInt
-  ksub s (TKVar i) = s i
-  ksub s (TKTuple ts) = TKTuple (ksubs s ts)
-  ksub s (TKCode n ts) = TKCode n (ksubs (kup n s) ts)
-  ksub s (TKSome t) = TKSome (ksub (kup 1 s) t)
-  ksub s (TKRef t) = TKRef (ksub s t)
-
-  pub ksubs : (ℕ → KTy) → KTys → KTys
-  ksubs s NoKTys = NoKTys
-  ksubs s (MoreKTys t ts) = MoreKTys (ksub s t) (ksubs s ts)
-
--- the last type is put for index 0
-abbrev pub knames : KTys → (ℕ → KTy) → ℕ → KTy
-knames NoKTys s = s
-knames (MoreKTys t ts) s = knames ts (kscons t s)
-
--- a type's free variables are among the first n
-abbrev mutual
-  pub KIn : ℕ → KTy → Type 0
-  KIn n TKInt = Unit {0}
-  KIn n (TKVar i) = i < n
-  KIn n (TKTuple ts) = KIns n ts
-  KIn n (TKCode m ts) = KIns (lift m n) ts
-  KIn n (TKSome t) = KIn (suc n) t
-  KIn n (TKRef t) = KIn n t
-
-  pub KIns : ℕ → KTys → Type 0
-  KIns n NoKTys = Unit {0}
-  KIns n (MoreKTys t ts) = KIn n t × KIns n ts
-
-abbrev pub KAt : List KTy → ℕ → KTy → Type 0
-KAt [] i t = ⊥
-KAt (u ∷ g) zero t = t ≡ u
-KAt (u ∷ g) (suc i) t = KAt g i t
-
--- field i, from 1 on, has type t
-abbrev pub KField : ℕ → KTys → KTy → Type 0
-KField i NoKTys t = ⊥
-KField zero (MoreKTys u us) t = ⊥
-KField (suc zero) (MoreKTys u us) t = t ≡ u
-KField (suc (suc i)) (MoreKTys u us) t = KField (suc i) us t
+use Rattle.k_terms.specs.K.{KCell, KGet, KSet, KTm, KLet, KCall, KIf, KHalt, kcount, kbody_scope, opens, scope_more}
 
 abbrev mutual
   pub KHas : ℕ → List KTy → KVal → KTy → Type 0

@@ -1,12 +1,10 @@
 -- Codes and branches: terms begin and end.
-use Rattle.std.proofs.Common.{◌≡◌, ℕ, zero, suc, ◌+◌, Bool, true, false, List, [], ◌∷◌, ◌++◌, length, Vec, Global}
+use Rattle.std.proofs.Common.{◌≡◌, ℕ, suc, Bool, true, false, List, [], ◌∷◌, ◌++◌, length, Vec, Global}
 use Rattle.std.proofs.Common.{codes, refl, ap, ap₂, ◌∙◌, sym, subst, arith}
 use Rattle.std.proofs.lemmas.List.{append_assoc}
 use Rattle.term_core.specs.Ends.{lift}
 use Rattle.k_terms.specs.K.{KVal, KTm, KTys, KCode, KIf, kcount}
 use Rattle.k_terms.specs.Stream.{KNd, NCode, NEnd, NIf, NElse}
-use Rattle.k_terms.specs.Read.{ktys}
-use Rattle.k_terms.specs.declared.types.KType.{KType}
 use Rattle.k_terms.specs.Decode.{Body, Open, InCode, InThen, run, fresh, top, push, other}
 use Rattle.pieces.specs.Pieces.{Stands, Keeps, text_at}
 use Rattle.pieces.specs.declared.pieces.Pieces.{Pieces}
@@ -26,10 +24,7 @@ use Rattle.k_writer.specs.State.{value_in, term_in, branch, inside, outermost, i
 use Rattle.k_writer.specs.State.{PageIs, TestIs, OuterIs, OutersAre, StateIs}
 use Rattle.k_writer.proofs.Turning.{stack_push, page_kept, open_is, one_waits, value_pushed}
 use Rattle.k_writer.proofs.Moving.{outers_kept, open_stage}
-
-lift_is : (n i : ℕ) → lift n i ≡ i + n
-lift_is zero i = omega arith
-lift_is (suc n) i = let h = lift_is n i in omega (arith, h)
+use Rattle.term_core.proofs.Lifts.{lift_is}
 
 fresh_so_far : (stage : Stage) (start s : Scope) (d : ℕ) → stage ≡ S.Open → s ≡ start →
     SoFar stage start s (fresh d) []
@@ -398,10 +393,6 @@ branch_begins a q r t f around values scope depth first opened text middle items
       fine = c.fine;
       is_whole = subst (λ (os : List Open). run (NElse depth ∷ ns) x os ≡ whole) c.opens_are h.is_whole;
     }
-
-pub kcount_length : (xs : List KType) → kcount (ktys xs) ≡ length xs
-kcount_length [] = refl
-kcount_length (x ∷ xs) = ap suc (kcount_length xs)
 
 pub scope_is : (s t : Scope) → s.types ≡ t.types → s.names ≡ t.names → s.indent ≡ t.indent → s ≡ t
 scope_is s t e f g =

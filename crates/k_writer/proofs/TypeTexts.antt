@@ -4,7 +4,7 @@ use Rattle.std.proofs.Common.{arith}
 use Rattle.std.proofs.lemmas.List.{append_assoc, append-nil}
 use Rattle.std.proofs.Math.Seq.{drop-cons}
 use Rattle.std.proofs.Math.ListN.{drop_of_length-le}
-use Rattle.k_terms.specs.declared.types.KType.{KType}
+use Rattle.term_core.specs.declared.types.CoreType.{CoreType as KType}
 use Rattle.k_terms.specs.Read.{ktree, ktys}
 use Rattle.k_terms.specs.K.{KTy, KTys, TKTuple, TKCode}
 use Rattle.page_text.specs.Names.{separator, value_name, type_names}

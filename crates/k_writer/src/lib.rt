@@ -1,7 +1,6 @@
 //! The notation of converted programs (own choice): docs/PASSES.md shows it by example.
 #![tactic(auto)]
 
-mod depth;
 mod join;
 mod lines;
 mod page;

@@ -9,12 +9,11 @@ ghost use Rattle.k_writer.specs.Notation.{let_sign};
 ghost use Rattle.k_writer.specs.State.{let_in, more_scope, value_in, Takes, Turns};
 ghost use Rattle.k_writer.specs.declared.page.Stage.TheVariants.{Called, Whole};
 
-use crate::depth::deeper;
 use crate::join::{between, with_bytes};
 use crate::page::{Page, Scope, Stage};
 use crate::types::{write_type, write_types};
 use crate::values::take;
-use idx_core::{Op, OutOfMemory};
+use idx_core::{Op, OutOfMemory, sum};
 use k_terms::KType;
 use page_text::{write_margin, write_natural, write_op, write_type_name, write_value_name};
 use pieces::Pieces;
@@ -53,8 +52,8 @@ fn let_sign(alloc: Global, scope: Scope) -> Result<Vec<u8>, OutOfMemory>
 fn with_more(scope: Scope, types: u64) -> Result<Scope, OutOfMemory>
     ensures { IfOk result (λ inner. inner ≡ more_scope scope types) }
 {
-    let types = deeper(scope.types, types)?;
-    let names = deeper(scope.names, 1)?;
+    let types = sum(scope.types, types)?;
+    let names = sum(scope.names, 1)?;
     Ok(Scope {
         types,
         names,

@@ -3,8 +3,7 @@ ghost use Rattle.std.specs.Prelude.{◌≡◌, ◌++◌, OnOk, IfOk};
 ghost use Rattle.k_terms.specs.Read.{ktree, ktys};
 ghost use Rattle.k_writer.specs.Notation.{arguments_text, code_line, type_text, types_text};
 
-use crate::depth::deeper;
-use idx_core::OutOfMemory;
+use idx_core::{OutOfMemory, sum};
 use k_terms::KType;
 use page_text::{write_separator, write_type_name, write_type_names, write_value_name};
 use std::alloc::Global;
@@ -27,7 +26,7 @@ pub(crate) fn write_type(text: &mut Vec<u8>, t: &KType, depth: u64) -> Result<()
             Ok(())
         }
         KType::Code { owes, args } => {
-            let inner = deeper(depth, *owes)?;
+            let inner = sum(depth, *owes)?;
             text.extend_from_slice(b"code")?;
             write_type_names(text, depth, *owes)?;
             text.extend_from_slice(b"(")?;
@@ -36,7 +35,7 @@ pub(crate) fn write_type(text: &mut Vec<u8>, t: &KType, depth: u64) -> Result<()
             Ok(())
         }
         KType::Exists(t) => {
-            let inner = deeper(depth, 1)?;
+            let inner = sum(depth, 1)?;
             text.extend_from_slice(b"some ")?;
             write_type_name(text, depth)?;
             text.extend_from_slice(b". ")?;
@@ -71,7 +70,7 @@ fn write_arguments(
     ensures { OnOk result (text.new.items ≡ text.old.items ++ arguments_text depth first 0 (ktys ts.now)) }
 {
     for (i, t) in ts.iter().enumerate() {
-        let around = deeper(first, i as u64)?;
+        let around = sum(first, i as u64)?;
         write_separator(text, i as u64)?;
         write_value_name(text, around)?;
         text.extend_from_slice(b": ")?;
@@ -90,8 +89,8 @@ pub(crate) fn code_line(
 ) -> Result<Vec<u8>, OutOfMemory>
     ensures { IfOk result (λ text. text.items ≡ code_line types names owes (ktys args.now)) }
 {
-    let inner = deeper(types, owes)?;
-    let first = deeper(names, 1)?;
+    let inner = sum(types, owes)?;
+    let first = sum(names, 1)?;
     let mut text = Vec::new(alloc);
     text.extend_from_slice(b"code ")?;
     write_value_name(&mut text, names)?;

@@ -9,13 +9,12 @@ ghost use Rattle.k_writer.specs.Moves.{Begun, Enters, Moves};
 ghost use Rattle.k_writer.specs.Notation.{k_text};
 ghost use Rattle.k_writer.specs.State.{branch, inside, is_ended, term_in, PageIs};
 
-use crate::depth::deeper;
 use crate::join::{between, with_bytes};
 use crate::lines::{arith, call, cell, field, get, halt, line, name, pack, set, sign, unpack};
 use crate::page::{Outer, Page, Part, Scope, Stage};
 use crate::types::code_line;
 use crate::values::{integer, take, take_all, tuple, variable};
-use idx_core::OutOfMemory;
+use idx_core::{OutOfMemory, sum};
 use k_terms::{KNode, KProgram, KType};
 use pieces::Pieces;
 use std::alloc::Global;
@@ -57,10 +56,10 @@ fn new_writer(alloc: Global) -> Result<Writer, OutOfMemory>
 fn inside(scope: Scope, owes: u64, args: &[KType]) -> Result<Scope, OutOfMemory>
     ensures { IfOk result (λ inner. inner ≡ inside scope owes (ktys args.now)) }
 {
-    let types = deeper(scope.types, owes)?;
-    let own = deeper(scope.names, 1)?;
-    let names = deeper(own, args.len() as u64)?;
-    let indent = deeper(scope.indent, 1)?;
+    let types = sum(scope.types, owes)?;
+    let own = sum(scope.names, 1)?;
+    let names = sum(own, args.len() as u64)?;
+    let indent = sum(scope.indent, 1)?;
     Ok(Scope {
         types,
         names,
@@ -72,7 +71,7 @@ fn inside(scope: Scope, owes: u64, args: &[KType]) -> Result<Scope, OutOfMemory>
 fn branch(scope: Scope) -> Result<Scope, OutOfMemory>
     ensures { IfOk result (λ inner. inner ≡ branch scope) }
 {
-    let indent = deeper(scope.indent, 1)?;
+    let indent = sum(scope.indent, 1)?;
     Ok(Scope {
         types: scope.types,
         names: scope.names,

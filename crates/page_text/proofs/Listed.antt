@@ -1,8 +1,9 @@
 -- Lists that a loop writes item by item.
 use Rattle.std.proofs.Common.{◌≡◌, ◌≤◌, ◌<◌, ℕ, suc, ◌+◌, List, [], ◌∷◌, ◌++◌, length, drop, get_or, sym, ◌∙◌}
-use Rattle.std.proofs.Common.{subst, append_assoc, add-one, drop-cons, ap}
+use Rattle.std.proofs.Common.{subst, append_assoc, add-one}
 use Rattle.std.proofs.lemmas.List.{append-nil}
 use Rattle.std.proofs.Math.ListN.{drop_of_length-le}
+use Rattle.idx_core.proofs.Lists.{next_item}
 
 -- the texts of items, each by its place, where i stand before them
 abbrev pub listed : {A : Type 0} → (ℕ → A → List ℕ) → ℕ → List A → List ℕ
@@ -10,10 +11,6 @@ listed item i [] = []
 listed item i (x ∷ xs) = item i x ++ listed item (suc i) xs
 
 -- the next item of a list
-pub next_item : {A : Type 0} (xs : List A) (i : ℕ) (x : A) → x ≡ get_or xs i x → i < length xs →
-    drop i xs ≡ x ∷ drop (i + 1) xs
-next_item {A} xs i x is lt = rw add-one (drop-cons xs i x lt ∙ ap (λ (y : A). y ∷ drop (suc i) xs) (sym is))
-
 -- what a loop keeps: the text so far with what is left is the whole. Before item i + k of the list, i items of the text
 -- are written
 abbrev pub Left : {A : Type 0} → (ℕ → A → List ℕ) → List ℕ → ℕ → ℕ → List A → List ℕ → Type 0

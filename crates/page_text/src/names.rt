@@ -4,7 +4,7 @@ ghost use Rattle.page_text.specs.Names.{type_name, type_names, value_name};
 
 use crate::layout::write_separator;
 use crate::numbers::write_natural;
-use idx_core::OutOfMemory;
+use idx_core::{OutOfMemory, sum};
 
 /// Puts the name of a value that has so many names around it at the end of a text: `x` and the number. An error is want
 /// of memory.
@@ -27,16 +27,6 @@ pub fn write_type_name(text: &mut Vec<u8>, around: u64) -> Result<(), OutOfMemor
         return Ok(());
     }
     write_natural(text, rounds)
-}
-
-// A number of names as a word. More names than that no memory holds.
-fn sum(first: u64, more: u64) -> Result<u64, OutOfMemory>
-    ensures { IfOk result (λ r. r ≡ first + more) }
-{
-    match first.checked_add(more) {
-        Some(n) => Ok(n),
-        None => Err(OutOfMemory),
-    }
 }
 
 /// Puts the names of `count` types, of which the first has `first` type names around it, in brackets at the end of a

@@ -80,7 +80,6 @@ module _ (e : Term) (k : KTm) (c : CTm) (ks : HBlks) (t : HTm) (p : AProg) (main
       allocated = p;
       start = main;
       to_converted = converted.translation;
-      is_converted = converted.tree;
       to_closed = closed;
       to_hoisted = hoisted;
       to_allocated = allocated;

@@ -14,3 +14,4 @@ mod WeightsConverted
 mod WeightsGenerated
 mod WeightsHoisted
 mod WeightsSpilled
+mod RulesAlone

@@ -18,10 +18,9 @@ use Rattle.pipeline.proofs.Deciding.{few_or_not}
 use Rattle.pipeline.proofs.OneClosing.{one_closing}
 
 pub one_closed_term : OneClosedTerm
-one_closed_term e P Q a b =
-    let converted = a.is_converted ∙ sym b.is_converted in
+one_closed_term e P Q a b converted =
     let from = subst (λ k. closing.IsTranslation k a.closed) converted a.to_closed in
-    (converted, one_closing b.converted a.closed b.closed from b.to_closed)
+    one_closing b.converted a.closed b.closed from b.to_closed
 
 pub one_program : OneProgram
 one_program e P Q a b = a.made.is ∙ sym b.made.is
@@ -58,16 +57,18 @@ made_is_translated converts keeps closed closes types back hoists stands allocat
         allocated = p;
         start = main;
         to_converted = converts e program;
-        is_converted = refl;
         to_closed = closes k (closed k k_good);
         to_hoisted = back c c_good;
         to_allocated = stands ks t h_good;
         to_assembly = subst (Generates p main) (sym made.is) (rules p main (allocates ks t h_good));
       },
-      refl,
-      refl,
-      refl,
-      refl,
-      refl,
-      made.is,
+      record {
+        converted = refl;
+        closed = refl;
+        blocks = refl;
+        main = refl;
+        allocated = refl;
+        start = refl;
+        program = made.is;
+      },
     )

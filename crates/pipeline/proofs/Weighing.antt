@@ -24,10 +24,10 @@ use Rattle.pipeline.specs.Work.{only_choices, choices, HasBlocks, SameWeights, W
 use Rattle.pipeline.proofs.WeightsConverted.{k_t, converted_weight}
 use Rattle.pipeline.proofs.WeightsClosed.{c_t, closed_weight}
 use Rattle.pipeline.proofs.WeightsHoisted.{h_t, h_all, hoisted_weight}
-use Rattle.pipeline.proofs.WeightsAllocated.{a_t, a_all, allocated_term, allocated_blocks, same_length, only_thirds}
-use Rattle.pipeline.proofs.WeightsAllocated.{only_all_thirds}
+use Rattle.pipeline.proofs.WeightsAllocated.{a_t, a_all, allocated_term, allocated_blocks, only_thirds, only_all_thirds}
 use Rattle.pipeline.proofs.WeightsGenerated.{generated_weight}
 use Rattle.pipeline.proofs.WeightsSpilled.{spilled_weight, one_more}
+use Rattle.a_law.proofs.Thirds.{length_all as same_length}
 
 module _ (e : Term) (k : KTm) (c : CTm) (ks : HBlks) (t : HTm) (p : AProg) (main : ATm) (P : TProg)
     (is_k : k ≡ cps_term e) (is_c : c ≡ close_of k) (is_ks : ks ≡ blocks_of c) (is_t : t ≡ main_of c)

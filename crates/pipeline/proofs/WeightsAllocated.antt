@@ -13,6 +13,7 @@ use Rattle.h_terms.specs.H.{HPack, HProj, HSet, HTm, HTuple, HUnpack, HVal, HVal
 use Rattle.pipeline.specs.Weights.{Weights}
 use Rattle.pipeline.specs.Work.{only_choices}
 use Rattle.pipeline.proofs.WeightsHoisted.{h_d, h_t, h_all}
+use Rattle.a_law.proofs.Thirds.{length_all as same_length}
 
 abbrev pub a_d : Weights → ADecl → ℕ
 a_d w (Value v) = 0
@@ -119,10 +120,6 @@ module _ (w : Weights) where
       let a = allocated_term x.body ks (types_of (atypes x.args) []) levels b (arg_depth 0 x.args) in
       let r = allocated_blocks ks xs (n_block b x) in
       omega (arith, a, r)
-
-pub same_length : (ks xs : HBlks) (b : ℕ) → length (alloc_all ks b xs) ≡ length xs
-same_length ks [] b = refl
-same_length ks (x ∷ xs) b = ap suc (same_length ks xs (n_block b x))
 
 -- choices alone are counted where nothing else weighs anything
 pub only_thirds : (t : ATm) → a_t only_choices t ≡ thirds t

@@ -2,7 +2,6 @@
 use Rattle.std.specs.Prelude.{◌≡◌, ℕ}
 use Rattle.f_terms.specs.Tm.{Term}
 use Rattle.k_terms.specs.K.{KTm}
-use Rattle.k_laws.specs.Annotate.{cps_term}
 use Rattle.k_laws.specs.Translates.{cps_program}
 use Rattle.c_terms.specs.C.{CTm}
 use Rattle.c_law.specs.Row as closing
@@ -21,9 +20,10 @@ use Rattle.pipeline.specs.Meaning.{SameMeaning, RunsSeldom, HaltsSoon}
 
 -- the program is a translation of the term by the rules of the passes in turn: conversion to continuation-passing
 -- style, closure conversion, hoisting, allocation, code generation. The hoisted program gives the closed term when
--- codes are put back for labels, and the allocated program stands for the hoisted one. The rules of the conversion may
--- name a value more, so the converted term is the one with no such name; the rules of closure conversion give one term.
--- Which registers there are, and which of equal data is named where, is left open
+-- codes are put back for labels, and the allocated program stands for the hoisted one. No function of a pass is named.
+-- The rules leave open whether the conversion names a value more, which label of equal blocks and which of equal data
+-- is named where, the types at a `malloc`, which registers there are, and moves of operands within the bound of a rule;
+-- those of closure conversion give one term
 pub record IsTranslation (e : Term) (P : TProg) : Type 0 where
   pub converted : KTm
   pub closed : CTm
@@ -32,7 +32,6 @@ pub record IsTranslation (e : Term) (P : TProg) : Type 0 where
   pub allocated : AProg
   pub start : ATm
   pub to_converted : cps_program e converted
-  pub is_converted : converted ≡ cps_term e
   pub to_closed : closing.IsTranslation converted closed
   pub to_hoisted : IsHoisted blocks main closed
   pub to_allocated : Stands allocated start blocks main

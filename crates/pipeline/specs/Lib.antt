@@ -4,3 +4,4 @@ pub mod Meaning
 pub mod OneProgram
 pub mod Weights
 pub mod Work
+pub mod ByRules

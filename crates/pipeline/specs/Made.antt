@@ -22,7 +22,8 @@ hoisted_and_assembled c = assembled (blocks_of c) (main_of c)
 abbrev pub compiled_program : Term → TProg
 compiled_program e = hoisted_and_assembled (close_of (cps_term e))
 
--- the program is the one that they make: no name, no register, no order is left to choose. What the rules of the passes
--- say of a program is in `IsTranslation`; nobody has to read these functions for that
+-- the program is the one that they make: no name, no register, no order is left to choose, also where the rules of the
+-- passes leave something open. What those say of a program is in `IsTranslation`; nobody has to read these functions
+-- for that
 pub record IsMade (e : Term) (P : TProg) : Type 0 where
   pub is : P ≡ compiled_program e

@@ -4,7 +4,7 @@ ghost use Rattle.f_terms.specs.ReadTerm.{term_of};
 ghost use Rattle.f_check.specs.Typed.{program_term};
 ghost use Rattle.t_terms.specs.ReadProgram.{program as program_tree};
 ghost use Rattle.t_terms.specs.Nesting.{nesting};
-ghost use Rattle.t_terms.specs.Text.{most_open};
+ghost use Rattle.t_terms.specs.Nesting.{most_open};
 ghost use Rattle.t_check.specs.Checked.{checked_program};
 ghost use Rattle.gen_law.specs.Packs.{FlatProgram};
 ghost use Rattle.gen_law.specs.TypesEach.{TypesEach, TWithin};

@@ -1,4 +1,5 @@
 // Laws about what is compiled.
+ghost use Rattle.pipeline.specs.ByRules.{TranslationsMeanTheSame};
 ghost use Rattle.pipeline.specs.OneProgram.{MadeIsTranslated, OneClosedTerm, OneProgram, OneProgramWithin};
 
 /// A term is compiled to one program: whatever it is compiled to is the same.
@@ -11,10 +12,27 @@ pub fn one_source_gives_one_program_within()
     ensures { OneProgramWithin }
 {}
 
-/// Whatever a term is a translation to by the rules, its converted and its closed term are the same.
+/// Whatever a term is a translation to by the rules, of one converted term there is one closed term.
 pub fn one_source_gives_one_closed_term()
     ensures { OneClosedTerm }
 {}
+
+/// Whatever is a translation of a term by the rules of the passes, is well formed and is accepted means the same as the
+/// term: who reads the rules needs no function of a pass for that.
+pub fn translations_mean_the_same()
+    ensures { TranslationsMeanTheSame }
+{
+    k_laws::meaning_is_kept();
+    k_laws::types_are_kept();
+    c_law::laws::scope_law();
+    c_law::laws::translation_law();
+    c_law::laws::meaning_law();
+    c_law::laws::types_law();
+    h_pass::laws::hoisted_means_the_same_law();
+    h_terms::laws::h_never_stuck_law();
+    a_law::standing_means_the_same();
+    gen_law::rules_mean_the_same();
+}
 
 /// The program that the passes make of a program of the source is a translation of it by the rules, and its forms on
 /// the way are those that the functions of the passes give.

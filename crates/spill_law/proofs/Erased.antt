@@ -35,6 +35,7 @@ use Rattle.spill_law.proofs.TypeLaws.{high_over}
 use Rattle.spill_law.proofs.Files.{high_regs, numbers_regs}
 use Rattle.spill_law.proofs.Computed.{value_is, next_is}
 use Rattle.spill_law.proofs.Live.{keep_over, kept_accepted}
+use Rattle.t_rules.proofs.Erasing.{value_over as erase_over}
 
 -- loads, frames and slots
 abbrev pub eload : ℕ → ℕ → Home → ESeq → ESeq
@@ -322,10 +323,6 @@ step_then m P L x i to n k =
     omega (arith, y, z)
 
 -- walks don't change what is erased
-erase_over : (f : At Ty) (d : ℕ) (v : TValue) → erase_value (over_value f d v) ≡ erase_value v
-erase_over f d (Plain b ts) = refl
-erase_over f d (Pack t v s) = erase_over f d v
-
 way_over : (f : At Ty) (d m used : ℕ) (i : TInstr) → way m used (over_instr f d i) ≡ way m used i
 way_over f d m used (Arith op rd rs v) = refl
 way_over f d m used (Bnz r v) = refl

@@ -20,10 +20,12 @@ use Rattle.spill_law.proofs.Homes.{regular_up, Sound, Regular, UpTo, sound_held,
 use Rattle.spill_law.proofs.Homes.{into_far}
 use Rattle.spill_law.proofs.Homes.{into_other, homed_both, homed_up, WayFits, gathered_regular, after_regular}
 use Rattle.spill_law.proofs.Erased.{egather, eslot, efinish, count_by, highs}
-use Rattle.spill_law.proofs.Walks.{Walks, walks_on, walks_none, walks_step, moves_walk, moves_walks, Full, get_front}
-use Rattle.spill_law.proofs.Walks.{get_end, set_end, st_step, mov_step, HomeAt, home_regs, home_heap, Sources, builds}
-use Rattle.spill_law.proofs.Heaps.{image, image_more, Heaps, heaps_frame, place_below, set_same}
-use Rattle.spill_law.proofs.Heaps.{set_other, set_length, get_there, get_cases, FrameHas, word_in}
+use Rattle.spill_law.proofs.Walks.{Walks, walks_on, walks_none, walks_step, moves_walk, moves_walks, Full, get_end}
+use Rattle.spill_law.proofs.Walks.{set_end, st_step, mov_step, HomeAt, home_regs, home_heap, Sources, builds}
+use Rattle.spill_law.proofs.Heaps.{image, image_more, Heaps, heaps_frame, place_below, set_other, get_cases, FrameHas}
+use Rattle.spill_law.proofs.Heaps.{word_in}
+use Rattle.idx_core.proofs.Lists.{get_front, set_same, set_length}
+use Rattle.t_rules.proofs.Settled.{there as get_there}
 
 pub fits_at : (g : RegTypes) (y : TFile) (q : ℕ) (t : Ty) → FitsFile g y → lookup y q ≡ Some t → (u : Ty)
     × (g q ≡ Some u)

@@ -13,7 +13,9 @@ use Rattle.t_rules.specs.Machine.{Word, IntWord, AddressWord, LabelWord, EmptyWo
 use Rattle.t_rules.specs.HeapTypes.{HeapTypes, WordHas}
 use Rattle.t_rules.specs.Erase.{EWord, EInt, EAddress, ELabel, EEmpty, EHeap}
 use Rattle.spill_law.specs.Spill.{numbers, position}
-use Rattle.spill_law.proofs.Walks.{Full, get_front, get_end}
+use Rattle.spill_law.proofs.Walks.{Full, get_end}
+use Rattle.t_rules.proofs.Settled.{there as get_there}
+use Rattle.idx_core.proofs.Lists.{set_same, set_length, get_front}
 
 -- a word of the program, spilled; p has the places of its tuples
 abbrev pub image : List ℕ → Word → Option EWord
@@ -92,23 +94,12 @@ images_empty p [] = tt
 images_empty p (t ∷ ts) = (refl, images_empty p ts)
 
 -- lists
-pub set_same : {A : Type 0} (xs : List A) (i : ℕ) (y z : A) → slice_get xs i ≡ Some y →
-    slice_get (slice_set xs i z) i ≡ Some z
-set_same [] i y z e = cc
-set_same (x ∷ xs) zero y z e = refl
-set_same (x ∷ xs) (suc i) y z e = set_same xs i y z e
-
 pub set_other : {A : Type 0} (xs : List A) (i j : ℕ) (z : A) → j ≢ i → slice_get (slice_set xs i z) j ≡ slice_get xs j
 set_other [] i j z ne = refl
 set_other (x ∷ xs) zero zero z ne = absurd (ne refl)
 set_other (x ∷ xs) zero (suc j) z ne = refl
 set_other (x ∷ xs) (suc i) zero z ne = refl
 set_other (x ∷ xs) (suc i) (suc j) z ne = set_other xs i j z (λ e. ne (ap suc e))
-
-pub set_length : {A : Type 0} (xs : List A) (i : ℕ) (z : A) → length (slice_set xs i z) ≡ length xs
-set_length [] i z = refl
-set_length (x ∷ xs) zero z = refl
-set_length (x ∷ xs) (suc i) z = ap suc (set_length xs i z)
 
 -- the last element, or one before it
 pub get_cases : {A : Type 0} (xs : List A) (y : A) (i : ℕ) (x : A) → slice_get (xs ++ (y ∷ [])) i ≡ Some x →
@@ -119,15 +110,6 @@ get_cases (z ∷ xs) y zero x e = inl e
 get_cases (z ∷ xs) y (suc i) x e =
     ⊎_elim (λ (a : slice_get xs i ≡ Some x). inl a) (λ (a : (i ≡ length xs) × (x ≡ y)). inr (ap suc a.0, a.1))
     (get_cases xs y i x e)
-
-pub get_there : {A : Type 0} (xs : List A) (i : ℕ) → i < length xs → (x : A) × (slice_get xs i ≡ Some x)
-get_there [] i lt = absurd (omega arith)
-get_there (x ∷ xs) zero lt = (x, refl)
-get_there (x ∷ xs) (suc i) lt = get_there xs i (omega arith)
-
-pub either : (b : Bool) → (b ≡ true) ⊎ (b ≡ false)
-either true = inl refl
-either false = inr refl
 
 -- each tuple of h has a place in K of its own, with the words' images
 pub record Heaps (p : List ℕ) (h : Heap) (K : EHeap) : Type 0 where

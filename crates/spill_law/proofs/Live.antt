@@ -56,7 +56,7 @@ keep_both t false true false y z h e = e
 keep_both t true false d y z h e = e
 keep_both t false false d y z h e = e
 
-nothing : (b : Bool) (o : Option Ty) → o ≡ None → None ≡ cond b o None
+pub nothing : (b : Bool) (o : Option Ty) → o ≡ None → None ≡ cond b o None
 nothing true o e = sym e
 nothing false o e = refl
 
@@ -90,7 +90,7 @@ fits_keep g qs (MoreRegs r t x) h = go (among r qs) (fits_keep g qs x h.1)
     go true k = (h.0, k)
     go false k = k
 
-rises_less : (low r : ℕ) (x : TFile) → low < r → RisesFrom r x → RisesFrom low x
+pub rises_less : (low r : ℕ) (x : TFile) → low < r → RisesFrom r x → RisesFrom low x
 rises_less low r NoRegs lt h = tt
 rises_less low r (MoreRegs q t x) lt h = (omega (arith, lt, h.0), h.1)
 

@@ -25,14 +25,16 @@ use Rattle.t_rules.proofs.Runs.{closed_labels, closed_data, blocks_typed, states
 use Rattle.spill_law.specs.Spill.{frame_reg, code, sizes, layout, sp_base, sp_blocks, sp_data, entry, spilled_above}
 use Rattle.spill_law.proofs.Files.{Ascends, look_same}
 use Rattle.spill_law.proofs.Typed.{at_map, labels_of, blocks_ascend, kept_types}
-use Rattle.spill_law.proofs.Walks.{walk, on_next, enter_step, get_front, get_end}
+use Rattle.spill_law.proofs.Walks.{walk, on_next, enter_step, get_end}
 use Rattle.spill_law.proofs.Erased.{erase_sp}
 use Rattle.t_rules.specs.Registers.{with_reg}
-use Rattle.spill_law.proofs.Heaps.{image, Images, Heaps, get_there, FrameHas}
+use Rattle.spill_law.proofs.Heaps.{image, Images, Heaps, FrameHas}
 use Rattle.spill_law.proofs.Frames.{Alike, framed}
 use Rattle.spill_law.proofs.Erased.{highs, slots_left}
 use Rattle.spill_law.proofs.Matching.{ELabels, Matches, Seg, Sized, Ending, Follows, tail_sizes, tail_left}
 use Rattle.spill_law.proofs.Sim.{follows}
+use Rattle.idx_core.proofs.Lists.{get_front}
+use Rattle.t_rules.proofs.Settled.{there as get_there}
 
 -- sums that compute
 abbrev pub plus : ℕ → ℕ → ℕ

@@ -42,17 +42,17 @@ use Rattle.spill_law.proofs.Erased.{erase_end_code, erased_put, ins_over, known,
 use Rattle.spill_law.proofs.Erased.{slots_left, count_by}
 use Rattle.spill_law.proofs.Walks.{walks_on, walks_none, walks_step, Moves, moves_step, moves_walk, walk_moves}
 use Rattle.spill_law.proofs.Walks.{moves_walks, Full, ld_step, mov_step, st_step, arith_step, enter_step, stay_step}
-use Rattle.spill_law.proofs.Walks.{leave_step}
-use Rattle.spill_law.proofs.Walks.{get_front, get_end, HomeAt, home_regs, home_heap, BaseAt, base_regs, base_heap}
-use Rattle.spill_law.proofs.Walks.{loads}
-use Rattle.spill_law.proofs.Walks.{fetches, Sources, builds}
+use Rattle.spill_law.proofs.Walks.{leave_step, get_end, HomeAt, home_regs, home_heap, BaseAt, base_regs, base_heap}
+use Rattle.spill_law.proofs.Walks.{loads, fetches, Sources, builds}
 use Rattle.spill_law.proofs.Heaps.{image, image_address, full_image, images_at, images_empty, images_length}
-use Rattle.spill_law.proofs.Heaps.{heaps_frame, heaps_tuple, heaps_set, place_below, either, FrameHas}
+use Rattle.spill_law.proofs.Heaps.{heaps_frame, heaps_tuple, heaps_set, place_below, FrameHas}
 use Rattle.spill_law.proofs.Frames.{fits_at, WordAt, Alike, alike_regs, alike_frame, alike_tuple}
 use Rattle.spill_law.proofs.Frames.{alike_written}
 use Rattle.spill_law.proofs.Frames.{Mid, mid_of, mid_here, framed, frame_words, Finished, finish_at}
 use Rattle.spill_law.proofs.Matching.{ELabels, Still, BlocksAscend, Matches, Follows, tail_sizes, tail_left}
 use Rattle.spill_law.proofs.Arriving.{value_in, base_kept, far_from, arrives}
+use Rattle.idx_core.proofs.Lists.{get_front}
+use Rattle.idx_core.proofs.Bools.{either}
 
 module _ (m : ℕ) (some : 1 ≤ m) (P : TProg) (closed : ClosedLabels P) (tuples : ClosedData P)
     (blocks : (l : ℕ) (b : TBlock) → slice_get P.blocks l ≡ Some b →

@@ -16,6 +16,7 @@ use Rattle.spill_law.specs.Spill.{at_home, second_at}
 use Rattle.spill_law.proofs.Files.{look_same, look_other}
 use Rattle.spill_law.proofs.Homes.{UpTo}
 use Rattle.spill_law.proofs.Erased.{eload, ebase, efill, ebuild}
+use Rattle.idx_core.proofs.Lists.{get_front}
 
 -- a step to the next instruction goes on
 abbrev pub on_next : Option EStep → (EState → Option EState) → Option EState
@@ -74,12 +75,6 @@ full_on (ELabel l) go h = refl
 full_on EEmpty go h = absurd h
 
 -- lists
-pub get_front : {A : Type 0} (xs ys : List A) (i : ℕ) (x : A) → slice_get xs i ≡ Some x →
-    slice_get (xs ++ ys) i ≡ Some x
-get_front [] ys i x e = cc
-get_front (y ∷ xs) ys zero x e = e
-get_front (y ∷ xs) ys (suc i) x e = get_front xs ys i x e
-
 pub get_end : {A : Type 0} (xs : List A) (y : A) (ys : List A) → slice_get (xs ++ (y ∷ ys)) (length xs) ≡ Some y
 get_end [] y ys = refl
 get_end (x ∷ xs) y ys = get_end xs y ys
@@ -92,10 +87,6 @@ set_end (x ∷ xs) y z ys = ap (λ (zs : List _). x ∷ zs) (set_end xs y z ys)
 append_assoc : {A : Type 0} (xs : List A) (y : A) (ys : List A) → (xs ++ (y ∷ [])) ++ ys ≡ xs ++ (y ∷ ys)
 append_assoc [] y ys = refl
 append_assoc (x ∷ xs) y ys = ap (λ (zs : List _). x ∷ zs) (append_assoc xs y ys)
-
-append_none : {A : Type 0} (xs : List A) → xs ++ [] ≡ xs
-append_none [] = refl
-append_none (x ∷ xs) = ap (λ (zs : List _). x ∷ zs) (append_none xs)
 
 module _ (m : ℕ) where
   -- the word at home

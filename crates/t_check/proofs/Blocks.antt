@@ -1,6 +1,5 @@
 -- The blocks and the data of a program, by place.
-use Rattle.std.proofs.Common.{◌≡◌, ℕ, zero, suc, ◌<◌, List, [], ◌∷◌, length, Some, sym, ap, get_or, arith, subst}
-use Rattle.std.proofs.Common.{slice_get}
+use Rattle.std.proofs.Common.{◌≡◌, ℕ, zero, suc, ◌<◌, List, [], ◌∷◌, length, sym, get_or, arith, subst}
 use Rattle.t_types.specs.Read.{tree, types}
 use Rattle.t_types.specs.WellFormed.{WellFormedTypes}
 use Rattle.t_types.specs.Tree.{BelowTypes}
@@ -16,12 +15,6 @@ use Rattle.t_terms.specs.ReadProgram.{program}
 use Rattle.t_terms.proofs.Blocks.{blocks_count, data_count}
 use Rattle.t_check.specs.Verdict.{FormedBlock, FormedData}
 
-pub block_at : (bs : List Block) (l : ℕ) (x : Block) → l < length bs → x ≡ get_or bs l x →
-    slice_get (blocks_of bs) l ≡ Some (block x)
-block_at [] l x lt is = absurd (omega arith)
-block_at (b ∷ bs) zero x lt is = ap (λ (y : Block). Some (block y)) (sym is)
-block_at (b ∷ bs) (suc l) x lt is = block_at bs l x (omega arith) is
-
 well_formed_at : (p q : ℕ) (bs : List Block) (l : ℕ) (x : Block) → l < length bs → x ≡ get_or bs l x →
     WellFormedBlocks p q (blocks_of bs) → WellFormedBlock p q (block x)
 well_formed_at p q [] l x lt is h = absurd (omega arith)
@@ -36,12 +29,6 @@ formed_at p l x lt is h =
     (well_formed_at (length (blocks_of p.blocks.items)) (length (data_of p.heap.items)) p.blocks.items l x lt is h.1))
 
 -- a data tuple of a program
-pub data_at : (xs : List Data) (d : ℕ) (x : Data) → d < length xs → x ≡ get_or xs d x →
-    slice_get (data_of xs) d ≡ Some (plain_fields (spanned_data x).fields)
-data_at [] d x lt is = absurd (omega arith)
-data_at (y ∷ xs) zero x lt is = ap (λ (z : Data). Some (plain_fields (spanned_data z).fields)) (sym is)
-data_at (y ∷ xs) (suc d) x lt is = data_at xs d x (omega arith) is
-
 well_data_at : (p q : ℕ) (xs : List Data) (d : ℕ) (x : Data) → d < length xs → x ≡ get_or xs d x →
     WellFormedHeap p q (data_of xs) → WellFormedData p q (plain_fields (spanned_data x).fields)
 well_data_at p q [] d x lt is h = absurd (omega arith)

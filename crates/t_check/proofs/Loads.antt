@@ -14,10 +14,10 @@ use Rattle.t_terms.specs.declared.fault.TCode.TheVariants.{T09, T11, T19}
 use Rattle.t_mismatch.specs.Mismatch.{Note, Types, FaultWith, bare, fitting, register, integer, tuple, field_at}
 use Rattle.t_intern.specs.Marks.{marked_fields}
 use Rattle.t_intern.specs.Nodes.{at, fields_at}
-use Rattle.t_registers.specs.Bounds.{Bounded}
+use Rattle.t_types.specs.Bounds.{Bounded}
 use Rattle.t_registers.specs.Known.{own, seen, IsEntry}
 use Rattle.t_registers.specs.declared.registers.Entry.{Entry}
-use Rattle.t_registers.proofs.Depth.{bounded, bounded_shift, shift_fits, field_shallow}
+use Rattle.t_rules.proofs.Depth.{bounded, bounded_shift, shift_fits, field_shallow}
 use Rattle.t_registers.specs.Marks.{marks}
 use Rattle.t_registers.proofs.Sets.{tuple_marked, marked_field, marked_absent}
 use Rattle.t_registers.proofs.Tuples as tuples

@@ -20,14 +20,14 @@ use Rattle.t_mismatch.specs.Mismatch.{Note, Types, NoPackage, FaultWith, bare, a
 use Rattle.t_mismatch.specs.Mismatch.{PackFaultWith, ValueFaultWith, FileFaultWith, EnterFaultWith, InstrFaultWith}
 use Rattle.t_mismatch.specs.Mismatch.{DatumFaultWith}
 use Rattle.t_mismatch.specs.ReadMismatch.{mismatch}
-use Rattle.t_registers.specs.Bounds.{Bounded, OwedFile}
+use Rattle.t_types.specs.Bounds.{Bounded, OwedFile}
 use Rattle.t_intern.specs.Grown.{IsNumber}
 use Rattle.t_registers.specs.Known.{own, seen, known, IsEntry, IsSound}
 use Rattle.t_mismatch.specs.Refusals.{SaysWith}
 use Rattle.t_check.specs.Verdict.{IsTypeOf, IsPacked, IsFileFit, IsEntered, IsStep}
 use Rattle.t_registers.specs.declared.registers.Entry.{Entry}
 use Rattle.t_registers.specs.declared.registers.Registers.{Registers}
-use Rattle.t_registers.proofs.Depth.{shallow, bounded, bounded_shift}
+use Rattle.t_rules.proofs.Depth.{shallow, bounded, bounded_shift}
 
 -- a fault of a part is one of the whole
 pub says_map : (f : Refusal) (F G : FaultWith) → ((c : Note) (p : Span) → F c p → G c p) → SaysWith f F → SaysWith f G

@@ -34,7 +34,7 @@ use Rattle.t_rules.specs.Known.{KnownFrom, KnownAt, seq_from, code_at}
 use Rattle.t_rules.specs.Rules.{Typed, Accepted}
 use Rattle.t_rules.specs.LawsSound.{PlacesAreTyped}
 use Rattle.idx_core.specs.Over.{BelowAt, AnyDepth}
-use Rattle.t_registers.specs.Bounds.{ShallowAt, ShallowBelow, Shallow, OwedAt, OwedBelow, Bounded}
+use Rattle.t_types.specs.Bounds.{ShallowAt, ShallowBelow, Shallow, OwedAt, OwedBelow, Bounded}
 use Rattle.t_registers.specs.Fitted.{RisesFrom, Rises}
 use Rattle.t_registers.specs.Known.{seen, entry_of, known, IsEntry, IsSound}
 use Rattle.t_registers.specs.Labels.{AreLabels}
@@ -47,9 +47,11 @@ use Rattle.t_registers.proofs.Noting.{known_grown, sound_grown}
 use Rattle.t_registers.proofs.Numbering.{labels_grown}
 use Rattle.t_registers.specs.declared.registers.Entry.{Entry}
 use Rattle.t_registers.specs.declared.registers.Registers.{Registers}
-use Rattle.t_check.proofs.Blocks.{block_at, formed_at}
-use Rattle.t_registers.proofs.Depth.{weaker, weaker_file}
+use Rattle.t_check.proofs.Blocks.{formed_at}
+use Rattle.t_rules.proofs.Depth.{weaker, weaker_file}
 use Rattle.t_check.proofs.Typing.{entry_bounded}
+use Rattle.idx_core.proofs.Numbers.{before as less_key}
+use Rattle.t_terms.proofs.Items.{block_at}
 
 abbrev pub Steps : Type 0
 Steps = List (Instr × Span)
@@ -169,14 +171,6 @@ pub shown_known : (ts : List Ty) (k : Registers) → lookup (regs (shown ts k.na
 shown_known ts k = fun_ext (λ r. shown_at ts k.names k.entries.entries r)
 
 -- they rise
-less_key : (r q : ℕ) → nat_cmp r q ≡ Less → r < q
-less_key r q e = by_order (cases_order r q)
-  where
-    by_order : (r ≡ q) ⊎ ((r < q) ⊎ (q < r)) → r < q
-    by_order (inl s) = absurd (let f = nat_cmp_is r q Equal s in cc)
-    by_order (inr (inl l)) = l
-    by_order (inr (inr l)) = absurd (let f = nat_cmp_is r q Greater l in cc)
-
 above : (r : ℕ) (ks : List ℕ) → AllByRecursion (λ y. nat_cmp r y ≡ Less) ks → AllByRecursion (λ y. r + 1 ≤ y) ks
 above r [] h = h
 above r (k ∷ ks) h = (let l = less_key r k h.0 in omega arith, above r ks h.1)

@@ -20,7 +20,7 @@ use Rattle.t_rules.specs.Registers.{inst_file}
 use Rattle.t_rules.specs.Rules.{BaseHas, Has, Enters, Typed, EndTyped, BlockAccepted, BlocksAccepted, DatumAccepted}
 use Rattle.t_rules.specs.Rules.{DataAccepted, HeapAccepted, Accepted}
 use Rattle.t_rules.specs.Faults.{Fault, ProgramFault}
-use Rattle.t_registers.specs.Bounds.{Bounded, OwedFile}
+use Rattle.t_types.specs.Bounds.{Bounded, OwedFile}
 use Rattle.t_check.specs.Checked.{checked_program}
 use Rattle.t_mismatch.specs.Mismatch.{KnownFits, Register, at_odds, register, integer, tuple, field_at, BaseFaultWith}
 use Rattle.t_mismatch.specs.Mismatch.{PackFaultWith, ValueFaultWith, FileFaultWith, EnterFaultWith, StoreFaultWith}

@@ -8,7 +8,7 @@ ghost use Rattle.t_terms.specs.Read.{base as base_tree, value};
 ghost use Rattle.t_intern.specs.Applied.{with_types};
 ghost use Rattle.t_intern.specs.Grown.{Grown, IsNumber};
 ghost use Rattle.t_intern.specs.Nodes.{at, regs_at, RegsBelow};
-ghost use Rattle.t_registers.specs.Bounds.{Bounded, OwedFile};
+ghost use Rattle.t_types.specs.Bounds.{Bounded, OwedFile};
 ghost use Rattle.t_check.specs.Verdict.{FormedAt, FormedBase, IsPlace, BaseTypedAt, TypedAt, AppliedAt, IsInstantiated};
 ghost use Rattle.t_check.specs.Verdict.{IsPacked};
 

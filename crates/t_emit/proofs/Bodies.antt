@@ -11,6 +11,7 @@ use Rattle.t_terms.specs.declared.block.Block.{Block}
 use Rattle.t_emit.specs.Code.{coded, fill}
 use Rattle.t_terms.specs.declared.instr.Instr.{Instr}
 use Rattle.t_emit.specs.Code.{onto}
+use Rattle.t_terms.proofs.Items.{block_at}
 
 pub onto_snoc : (xs : List (Instr × Span)) (x : Instr × Span) (rest : TSeq) →
     onto (xs ++ x ∷ []) rest ≡ onto xs (Then (instr x.0) rest)
@@ -22,10 +23,6 @@ pub seq_is : (xs : List (Instr × Span)) (e : TEnd) → seq_of (body xs) e ≡ o
 seq_is [] e = refl
 seq_is (x ∷ xs) e = ap (Then (instr x.0)) (seq_is xs e)
 
-pub blocks_snoc : (xs : List Block) (b : Block) → blocks_of (xs ++ b ∷ []) ≡ blocks_of xs ++ block b ∷ []
-blocks_snoc [] b = refl
-blocks_snoc (x ∷ xs) b = ap (λ bs. block x ∷ bs) (blocks_snoc xs b)
-
 -- a block that is written in the place of one with the same header
 pub set_filled : (xs : List Block) (i : ℕ) (old new : Block) (c : TSeq) → i < length xs → old ≡ get_or xs i old →
     block new ≡ coded (block old) c → blocks_of (slice_set xs i new) ≡ fill i c (blocks_of xs)
@@ -36,12 +33,6 @@ set_filled (x ∷ xs) (suc i) old new c lt is same =
     ap (λ bs. block x ∷ bs) (set_filled xs i old new c (omega arith) is same)
 
 -- a block of the slice
-pub block_at : (bs : List Block) (l : ℕ) (x : Block) → l < length bs → x ≡ get_or bs l x →
-    slice_get (blocks_of bs) l ≡ Some (block x)
-block_at [] l x lt is = absurd (omega arith)
-block_at (b ∷ bs) zero x lt is = ap (λ (y : Block). Some (block y)) (sym is)
-block_at (b ∷ bs) (suc l) x lt is = block_at bs l x (omega arith) is
-
 -- the type of its label
 pub label_is : (bs : List Block) (l : ℕ) (x : Block) (b : TBlock) → l < length bs → x ≡ get_or bs l x →
     slice_get (blocks_of bs) l ≡ Some b → CodeTy x.owes (file x.regs.regs.items) ≡ CodeTy b.owes b.file

@@ -4,7 +4,6 @@ use Rattle.std.proofs.Common.{Some, None, refl, sym, ap, ◌∙◌, subst, arith
 use Rattle.std.specs.Prelude.{Bool, ◌||◌, cond}
 use Rattle.t_types.specs.Tree.{Ty}
 use Rattle.std.proofs.lemmas.List.{drop_more}
-use Rattle.t_terms.specs.Tree as T
 use Rattle.t_terms.specs.Tree.{TValue, TSeq}
 use Rattle.gen_law.specs.Gen.{place, small, unnest, instead, free, owner, reads, later}
 use Rattle.gen_law.specs.Gen.{call_code, constant}

@@ -37,11 +37,7 @@ ty_fsnoc : (us : a.AFields) (t : a.ATy) (b : Bool) → ty_fields (fsnoc us t b) 
 ty_fsnoc a.NoAFields t b = refl
 ty_fsnoc (a.MoreAFields u c us) t b = ap (MoreFields (ty u) c) (ty_fsnoc us t b)
 
-arity_is : (ts : List AType) → arity (atrees ts) ≡ length ts
-arity_is [] = refl
-arity_is (t ∷ ts) = ap suc (arity_is ts)
-
-arity_take : (ts : List AType) (i : ℕ) → i ≤ length ts → arity (atrees (take i ts)) ≡ i
+pub arity_take : (ts : List AType) (i : ℕ) → i ≤ length ts → arity (atrees (take i ts)) ≡ i
 arity_take ts zero le = refl
 arity_take [] (suc i) le = absurd (omega arith)
 arity_take (t ∷ ts) (suc i) le = ap suc (arity_take ts i (omega arith))

@@ -77,7 +77,7 @@ frame_at i (q ∷ qs) r = go (frame_at (suc i) qs r) (nat_eq q r)
     go h true = ap InFrame (sym (add-zero i))
     go h false = more h
 
-count_numbers : (xs : List (ℕ × TType)) → length (numbers (file xs)) ≡ length xs
+pub count_numbers : (xs : List (ℕ × TType)) → length (numbers (file xs)) ≡ length xs
 count_numbers [] = refl
 count_numbers (x ∷ xs) = ap suc (count_numbers xs)
 

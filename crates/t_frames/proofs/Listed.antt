@@ -12,13 +12,8 @@ use Rattle.std.proofs.Math.Logic.{⊎_elim}
 use Rattle.std.proofs.lemmas.Bool.{cases_order, eq-eqb, ne_eqb}
 use Rattle.spill_law.specs.Spill.{among}
 use Rattle.t_frames.specs.Homes.{Above, Ascending}
-
-before : (x y : ℕ) → nat_cmp x y ≡ Less → x < y
-before x y e =
-    ⊎_elim
-    (λ (same : x ≡ y). let no : Equal ≡ Less = nat_cmp_is x y Equal same ∙ e in cc)
-    (⊎_elim (λ (lt : x < y). lt) (λ (gt : y < x). let no : Greater ≡ Less = nat_cmp_is x y Greater gt ∙ e in cc))
-    (cases_order x y)
+use Rattle.std.proofs.lemmas.List.{append-nil as no_more}
+use Rattle.idx_core.proofs.Numbers.{before}
 
 pub ascending : (xs : List ℕ) → IsStrictlySortedBy nat_cmp xs → Ascending xs
 unfolding IsStrictlySortedBy
@@ -50,10 +45,6 @@ member_is (x ∷ xs) q = go (member_is xs q) (eq_by_cmp nat_cmp q x) (nat_eq x q
     go h true false e = cc
     go h false true e = cc
     go h false false e = h
-
-no_more : (xs : List ℕ) → xs ++ [] ≡ xs
-no_more [] = refl
-no_more (x ∷ xs) = ap (λ (ys : List ℕ). x ∷ ys) (no_more xs)
 
 pub all_listed : (xs its ks : List ℕ) → length its ≡ 0 → xs ++ its ≡ ks → xs ≡ ks
 all_listed xs [] ks none h = sym (no_more xs) ∙ h

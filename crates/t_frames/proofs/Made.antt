@@ -1,5 +1,5 @@
 -- What is made part by part.
-use Rattle.std.proofs.Common.{◌≡◌, ℕ, zero, suc, ◌+◌, ◌<◌, ◌≤◌, Bool, true, false, List, [], ◌∷◌, ◌++◌, map, refl, sym}
+use Rattle.std.proofs.Common.{◌≡◌, ℕ, zero, suc, ◌<◌, ◌≤◌, Bool, true, false, List, [], ◌∷◌, ◌++◌, map, refl, sym}
 use Rattle.std.proofs.Common.{ap, ◌∙◌, take, drop, length, get_or, arith, nat_lt}
 use Rattle.std.proofs.lemmas.List.{take_all}
 use Rattle.idx_core.specs.declared.span.Span.{Span}

@@ -22,8 +22,10 @@ use Rattle.a_terms.specs.declared.nodes.ANode.{ANode}
 use Rattle.a_terms.specs.declared.nodes.ABlock.{ABlock}
 use Rattle.a_scope.specs.Scope.{shown, scope, homes}
 use Rattle.a_scope.specs.declared.scope.Entry.{Entry}
-use Rattle.a_scope.proofs.Scopes.{scope_snoc, homes_snoc, length_homes}
+use Rattle.a_scope.proofs.Scopes.{scope_snoc, homes_snoc, length_homes, length_blocks as length_a_blocks}
 use Rattle.t_gen.specs.Pending.{body_job}
+use Rattle.gen_law.proofs.Covers.{length_rows}
+use Rattle.t_emit.proofs.Written.{arity_take}
 
 -- one body, and then others
 grows : (prog : a.AProg) (o n : List TBlock) (j : Job) → n ≡ finish prog (length o) o (j ∷ []) →
@@ -45,10 +47,6 @@ longer prog o n j e = omega (arith, grows prog o n j e)
 length_reserves : (bs : List a.ABlk) → length (reserves bs) ≡ length bs
 length_reserves [] = refl
 length_reserves (b ∷ bs) = ap suc (length_reserves bs)
-
-pub length_a_blocks : (ks : List ABlock) → length (a_blocks ks) ≡ length ks
-length_a_blocks [] = refl
-length_a_blocks (k ∷ ks) = ap suc (length_a_blocks ks)
 
 pub begins : (prog : a.AProg) (ks : List ABlock) (main : List ANode) (es : List Entry) (o n : List TBlock) →
     a_blocks ks ≡ prog.blocks → o ≡ reserved 0 NoRegs ∷ reserves (a_blocks ks) → es ≡ [] →
@@ -153,10 +151,6 @@ argument_push k es new e ts i t lt is n names same h =
     ∙ sym (ap (λ us. types_of us []) (ap atrees (took ts i t lt is) ∙ atrees_snoc (take i ts) t)
     ∙ types_snoc (atrees (take i ts)) (atree t) [])
 
-length_rows : (n : ℕ) → length (rows n) ≡ n
-length_rows zero = refl
-length_rows (suc n) = ap suc (length_rows n)
-
 -- as many registers as variables
 pub homes_rows : (es : List Entry) (n : ℕ) → homes es ≡ rows n → homes es ≡ rows (length es)
 homes_rows es n e = e ∙ ap rows (omega (arith, ap length e, length_rows n, length_homes es))
@@ -164,11 +158,6 @@ homes_rows es n e = e ∙ ap rows (omega (arith, ap length e, length_rows n, len
 arity_snoc : (ts : a.ATys) (t : a.ATy) → arity (asnoc ts t) ≡ suc (arity ts)
 arity_snoc a.NoATys t = refl
 arity_snoc (a.MoreATys u us) t = ap suc (arity_snoc us t)
-
-arity_take : (ts : List AType) (i : ℕ) → i ≤ length ts → arity (atrees (take i ts)) ≡ i
-arity_take ts zero le = refl
-arity_take [] (suc i) le = absurd (omega arith)
-arity_take (t ∷ ts) (suc i) le = ap suc (arity_take ts i (omega arith))
 
 pub home_push : (es new : List Entry) (e : Entry) (ts : List AType) (i : ℕ) (t : AType) → i < length ts →
     t ≡ get_or ts i t → new ≡ es ++ e ∷ [] → e.register ≡ i + 1 → homes es ≡ rows (arity (atrees (take i ts))) →

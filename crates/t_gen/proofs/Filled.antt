@@ -10,6 +10,7 @@ use Rattle.gen_law.specs.Gen.{seconds, ty_args, generated_blocks}
 use Rattle.a_terms.specs.Bound.{thirds}
 use Rattle.t_emit.specs.Code.{reserved, coded, fill}
 use Rattle.t_gen.specs.Filling.{Job, finish, finish_from, reserves, jobs}
+use Rattle.std.proofs.lemmas.List.{append-nil as no_more}
 
 fill_front : (n : ℕ) (c : TSeq) (xs ys : List TBlock) → n < length xs → fill n c (xs ++ ys) ≡ fill n c xs ++ ys
 fill_front n c [] ys l = absurd (omega arith)
@@ -31,10 +32,6 @@ fill_length (suc n) c (x ∷ xs) = ap suc (fill_length n c xs)
 assoc : (xs ys zs : List TBlock) → (xs ++ ys) ++ zs ≡ xs ++ (ys ++ zs)
 assoc [] ys zs = refl
 assoc (x ∷ xs) ys zs = ap (λ l. x ∷ l) (assoc xs ys zs)
-
-no_more : (xs : List TBlock) → xs ++ [] ≡ xs
-no_more [] = refl
-no_more (x ∷ xs) = ap (λ l. x ∷ l) (no_more xs)
 
 -- a third part's block is reserved in front of those of the second part, and filled behind them
 hole : (out ea eb : List TBlock) (b : TBlock) (n at : ℕ) (here there : TSeq) → n < length out → at ≡ length out →

@@ -12,6 +12,7 @@ use Rattle.std.specs.Cmp.{unsigned_tied}
 use Rattle.std.specs.BTreeMap.{BTreeMap, get}
 use Rattle.std.specs.BTreeSet.{BTreeSet, contains}
 use Rattle.t_gen.specs.Registers.{Gaps, Besides, Least}
+use Rattle.idx_core.proofs.Bools.{either as bool_cases}
 
 pub clash : {x : Bool} → x ≡ true → x ≡ false → ⊥
 clash y z = cc
@@ -33,10 +34,6 @@ cond_and true true = refl
 cond_and true false = refl
 cond_and false true = refl
 cond_and false false = refl
-
-bool_cases : (x : Bool) → (x ≡ true) ⊎ (x ≡ false)
-bool_cases true = inl refl
-bool_cases false = inr refl
 
 -- an entry that is written: it is the new one, or an old one with another key
 is_new : (g n : BTreeMap ℕ ℕ) (k : ℕ) (w : Option ℕ) →

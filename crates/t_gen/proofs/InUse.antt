@@ -3,10 +3,11 @@ use Rattle.std.proofs.Common.{◌≡◌, ℕ, zero, suc, ◌+◌, ◌<◌, ◌�
 use Rattle.std.proofs.Common.{ap₂, ◌∙◌, subst, arith, ⊎_elim, ◌⊎◌, inl, inr}
 use Rattle.std.specs.Prelude.{Bool, true, false, ◌&&◌, ◌||◌, ◌==◌, not, max}
 use Rattle.std.proofs.lemmas.Bool.{eq-eqb, eqb-true, or_left, or_right, or_cases, and_from, and_parts, cases_lt}
+use Rattle.std.proofs.lemmas.Bool.{not-true as not_true}
 use Rattle.a_terms.specs.Tree as a
 use Rattle.a_uses.specs.Uses.{Listed, mem, Ending}
 use Rattle.a_uses.specs.declared.ahead.Ahead.{Ahead}
-use Rattle.a_uses.proofs.Sets.{or_none, listed_mem}
+use Rattle.a_uses.proofs.Sets.{or_none, listed_mem, or_more}
 use Rattle.gen_law.specs.Gen.{place, top, busy, picked, free, uses, uses_decl, used, target, rows}
 use Rattle.gen_law.specs.Registers.{Own}
 use Rattle.gen_law.proofs.Free.{busy_place, busy_found}
@@ -19,31 +20,16 @@ use Rattle.t_gen.specs.Pending.{Parting}
 use Rattle.t_gen.specs.Keeps.{Keeps, among, each, stores}
 use Rattle.t_gen.specs.declared.registers.Registers.{Registers}
 use Rattle.t_gen.proofs.Gapped.{gaps_same}
+use Rattle.idx_core.proofs.Bools.{either as bool_cases}
+use Rattle.a_uses.proofs.Telling.{or_swap}
 
 not_both : {x : Bool} → x ≡ true → x ≡ false → ⊥
 not_both y z = cc
-
-bool_cases : (x : Bool) → (x ≡ true) ⊎ (x ≡ false)
-bool_cases true = inl refl
-bool_cases false = inr refl
 
 bool_same : (x y : Bool) → (x ≡ true → y ≡ true) → (y ≡ true → x ≡ true) → x ≡ y
 bool_same true y f g = sym (f refl)
 bool_same false true f g = g refl
 bool_same false false f g = refl
-
-not_true : (x : Bool) → not x ≡ true → x ≡ false
-not_true true e = sym e
-not_true false e = refl
-
-or_more : (x y z : Bool) → ((x || y) || z) ≡ (x || (y || z))
-or_more true y z = refl
-or_more false y z = refl
-
-or_swap : (x y : Bool) → (x || y) ≡ (y || x)
-or_swap true true = refl
-or_swap true false = refl
-or_swap false y = or_none y
 
 pub and_true : (x : Bool) → x ≡ (x && true)
 and_true true = refl

@@ -30,6 +30,7 @@ use Rattle.t_gen.specs.Pending.{tops, job, jobs_at, pend, Fit, KeepsAll, Stepped
 use Rattle.t_gen.specs.Keeps.{Keeps}
 use Rattle.t_gen.proofs.Keeping.{whole, tops_push, jobs_keep, fit_keep, keeps_keep, fit_more, from_same, pend_finish}
 use Rattle.t_gen.proofs.Keeping.{under_push}
+use Rattle.a_terms.proofs.Weighed.{length_values}
 
 more_names : (x : a.ADecl) (k : ℕ) → k ≤ more_vars x k
 more_names (a.Value v) k = omega arith
@@ -287,10 +288,6 @@ keeps_first p ps es t ts count k =
     subst (λ (xs : List Entry). Keeps p.registers (homes xs) (used t)) (whole es p.vars (omega (arith, count))) k.0
 
 -- the arguments of a call are all values but the first
-length_values : (vs : List AValue) → length (a_values vs) ≡ length vs
-length_values [] = refl
-length_values (v ∷ vs) = ap suc (length_values vs)
-
 pub length_arguments : (vs : List AValue) → length (others (a_values vs)) ≡ length vs - 1
 length_arguments [] = refl
 length_arguments (v ∷ vs) = length_values vs ∙ omega arith

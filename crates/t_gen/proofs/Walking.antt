@@ -1,7 +1,7 @@
 -- The walk over the nodes of a body.
-use Rattle.std.proofs.Common.{◌≡◌, ℕ, suc, ◌+◌, ◌<◌, ◌++◌, List, [], ◌∷◌, length, take, drop, get_or, refl, sym, ap}
+use Rattle.std.proofs.Common.{◌≡◌, ℕ, suc, ◌+◌, ◌<◌, ◌++◌, List, [], ◌∷◌, length, take, drop, get_or, sym, ap}
 use Rattle.std.proofs.Common.{ap₂, ◌∙◌, subst, arith, length-append}
-use Rattle.std.proofs.lemmas.List.{drop_more}
+use Rattle.std.proofs.lemmas.List.{drop_more, nil_from_length as nil_from}
 use Rattle.idx_core.specs.declared.span.Span.{Span}
 use Rattle.t_terms.specs.Tree.{TBlock}
 use Rattle.t_terms.specs.Read.{blocks_of}
@@ -107,10 +107,6 @@ pub walk_stuck : (prog : a.AProg) (before rest : List ANode) (node : ANode) (es 
     Walked prog before es ps o c all → ⊥
 walk_stuck prog before rest node es ps o c all is none walked =
     subst (ARow (node ∷ rest)) none (subst (λ ns. ARow ns (length ps)) is walked.row)
-
-nil_from : {T : Type 0} (xs : List T) → length xs ≡ 0 → xs ≡ []
-nil_from [] e = refl
-nil_from (x ∷ xs) e = absurd (omega arith)
 
 pub walk_ends : (prog : a.AProg) (rest : List ANode) (es : List Entry) (ps : List Place) (o : List Block)
     (c : List (Instr × Span)) (all : List TBlock) → rest ≡ [] → Walked prog rest es ps o c all → blocks_of o ≡ all

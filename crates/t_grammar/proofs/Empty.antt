@@ -1,12 +1,12 @@
 -- Lists of nothing.
 use Rattle.std.proofs.Common.{ℕ, ◌+◌, ◌≤◌, List, [], ◌∷◌, refl, arith}
 use Rattle.text_core.specs.Table.{Do}
-use Rattle.t_terms.specs.declared.token.Token.{Token}
-use Rattle.t_terms.specs.declared.wanted.Wanted.TheVariants as want
-use Rattle.t_terms.specs.Raw.{RTuple, ending, raw_regs, raw_fields}
-use Rattle.t_terms.specs.GrammarTable.{LNames, MakeNoNames, OfNames, LRegs, MakeNoRegs, OfFile, LFields, MakeNoFields}
-use Rattle.t_terms.specs.GrammarTable.{OfType, OfToken}
-use Rattle.t_terms.specs.Text.{most_open}
+use Rattle.t_text.specs.declared.token.Token.{Token}
+use Rattle.t_text.specs.declared.wanted.Wanted.TheVariants as want
+use Rattle.t_text.specs.Raw.{RTuple, ending, raw_regs, raw_fields}
+use Rattle.t_text.specs.GrammarTable.{LNames, MakeNoNames, OfNames, LRegs, MakeNoRegs, OfFile, LFields, MakeNoFields}
+use Rattle.t_text.specs.GrammarTable.{OfType, OfToken}
+use Rattle.t_text.specs.Text.{most_open}
 use Rattle.t_grammar.specs.Reads.{Reads}
 use Rattle.t_grammar.specs.Cursor.{Next}
 use Rattle.t_grammar.proofs.Stepping.{is_next, is_of, within, begins, by_do}

@@ -2,14 +2,14 @@
 use Rattle.std.proofs.Common.{◌≡◌, ◌≢◌, [], ◌∷◌, ◌++◌, slice_get, refl, Some, None, true, false, if◌then◌else◌}
 use Rattle.text_core.specs.Table.{Tm, Nt, Do, Mark, then_more}
 use Rattle.text_core.proofs.Going as step
-use Rattle.t_terms.specs.declared.token.Kind.{Kind}
-use Rattle.t_terms.specs.declared.token.Kind.TheVariants as k
-use Rattle.t_terms.specs.declared.wanted.Wanted.TheVariants as want
-use Rattle.t_terms.specs.GrammarTable.{table, LBinds, LNames, LMoreNames, MakeBinds, MakeFirstName, MakeNextName}
-use Rattle.t_terms.specs.GrammarTable.{MakeClosedNames, LFile, LRegs, LMoreRegs, MakeFile, MakeFirstReg, MakeNextReg}
-use Rattle.t_terms.specs.GrammarTable.{MakeClosedRegs, LT, LFields, LMoreFields, MakeFirstField, MakeNextField}
-use Rattle.t_terms.specs.GrammarTable.{MakeClosedFields, fits, after, type_after, fields_after, fields_tail}
-use Rattle.t_terms.specs.Text.{most_open}
+use Rattle.t_text.specs.declared.token.Kind.{Kind}
+use Rattle.t_text.specs.declared.token.Kind.TheVariants as k
+use Rattle.t_text.specs.declared.wanted.Wanted.TheVariants as want
+use Rattle.t_text.specs.GrammarTable.{table, LBinds, LNames, LMoreNames, MakeBinds, MakeFirstName, MakeNextName}
+use Rattle.t_text.specs.GrammarTable.{MakeClosedNames, LFile, LRegs, LMoreRegs, MakeFile, MakeFirstReg, MakeNextReg}
+use Rattle.t_text.specs.GrammarTable.{MakeClosedRegs, LT, LFields, LMoreFields, MakeFirstField, MakeNextField}
+use Rattle.t_text.specs.GrammarTable.{MakeClosedFields, fits, after, type_after, fields_after, fields_tail}
+use Rattle.t_text.specs.Text.{most_open}
 use Rattle.t_grammar.specs.Reads.{entry_owed, field_owed}
 use Rattle.t_grammar.proofs.Stepping.{not_fits, Opens, as_token, ListLine}
 

@@ -3,9 +3,9 @@ use Rattle.std.proofs.Common.{◌≡◌, ℕ, List, [], ◌∷◌, ◌++◌, map
 use Rattle.std.proofs.lemmas.List.{map-append}
 use mathlib.Core.Former.{Count}
 use Rattle.idx_core.specs.declared.span.Span.{Span}
-use Rattle.t_terms.specs.Raw.{RCode, RTuple, MoreRawRegs, MoreRawFields, raw_regs, raw_fields}
-use Rattle.t_terms.specs.declared.token.Token.{Token}
-use Rattle.t_terms.specs.GrammarTable.{register_of, flag_of, reg_of, field_of}
+use Rattle.t_text.specs.Raw.{RCode, RTuple, MoreRawRegs, MoreRawFields, raw_regs, raw_fields}
+use Rattle.t_text.specs.declared.token.Token.{Token}
+use Rattle.t_text.specs.GrammarTable.{register_of, flag_of, reg_of, field_of}
 use Rattle.t_grammar.specs.declared.raw.RawType.{RawType, Row_of-RawFile-regs-3 as RegRow}
 use Rattle.t_grammar.specs.declared.raw.RawType.{end_of-RawFile-regs-3 as end_of_regs}
 use Rattle.t_grammar.specs.declared.raw.RawType.{more_of-RawFile-regs-3 as more_of_regs}

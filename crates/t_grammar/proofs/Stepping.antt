@@ -6,16 +6,16 @@ use Rattle.std.proofs.lemmas.List.{append-nil}
 use Rattle.text_core.specs.Table.{Tm, Nt, Do, Mark, marks}
 use Rattle.text_core.specs.Going.{Goes, Lacks, next_of}
 use Rattle.text_core.proofs.Going as step
-use Rattle.t_terms.specs.declared.token.Token.{Token}
-use Rattle.t_terms.specs.declared.token.Kind.{Kind}
-use Rattle.t_terms.specs.declared.wanted.Wanted.{Wanted}
-use Rattle.t_terms.specs.GrammarTable.{table, Line, Stack, Val, OfToken, Act, act, fits, after, may_end}
+use Rattle.t_text.specs.declared.token.Token.{Token}
+use Rattle.t_text.specs.declared.token.Kind.{Kind}
+use Rattle.t_text.specs.declared.wanted.Wanted.{Wanted}
+use Rattle.t_text.specs.GrammarTable.{table, Line, Stack, Val, OfToken, Act, act, fits, after, may_end}
 use Rattle.t_grammar.specs.declared.cursor.Stopped.{Stopped}
 use Rattle.t_grammar.specs.declared.cursor.Stopped.TheVariants.{Memory, Unexpected, TooDeep}
 use Rattle.t_grammar.specs.Cursor.{Next, Misses, TwoMissed}
 use Rattle.t_grammar.specs.Reads.{ReadsOwed, Reads, Fails, ReadsSome}
-use Rattle.t_terms.specs.declared.wanted.Wanted.TheVariants as want
-use Rattle.t_terms.specs.Text.{most_open}
+use Rattle.t_text.specs.declared.wanted.Wanted.TheVariants as want
+use Rattle.t_text.specs.Text.{most_open}
 
 abbrev pub Moves : List Token → ℕ → ℕ → Stack → List Val → ℕ → Stack → List Val → Type 0
 Moves ts d i owed vs j left us = Goes table most_open ts d i owed vs j left us

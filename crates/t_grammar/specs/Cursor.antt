@@ -1,10 +1,10 @@
 -- What the reading of a token promises.
 use Rattle.std.specs.Prelude.{◌≡◌, ◌<◌, ◌≤◌, ℕ, ◌+◌, ◌⊎◌, List, slice_get, Some, None, Result, MatchResult}
 use Rattle.text_core.specs.Going.{next_of}
-use Rattle.t_terms.specs.declared.token.Token.{Token}
-use Rattle.t_terms.specs.declared.wanted.Wanted.{Wanted}
-use Rattle.t_terms.specs.GrammarTable.{table}
-use Rattle.t_terms.specs.Text.{most_open}
+use Rattle.t_text.specs.declared.token.Token.{Token}
+use Rattle.t_text.specs.declared.wanted.Wanted.{Wanted}
+use Rattle.t_text.specs.GrammarTable.{table}
+use Rattle.t_text.specs.Text.{most_open}
 use Rattle.t_grammar.specs.declared.cursor.Stopped.{Stopped}
 use Rattle.t_grammar.specs.declared.cursor.Stopped.TheVariants.{Unexpected, TooDeep}
 

@@ -1,8 +1,8 @@
 -- The trees of what is read, before names are resolved.
 use Rattle.std.specs.Prelude.{ℕ, Bool, map}
 use Rattle.idx_core.specs.declared.span.Span.{Span}
-use Rattle.t_terms.specs.Raw.{RawTy, RInt, RName, RCode, RSome, RTuple, RawRegs, NoRawRegs, MoreRawRegs, RawFields}
-use Rattle.t_terms.specs.Raw.{NoRawFields, MoreRawFields, RawReg, RawField, raw_regs}
+use Rattle.t_text.specs.Raw.{RawTy, RInt, RName, RCode, RSome, RTuple, RawRegs, NoRawRegs, MoreRawRegs, RawFields}
+use Rattle.t_text.specs.Raw.{NoRawFields, MoreRawFields, RawReg, RawField, raw_regs}
 use Rattle.t_grammar.specs.declared.raw.RawType.{RawType, Row_of-RawFile-regs-3 as RegRow}
 use Rattle.t_grammar.specs.declared.raw.RawType.{end_of-RawFile-regs-3 as end_of_regs}
 use Rattle.t_grammar.specs.declared.raw.RawType.{more_of-RawFile-regs-3 as more_of_regs}

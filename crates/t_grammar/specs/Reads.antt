@@ -4,13 +4,13 @@ use Rattle.text_core.specs.Table.{Nt, Tm}
 use Rattle.text_core.specs.Table as table_of
 use Rattle.text_core.specs.Going.{Stops}
 use Rattle.text_core.specs.Going as going
-use Rattle.t_terms.specs.declared.token.Token.{Token}
-use Rattle.t_terms.specs.declared.token.Kind.{Kind}
-use Rattle.t_terms.specs.declared.wanted.Wanted.TheVariants as want
-use Rattle.t_terms.specs.Raw.{RawTy, Piece, ending}
-use Rattle.t_terms.specs.Text.{most_open}
-use Rattle.t_terms.specs.GrammarTable.{table, Line, LBinds, LNames, LT, LFields, LFile, LRegs, Stack, Val, OfToken}
-use Rattle.t_terms.specs.GrammarTable.{OfNames, OfType, OfFile, reg_of, field_of}
+use Rattle.t_text.specs.declared.token.Token.{Token}
+use Rattle.t_text.specs.declared.token.Kind.{Kind}
+use Rattle.t_text.specs.declared.wanted.Wanted.TheVariants as want
+use Rattle.t_text.specs.Raw.{RawTy, Piece, ending}
+use Rattle.t_text.specs.Text.{most_open}
+use Rattle.t_text.specs.GrammarTable.{table, Line, LBinds, LNames, LT, LFields, LFile, LRegs, Stack, Val, OfToken}
+use Rattle.t_text.specs.GrammarTable.{OfNames, OfType, OfFile, reg_of, field_of}
 use Rattle.t_grammar.specs.Raw.{raw, raw_file, raw_reg, raw_field}
 use Rattle.t_grammar.specs.declared.cursor.Stopped.{Stopped}
 use Rattle.t_grammar.specs.declared.cursor.Stopped.TheVariants.{Memory, Unexpected, TooDeep}

@@ -1,17 +1,17 @@
 // The next tokens.
 ghost use Rattle.std.specs.Prelude.{◌≡◌, ◌≤◌, slice_get, nat_abs};
 ghost use Rattle.text_core.specs.Going.{next_of};
-ghost use Rattle.t_terms.specs.GrammarTable.{fits, table, register_of, value_of, flag_of};
-ghost use Rattle.t_terms.specs.Text.{most_open};
+ghost use Rattle.t_text.specs.GrammarTable.{fits, table, register_of, value_of, flag_of};
+ghost use Rattle.t_text.specs.Text.{most_open};
 ghost use Rattle.t_grammar.specs.Cursor.{IsExpected, AreExpected, IsHeld, IsOpened};
 ghost use Rattle.t_grammar.specs.declared.cursor.Stopped.TheVariants as stopped;
-ghost use Rattle.t_terms.specs.declared.wanted.Wanted.TheVariants as want;
+ghost use Rattle.t_text.specs.declared.wanted.Wanted.TheVariants as want;
 ghost use Rattle.t_lexer.specs.Kept.{tokens_of};
 
 use idx_core::Span;
 use std::alloc::{AllocError, AllocFailed};
 use t_lexer::Tokens;
-use t_terms::{Kind, Token, Wanted};
+use t_text::{Kind, Token, Wanted};
 
 /// How many constructs may be open at a token.
 pub const MOST_OPEN: u64 = 2000;

@@ -1,6 +1,6 @@
 // The reading of the names that a form binds.
 ghost use Rattle.std.specs.Prelude.{◌≤◌, length};
-ghost use Rattle.t_terms.specs.Text.{most_open};
+ghost use Rattle.t_text.specs.Text.{most_open};
 ghost use Rattle.t_grammar.specs.Reads.{IsBinds, IsNames};
 ghost use Rattle.t_lexer.specs.Kept.{tokens_of};
 
@@ -8,7 +8,7 @@ use crate::cursor::{Stopped, expect, opened, take};
 use idx_core::Span;
 use std::alloc::Global;
 use t_lexer::Tokens;
-use t_terms::Wanted;
+use t_text::Wanted;
 
 /// Names in brackets that were read, each by its place, and the number of the token after them.
 #[derive(Drop)]

@@ -1,8 +1,8 @@
 // The reading of types by recursive descent, one token ahead.
 ghost use Rattle.std.specs.Prelude.{◌≡◌, ◌<◌, ◌≤◌, length, MatchResult};
-ghost use Rattle.t_terms.specs.Raw.{RSome};
-ghost use Rattle.t_terms.specs.Text.{most_open};
-ghost use Rattle.t_terms.specs.declared.token.Kind.TheVariants as kinds;
+ghost use Rattle.t_text.specs.Raw.{RSome};
+ghost use Rattle.t_text.specs.Text.{most_open};
+ghost use Rattle.t_text.specs.declared.token.Kind.TheVariants as kinds;
 ghost use Rattle.t_grammar.specs.Raw.{raw};
 ghost use Rattle.t_grammar.specs.Reads.{IsType, IsTypeFrom, IsFile, IsRegs, IsEntry, IsFields, IsField};
 ghost use Rattle.t_grammar.specs.declared.cursor.Stopped.TheVariants as stopped;
@@ -16,7 +16,7 @@ use crate::raw::{RawFile, RawType};
 use idx_core::Span;
 use std::alloc::Global;
 use t_lexer::Tokens;
-use t_terms::{Kind, Wanted};
+use t_text::{Kind, Wanted};
 
 /// A type that was read, the end of its last token, and the number of the token after it.
 #[derive(Drop)]

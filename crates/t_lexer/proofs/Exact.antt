@@ -9,11 +9,11 @@ use Rattle.text_core.specs.Lexeme.{item, Within}
 use Rattle.text_core.proofs.Walk.{SoFar, bad, large}
 use Rattle.text_core.proofs.Once as once
 use Rattle.text_core.proofs.Places.{same_span}
-use Rattle.t_terms.specs.declared.token.Kind.{Kind}
-use Rattle.t_terms.specs.declared.token.Token.{Token}
-use Rattle.t_terms.specs.Tokens.{assembly, Keeps}
-use Rattle.t_terms.specs.Text.{code_of}
-use Rattle.t_terms.proofs.TokenLaws.{assembly_signs}
+use Rattle.t_text.specs.declared.token.Kind.{Kind}
+use Rattle.t_text.specs.declared.token.Token.{Token}
+use Rattle.t_text.specs.Tokens.{assembly, Keeps}
+use Rattle.t_text.specs.Text.{code_of}
+use Rattle.t_text.proofs.TokenLaws.{assembly_signs}
 use Rattle.t_lexer.specs.Cut.{FirstTokenFault, AtMostOneCut, NoTokenFaultWhereCut, AtMostOneTokenFault}
 
 pub at_most_one_cut : AtMostOneCut

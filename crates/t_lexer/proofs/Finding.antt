@@ -1,10 +1,10 @@
 -- What the code finds at a place of an assembly text.
-use Rattle.std.proofs.Common.{◌≡◌, ◌≢◌, ◌≤◌, ◌<◌, ◌==◌, ◌&&◌, ◌||◌, ℕ, pos, suc, ◌+◌, ◌-◌, neg_ℤ, Bool, true, false}
+use Rattle.std.proofs.Common.{◌≡◌, ◌≢◌, ◌≤◌, ◌<◌, ◌==◌, ◌&&◌, ℕ, pos, suc, ◌+◌, ◌-◌, neg_ℤ, Bool, true, false}
 use Rattle.std.proofs.Common.{if◌then◌else◌, List, [], ◌∷◌, length, take, drop, get_or, Option, Some, None, refl, sym}
 use Rattle.std.proofs.Common.{◌∙◌, ap, arith}
-use Rattle.std.specs.Prelude.{nat_le, nat_lt, bytes_eq}
+use Rattle.std.specs.Prelude.{nat_le, bytes_eq}
 use Rattle.std.specs.List.{list_all, prefix_len}
-use Rattle.std.proofs.lemmas.Bool.{leb-true, leb-false, ltb-true, eqb-true, and_parts}
+use Rattle.std.proofs.lemmas.Bool.{leb-true, leb-false, eqb-true}
 use Rattle.std.proofs.lemmas.Int.{ints}
 use Rattle.std.proofs.lemmas.List.{drop-drop, length-drop}
 use Rattle.std.proofs.lemmas.List.Sums.{prefix_len-le-length}
@@ -17,13 +17,14 @@ use Rattle.text_core.specs.declared.lexeme.Found.TheVariants.{Skip, Read, Large}
 use Rattle.text_core.proofs.Pieces.{word_found}
 use Rattle.text_core.proofs.Runs.{here, run_all}
 use Rattle.t_types.specs.WellFormed.{max_number}
-use Rattle.t_terms.specs.declared.token.Kind.{Kind}
-use Rattle.t_terms.specs.declared.token.Kind.TheVariants as k
-use Rattle.t_terms.specs.Tokens.{assembly, words, word_in, signs, is_register, after_first, Keeps}
+use Rattle.t_text.specs.declared.token.Kind.{Kind}
+use Rattle.t_text.specs.declared.token.Kind.TheVariants as k
+use Rattle.t_text.specs.Tokens.{assembly, words, word_in, signs, is_register, after_first, Keeps}
 use Rattle.t_lexer.specs.Scan.{plain_found, negative_found, register_found, word_at, goes_on, IsRegisterAt}
+use Rattle.text_core.proofs.Characters.{no_dashes, digit_no_letter, digit_of_word}
 
 -- a word keeps its bounds where each word of the table does
-all_keep : List (List ℕ × Kind) → Type 0
+pub all_keep : List (List ℕ × Kind) → Type 0
 all_keep [] = Unit {0}
 all_keep (e ∷ t) = Keeps e.1 × all_keep t
 
@@ -46,7 +47,7 @@ Lone b k =
     (space b ≡ false) × ((b == 45) ≡ false) × (letter b ≡ false) × (digit b ≡ false) × ((b == 126) ≡ false)
     × Keeps k
 
-all_lone : List (ℕ × Kind) → Type 0
+pub all_lone : List (ℕ × Kind) → Type 0
 all_lone [] = Unit {0}
 all_lone (e ∷ t) = Lone e.0 e.1 × all_lone t
 
@@ -100,22 +101,6 @@ no_space : (p : ℕ → Bool) (b : ℕ) → p b ≡ true → p 32 ≡ false → 
     space b ≡ false
 no_space p b e f g h i = rw (apart p b 32 e f, apart p b 9 e g, apart p b 10 e h, apart p b 13 e i) refl
 
-no_dashes : (b : ℕ) (s : List ℕ) → (b == 45) ≡ false → at_dashes (b ∷ s) ≡ false
-no_dashes b [] e = refl
-no_dashes b (c ∷ s) e = rw e refl
-
-not_above : (n b : ℕ) → b ≤ n → nat_lt n b ≡ false
-not_above n b h = go (nat_lt n b) refl
-  where
-    go : (x : Bool) → nat_lt n b ≡ x → x ≡ false
-    go true q = let r = ltb-true n b q in absurd (omega (arith, r, h))
-    go false q = refl
-
-digit_no_letter : (b : ℕ) → digit b ≡ true → letter b ≡ false
-digit_no_letter b e =
-    let s = ltb-true b 58 (and_parts (nat_lt 47 b) (nat_lt b 58) e).1 in
-    rw (not_above 64 b (omega (arith, s)), not_above 96 b (omega (arith, s))) refl
-
 module _ (t : List ℕ) (at : ℕ) (l : at < length t) where
   pub space_is_found : space (get_or t at 0) ≡ true → IsFound assembly t at (Skip (at + 1))
   space_is_found e =
@@ -155,13 +140,6 @@ module _ (t : List ℕ) (at : ℕ) (l : at < length t) where
       )
 
 -- registers
-
-digit_of_word : (b : ℕ) → digit b ≡ true → of_word b ≡ true
-digit_of_word b e = go (letter b)
-  where
-    go : (x : Bool) → (x || digit b || b == 95) ≡ true
-    go true = refl
-    go false = rw e refl
 
 -- the word ends where its digits do
 ends_with_digits : (s : List ℕ) → goes_on (drop (prefix_len digit s) s) ≡ false →

@@ -6,7 +6,7 @@ use Rattle.std.specs.List.{list_all}
 use Rattle.std.proofs.lemmas.Bool.{ltb-true, ltb-false, eqb-true, and_parts}
 use Rattle.std.proofs.lemmas.List.{get_or_append_left}
 use Rattle.std.proofs.Math.Seq.{get_or-append_seam}
-use Rattle.t_terms.specs.declared.token.Token.{Token}
+use Rattle.t_text.specs.declared.token.Token.{Token}
 use Rattle.t_lexer.specs.declared.kept.Word.{Word}
 use Rattle.t_lexer.specs.Kept.{token_in, short_token, nothing, reaches}
 

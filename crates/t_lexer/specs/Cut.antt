@@ -5,9 +5,9 @@ use Rattle.idx_core.specs.declared.span.Span.{Span}
 use Rattle.t_terms.specs.declared.fault.TCode.{TCode}
 use Rattle.t_terms.specs.declared.fault.TFault.{TFault}
 use Rattle.t_terms.specs.declared.fault.TFault.TheVariants.{Memory, Refused}
-use Rattle.t_terms.specs.declared.token.Token.{Token}
-use Rattle.t_terms.specs.Tokens.{assembly, IsCut}
-use Rattle.t_terms.specs.Text.{code_of}
+use Rattle.t_text.specs.declared.token.Token.{Token}
+use Rattle.t_text.specs.Tokens.{assembly, IsCut}
+use Rattle.t_text.specs.Text.{code_of}
 
 -- a byte that begins no token, or a number out of range
 pub record FirstTokenFault (text : List ℕ) (c : TCode) (span : Span) : Type 0 where

@@ -2,9 +2,9 @@
 use Rattle.std.specs.Prelude.{◌≡◌, ◌+◌, ◌<◌, ◌≤◌, ◌^◌, ◌==◌, ◌||◌, not, nat_lt, if◌then◌else◌, ℕ, pos, neg_ℤ}
 use Rattle.std.specs.Prelude.{Bool, true, List, length, map, get_or, Option, Some, None}
 use Rattle.std.specs.List.{list_all}
-use Rattle.t_terms.specs.declared.token.Kind.{Kind}
-use Rattle.t_terms.specs.declared.token.Kind.TheVariants as k
-use Rattle.t_terms.specs.declared.token.Token.{Token}
+use Rattle.t_text.specs.declared.token.Kind.{Kind}
+use Rattle.t_text.specs.declared.token.Kind.TheVariants as k
+use Rattle.t_text.specs.declared.token.Token.{Token}
 use Rattle.t_lexer.specs.declared.tagged.Tag.{Tag}
 use Rattle.t_lexer.specs.declared.tagged.Tag.TheVariants as tag
 use Rattle.t_lexer.specs.declared.kept.Word.{Word}

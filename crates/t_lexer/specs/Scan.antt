@@ -8,9 +8,9 @@ use Rattle.text_core.specs.declared.lexeme.Found.{Found}
 use Rattle.text_core.specs.declared.lexeme.Found.TheVariants.{Skip, Read, Large}
 use Rattle.text_core.specs.Lexeme.{Within, IsValue, PWord, piece, IsFound}
 use Rattle.t_types.specs.WellFormed.{max_number}
-use Rattle.t_terms.specs.declared.token.Kind.{Kind}
-use Rattle.t_terms.specs.declared.token.Kind.TheVariants as k
-use Rattle.t_terms.specs.Tokens.{assembly, is_register, after_first}
+use Rattle.t_text.specs.declared.token.Kind.{Kind}
+use Rattle.t_text.specs.declared.token.Kind.TheVariants as k
+use Rattle.t_text.specs.Tokens.{assembly, is_register, after_first}
 use Rattle.t_lexer.specs.declared.scan.Short.{Short}
 use Rattle.t_lexer.specs.declared.scan.Short.TheVariants as short
 use Rattle.t_lexer.specs.Kept.{kind_of}

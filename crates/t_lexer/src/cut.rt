@@ -3,8 +3,8 @@ ghost use Rattle.std.specs.Prelude.{◌≡◌, ◌≢◌, ◌≤◌, ◌<◌, �
 ghost use Rattle.idx_core.specs.declared.span.Span as place;
 ghost use Rattle.t_terms.specs.declared.fault.TCode as codes;
 ghost use Rattle.t_terms.specs.declared.fault.TFault.TheVariants as fault;
-ghost use Rattle.t_terms.specs.declared.token.Token as token;
-ghost use Rattle.t_terms.specs.Tokens.{IsCut};
+ghost use Rattle.t_text.specs.declared.token.Token as token;
+ghost use Rattle.t_text.specs.Tokens.{IsCut};
 ghost use Rattle.t_lexer.specs.Kept.{tokens_of};
 ghost use Rattle.t_lexer.specs.Cut.{IsTokenFault, FirstTokenFault};
 

@@ -5,7 +5,7 @@ ghost use Rattle.t_lexer.specs.Kept.{kind_of, nothing, short_token, token_in, to
 use crate::tagged::{Tag, Tagged, kind_of};
 use idx_core::{OutOfMemory, Span};
 use std::alloc::Global;
-use t_terms::{Kind, Token};
+use t_text::{Kind, Token};
 
 // A token by the parts of its kind, its length in bytes and its start, where they are small. A length of 0 stands for
 // a long token, whose place among these is the start.

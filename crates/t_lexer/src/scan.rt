@@ -3,7 +3,7 @@ ghost use Rattle.std.specs.Prelude.{◌≡◌, ◌≤◌, ◌<◌, ◌^◌, true
 ghost use Rattle.std.specs.Prelude.{[], ◌∷◌, length, drop, get_or};
 ghost use Rattle.text_core.specs.Tokens.{look};
 ghost use Rattle.text_core.specs.Lexeme.{IsFound};
-ghost use Rattle.t_terms.specs.Tokens.{assembly, words, word_in, signs, is_register};
+ghost use Rattle.t_text.specs.Tokens.{assembly, words, word_in, signs, is_register};
 ghost use Rattle.t_lexer.specs.Kept.{kind_of, of_tag};
 ghost use Rattle.t_lexer.specs.Scan.{plain_found, negative_found, register_found, word_at, IsRegisterAt};
 ghost use Rattle.t_lexer.specs.Scan.{goes_on, words_of_a, words_of_bcd, words_of_hij, words_of_lp};

@@ -3,7 +3,7 @@ ghost use Rattle.std.specs.Prelude.{◌≡◌, ◌≤◌, ◌^◌, pos, neg_ℤ,
 ghost use Rattle.t_lexer.specs.Kept.{kind_of, Fits};
 
 use std::marker::Model;
-use t_terms::Kind;
+use t_text::Kind;
 
 // The kinds of tokens, without the numbers.
 #[derive(Clone, Copy)]
@@ -106,7 +106,7 @@ pub(crate) struct Tagged {
 }
 
 impl Model for Tagged {
-    ghost use Rattle.t_terms.specs.declared.token.Kind.{Kind};
+    ghost use Rattle.t_text.specs.declared.token.Kind.{Kind};
     ghost use Rattle.t_lexer.specs.Kept.{kind_of, Fits};
 
     ghost Value = { Kind };

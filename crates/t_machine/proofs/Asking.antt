@@ -12,7 +12,7 @@ use Rattle.t_machine.specs.Action.{Action, action, Arith, Bnz, Ld, Malloc, Mov, 
 use Rattle.t_machine.specs.Code.{IsInstr, IsEnd, Holds}
 use Rattle.t_machine.specs.Room.{asked, asked_next}
 use Rattle.t_machine.specs.State.{Shows}
-use Rattle.t_machine.specs.declared.word.Word.{Word}
+use Rattle.t_collect.specs.declared.word.Word.{Word}
 use Rattle.t_machine.specs.declared.heap.Heap as declared
 use Rattle.t_machine.specs.declared.code.Code.{Code}
 use Rattle.t_machine.specs.declared.code.Instruction.{Instruction}
@@ -82,9 +82,9 @@ module _ (laws : ProgramLaws) (P : TProg) (whole : Whole P) (acc : Accepted P) (
   pub asks : (o : Instruction) → slice_get code.instructions.items at ≡ Some o → (t : State) (q : Place) →
       After P m t q → asked o ≡ asked_next t
   asks o e t q run =
-      let there = s.erased.1 in
+      let there = s.erased.erased.1 in
       let same = laws.one P m there.0 t (Spot s.block s.index) q there.1 run in
       asked_held code.places code.entries.items o (drop (suc at) code.instructions.items) s.rest
       (holds_here laws P whole acc m x ws code at s o e)
-      ∙ asked_state there.0 s.tuples _ s.rest there.2
+      ∙ asked_state there.0 s.erased.heap s.erased.regs s.rest there.2
       ∙ ap asked_next same.0

@@ -15,16 +15,20 @@ use Rattle.t_rules.specs.Machine.{Where, Next, Into}
 use Rattle.t_rules.specs.Erase.{EWord, EInt, EAddress, ELabel, EEmpty, EInstr, EArith, EBnz, ELd, EMalloc, EMov, ESt}
 use Rattle.t_rules.specs.Erase.{ESeq, EThen, EHeap, ERegs, EAt, EStep, EGoes, base_word, on_int, on_address, on_label}
 use Rattle.t_rules.specs.Erase.{on_full, enter, estep}
+use Rattle.keep_law.specs.Kept.{next_numbers, next_made}
+use Rattle.t_machine.specs.Numbers.{numbers, made}
 use Rattle.t_machine.specs.Places.{PlaceList, place_of, ArePlaces}
-use Rattle.t_machine.specs.Words.{address_of, word, held, regs_of}
-use Rattle.t_machine.specs.Cells.{cells_of}
-use Rattle.t_machine.specs.Heap.{starts_from, IsHeap, Started, AllStarted, HasField, cell_of, field_of}
+use Rattle.t_collect.specs.Words.{address_of}
+use Rattle.t_machine.specs.Words.{word, held, regs_of}
+use Rattle.t_collect.specs.Cells.{cells_of}
+use Rattle.t_collect.specs.Tuples.{starts_from}
+use Rattle.t_machine.specs.Heap.{IsHeap, Started, AllStarted, HasField, cell_of, field_of}
 use Rattle.t_machine.specs.Action.{Action, Arith, Bnz, Ld, Malloc, Mov, St, Jmp, Halt, data_word, moved_data}
 use Rattle.t_machine.specs.Code.{IsBase, IsNumber, IsEntry, IsTarget, IsInstr, IsEnd, HoldsBlocks}
 use Rattle.t_machine.specs.Steps.{at_place, value_of, number_of, EntersBlock, entry_of, TargetInRange, EntersTarget}
 use Rattle.t_machine.specs.Steps.{target_of, tests_zero, computed, IsReady, Leads}
-use Rattle.t_machine.specs.declared.word.Word.{Word}
-use Rattle.t_machine.specs.declared.word.Word.TheVariants.{Int, Address, Empty}
+use Rattle.t_collect.specs.declared.word.Word.{Word}
+use Rattle.t_collect.specs.declared.word.Word.TheVariants.{Int, Address, Empty}
 use Rattle.t_machine.specs.declared.heap.Heap.{Heap}
 use Rattle.t_machine.specs.declared.code.Operand.{Operand}
 use Rattle.t_machine.specs.declared.code.Operand.TheVariants as operand_of
@@ -45,14 +49,21 @@ abbrev pub Leading : List ℕ → ℕ → ℕ → Where → Type 0
 Leading es a n Next = n ≡ a + 1
 Leading es a n (Into l) = slice_get es l ≡ Some n
 
+-- the tuples of y are numbered as the next instruction numbers those of x
+pub record Numbered (c : ESeq) (x y : Heap) : Type 0 where
+  pub numbers : numbers y ≡ next_numbers c (numbers x) (made x)
+  pub made : made y ≡ next_made c (made x)
+  pub fixed : y.fixed ≡ x.fixed
+
 -- the erased machine makes a step to what the heap y and the words us stand for
-pub record Onward (blocks : List ESeq) (m : PlaceList) (es : List ℕ) (h : EHeap) (ws : List Word) (c : ESeq)
+pub record Onward (blocks : List ESeq) (m : PlaceList) (es : List ℕ) (x : Heap) (h : EHeap) (ws : List Word) (c : ESeq)
     (y : Heap) (us : List Word) (a n : ℕ) : Type 0 where
   pub way : Where
   pub tuples : EHeap
   pub rest : ESeq
   pub steps : estep blocks (EAt h (regs_of m ws) c) ≡ Some (EGoes way (EAt tuples (regs_of m us) rest))
   pub has_heap : IsHeap y tuples
+  pub numbered : Numbered c x y
   pub heap_started : AllStarted (starts_from 0 tuples) (cells_of y.cells)
   pub words_started : AllStarted (starts_from 0 tuples) us
   pub more : (w : Word) → Started (starts_from 0 h) w → Started (starts_from 0 tuples) w
@@ -63,7 +74,7 @@ pub record Onward (blocks : List ESeq) (m : PlaceList) (es : List ℕ) (h : EHea
 abbrev pub Works : List ESeq → PlaceList → List ℕ → Heap → EHeap → List Word → Action → ESeq → Type 0
 Works blocks m es x h ws o c =
     IsReady x ws es o × ((y : Heap) (us : List Word) (a n : ℕ) → Leads x ws es a o y us n →
-    Onward blocks m es h ws c y us a n)
+    Onward blocks m es x h ws c y us a n)
 
 -- where a jump leads
 record Entered (blocks : List ESeq) (m : PlaceList) (es : List ℕ) (h : EHeap) (ws : List Word) (v : Target)
@@ -92,6 +103,15 @@ module _ (blocks : List ESeq) (m : PlaceList) (os : List Instruction) (es : List
 
   abbrev S : List ℕ
   S = starts_from 0 h
+
+  -- an instruction that makes no tuple
+  numbered_alike : (c : ESeq) (y : Heap) → y ≡ x → next_numbers c (numbers x) (made x) ≡ numbers x →
+      next_made c (made x) ≡ made x → Numbered c x y
+  numbered_alike c y e f g = record {
+    numbers = ap numbers e ∙ sym f;
+    made = ap made e ∙ sym g;
+    fixed = ap (λ z. z.fixed) e;
+  }
 
   -- addresses tell where their tuples start
   same_started : (y : Heap) → y ≡ x → AllStarted S (cells_of y.cells)
@@ -194,6 +214,7 @@ module _ (blocks : List ESeq) (m : PlaceList) (os : List Instruction) (es : List
                     ∙ ap (λ g. Some (EGoes Next (EAt h g r))) (put_in rd d (Int (compute op one.0 two.0)) (EInt
                     (compute op one.0 two.0)) us pd refl same);
                 has_heap = subst (λ z. IsHeap z h) (sym leads.1) is;
+                numbered = numbered_alike _ y leads.1 refl refl;
                 heap_started = same_started y leads.1;
                 words_started = put_started d (Int (compute op one.0 two.0)) us same tt;
                 more = λ w z. z;
@@ -224,6 +245,7 @@ module _ (blocks : List ESeq) (m : PlaceList) (os : List Instruction) (es : List
                     ∙ ap (λ t. cond t (Some (EGoes Next (EAt h R r))) (enter blocks h R b)) (sym test ∙ z.0)
                     ∙ ap (λ g. Some (EGoes Next (EAt h g r))) (ap (regs_of m) (sym leads.1));
                 has_heap = subst (λ z. IsHeap z h) (sym leads.0) is;
+                numbered = numbered_alike _ y leads.0 refl refl;
                 heap_started = same_started y leads.0;
                 words_started = kept_started us leads.1;
                 more = λ w t. t;
@@ -241,6 +263,7 @@ module _ (blocks : List ESeq) (m : PlaceList) (os : List Instruction) (es : List
                     ∙ to.enters
                     ∙ ap (λ g. Some (EGoes (Into to.label) (EAt h g to.code))) (ap (regs_of m) (sym leads.1));
                 has_heap = subst (λ z. IsHeap z h) (sym leads.0) is;
+                numbered = numbered_alike _ y leads.0 refl refl;
                 heap_started = same_started y leads.0;
                 words_started = kept_started us leads.1;
                 more = λ w t. t;
@@ -282,6 +305,7 @@ module _ (blocks : List ESeq) (m : PlaceList) (os : List Instruction) (es : List
                     ∙ ap (λ g. Some (EGoes Next (EAt h g r))) (put_in rd d (field_of x
                     (Address c) i) three.0 us pd full same);
                 has_heap = subst (λ z. IsHeap z h) (sym leads.1) is;
+                numbered = numbered_alike _ y leads.1 refl refl;
                 heap_started = same_started y leads.1;
                 words_started = put_started d (field_of x (Address c) i) us same
                     (All-get_or (Started S) (cells_of x.cells) (cell_of (Address c) i) (Empty 0) has in_heap);
@@ -306,7 +330,7 @@ module _ (blocks : List ESeq) (m : PlaceList) (os : List Instruction) (es : List
       in_range m ws places count rd d pd,
       (λ y us a n leads.
           let t = replicate k EEmpty in
-          let new = address_of x.count (length (cells_of x.cells)) in
+          let new = address_of (length x.starts.items) (length (cells_of x.cells)) in
           let T = starts_from 0 (h ++ t ∷ []) in
           let more = started_more h t in
           record {
@@ -314,15 +338,16 @@ module _ (blocks : List ESeq) (m : PlaceList) (os : List Instruction) (es : List
             tuples = h ++ t ∷ [];
             rest = r;
             steps = ap (λ g. Some (EGoes Next (EAt (h ++ t ∷ []) g r))) (put_in rd d (Address new) (EAddress
-                (length h)) us pd (ap (λ z. Some (EAddress z)) (new_tuple x h is)) leads.3);
+                (length h)) us pd (ap (λ z. Some (EAddress z)) (new_tuple x h is)) leads.4);
             has_heap = grown x h is y k leads.1 leads.2;
+            numbered = record { numbers = leads.3.numbers; made = leads.3.made; fixed = leads.3.fixed };
             heap_started = All-same (Started T) (cells_of y.cells) (cells_of x.cells ++ replicate k (Empty 0)) leads.1
                 (All-append (Started T) (cells_of x.cells) (replicate k (Empty 0))
                 (all_more S T more (cells_of x.cells) in_heap) (All-replicate (Started T) k (Empty 0) tt));
-            words_started = All-same (Started T) us (slice_set ws d (Address new)) leads.3
+            words_started = All-same (Started T) us (slice_set ws d (Address new)) leads.4
                 (All-set (Started T) ws d (Address new) (started_new x h is t) (all_more S T more ws in_words));
             more = more;
-            has_words = counted d (Address new) us leads.3;
+            has_words = counted d (Address new) us leads.4;
             leading = leads.0;
           }),
     )
@@ -342,6 +367,7 @@ module _ (blocks : List ESeq) (m : PlaceList) (os : List Instruction) (es : List
             steps = ap (option_map moves) one.1 ∙ ap (λ g. Some (EGoes Next (EAt h g r))) (put_in rd d
                 (value_of ws v) one.0 us pd from leads.2);
             has_heap = subst (λ z. IsHeap z h) (sym leads.1) is;
+            numbered = numbered_alike _ y leads.1 refl refl;
             heap_started = same_started y leads.1;
             words_started = put_started d (value_of ws v) us leads.2 (value_started v b pb started);
             more = λ w t. t;
@@ -392,16 +418,17 @@ module _ (blocks : List ESeq) (m : PlaceList) (os : List Instruction) (es : List
                     ∙ ap (λ t. cond t (Some (EGoes Next (EAt (slice_set h one.0
                     (slice_set two.0 i three.0)) R r))) None) test
                     ∙ ap₂ (λ w g. Some (EGoes Next (EAt (slice_set h one.0 (slice_set two.0 i w)) g r)))
-                    (sym from_is) (ap (regs_of m) (sym leads.3));
+                    (sym from_is) (ap (regs_of m) (sym leads.4));
                 has_heap = subst (λ z. IsHeap y (slice_set h z (slice_set two.0 i (word v)))) to_is.2
                     (stored x h is c i started two.0 tuple y v lt cells leads.2);
+                numbered = record { numbers = leads.3.numbers; made = leads.3.made; fixed = leads.3.fixed };
                 heap_started = All-same (Started T) (cells_of y.cells) (slice_set (cells_of x.cells)
                     (cell_of (Address c) i) v) cells
                     (All-set (Started T) (cells_of x.cells) (cell_of (Address c) i) v (more v (word_started s from.0))
                     (all_more S T more (cells_of x.cells) in_heap));
-                words_started = All-same (Started T) us ws leads.3 (all_more S T more ws in_words);
+                words_started = All-same (Started T) us ws leads.4 (all_more S T more ws in_words);
                 more = more;
-                has_words = kept us leads.3;
+                has_words = kept us leads.4;
                 leading = leads.0;
               }),
         )
@@ -440,6 +467,8 @@ module _ (blocks : List ESeq) (m : PlaceList) (os : List Instruction) (es : List
           steps = ap (λ d. estep blocks (EAt h R d)) p.2 ∙ to.enters ∙ ap (λ g. Some (EGoes (Into to.label)
               (EAt h g to.code))) (ap (regs_of m) (sym leads.1));
           has_heap = subst (λ z. IsHeap z h) (sym leads.0) is;
+          numbered = numbered_alike c y leads.0 (ap (λ d. next_numbers d (numbers x) (made x)) p.2)
+              (ap (λ d. next_made d (made x)) p.2);
           heap_started = same_started y leads.0;
           words_started = kept_started us leads.1;
           more = λ w t. t;

@@ -1,10 +1,11 @@
 -- The place at which the machine stands, and the words of its registers.
 use Rattle.std.proofs.Common.{◌≡◌, ℕ, zero, suc, ◌+◌, ◌-◌, ◌<◌, ◌≤◌, List, [], ◌∷◌, length, Option, Some, None, refl}
 use Rattle.std.proofs.Common.{sym, ap, ap₂, ◌∙◌, subst, arith, slice_get, get_or, option_and_then}
-use Rattle.std.specs.Coded.{le_prop}
+use Rattle.std.specs.Coded.{le_prop, Unit-prop}
 use Rattle.std.specs.Prelude.{option_map}
 use Rattle.std.proofs.Math.Logic.{∥∥₁_elim}
 use Rattle.std.proofs.lemmas.Option.{get_or_from_slice_get, slice_get_read}
+use Rattle.std.proofs.lemmas.List.Elements.{All-get_or}
 use Rattle.t_terms.specs.Tree.{TProg}
 use Rattle.t_terms.specs.declared.shown.Shown.{Shown}
 use Rattle.t_rules.specs.Machine.{State, At, Place, Spot, After}
@@ -17,7 +18,14 @@ use Rattle.t_machine.specs.Words.{held, shown_word, regs_of as held_in}
 use Rattle.t_machine.specs.Laid.{size, sizes, begins, Within}
 use Rattle.t_machine.specs.State.{Shows, ShowsSome}
 use Rattle.t_machine.specs.Runs.{IsPlaceAfter, IsRegAfter}
-use Rattle.t_machine.specs.declared.word.Word.{Word}
+use Rattle.keep_law.specs.Kept.{numbered}
+use Rattle.t_collect.specs.Tuples.{starts_from, PointsBelow}
+use Rattle.t_machine.specs.Heap.{Started}
+use Rattle.t_machine.specs.Numbers.{numbers, made}
+use Rattle.t_machine.proofs.Addresses.{started_below}
+use Rattle.t_machine.proofs.Keeping.{stood_stands}
+use Rattle.t_collect.specs.declared.word.Word.{Word}
+use Rattle.t_collect.specs.declared.word.Word.TheVariants.{Int, Address, Label, Empty}
 use Rattle.t_machine.specs.declared.heap.Heap.{Heap}
 use Rattle.t_machine.specs.declared.code.Code.{Code}
 use Rattle.t_machine.proofs.Laying.{read_back}
@@ -62,8 +70,8 @@ module _ (laws : ProgramLaws) (P : TProg) (m : ℕ) (x : Heap) (ws : List Word) 
 
   here : Within 0 (erase_blocks P) s.block s.index at
   here =
-      let stands = laws.stands P m (erase_blocks P) (EAt s.tuples (held_in code.places ws) s.rest)
-      (Spot s.block s.index) s.erased in
+      let stands = stood_stands laws P m (erase_blocks P) (numbers x) x.fixed (made x) s.tuples (held_in code.places ws)
+      s.rest (Spot s.block s.index) s.erased in
       let begun = subst (λ (es : List ℕ). slice_get es s.block ≡ Some s.start) s.laid.0 s.entered in
       subst (Within 0 (erase_blocks P) s.block s.index) (sym s.placed) (within_at 0
       (erase_blocks P) s.block s.index s.start s.rest begun stands)
@@ -90,36 +98,48 @@ module _ (laws : ProgramLaws) (P : TProg) (m : ℕ) (x : Heap) (ws : List Word) 
       let f = subst (λ (es : List ℕ). IsBlockAt es at b) s.laid.0 found in
       let w = found_in 0 (erase_blocks P) b at f.there f.begun f.next (omega (arith, less)) in
       let same = read_back (erase_blocks P) s.block b s.index (at - begin_at (begins 0 (erase_blocks P)) b) at here w in
-      let one = laws.one P m t s.erased.1.0 p (Spot s.block s.index) run s.erased.1.1 in
+      let one = laws.one P m t s.erased.erased.1.0 p (Spot s.block s.index) run s.erased.erased.1.1 in
       one.1 ∙ ap₂ Spot same.0 (same.1 ∙ ap (λ (es : List ℕ). at - begin_at es b) (sym s.laid.0))
 
-  words_of : (t : State) (p : Place) → After P m t p → (r : ℕ) → erase_regs (regs_of t) r ≡ held_in code.places ws r
-  words_of t p run r = by_state s.erased.1.0 (laws.one P m t s.erased.1.0 p
-      (Spot s.block s.index) run s.erased.1.1).0 s.erased.1.2
+  -- the words of the registers, where a tuple has the number that it has in the program's states
+  abbrev shown_in : ERegs
+  shown_in r = option_map (numbered (numbers x)) (held_in code.places ws r)
+
+  words_of : (t : State) (p : Place) → After P m t p → (r : ℕ) → erase_regs (regs_of t) r ≡ shown_in r
+  words_of t p run r = by_state s.erased.erased.1.0 (laws.one P m t s.erased.erased.1.0 p
+      (Spot s.block s.index) run s.erased.erased.1.1).0 s.erased.erased.1.2 ∙ s.erased.keeps.regs r
     where
-      by_state : (u : State) → t ≡ u → EAt s.tuples (held_in code.places ws) s.rest ≡ erase u →
-          erase_regs (regs_of t) r ≡ held_in code.places ws r
+      by_state : (u : State) → t ≡ u → EAt s.erased.heap s.erased.regs s.rest ≡ erase u →
+          erase_regs (regs_of t) r ≡ s.erased.regs r
       by_state (At h g c) same e =
-          let words : held_in code.places ws ≡ erase_regs g = cc in
+          let words : s.erased.regs ≡ erase_regs g = cc in
           ap (λ (z : State). erase_regs (regs_of z) r) same ∙ sym (ap (λ (f : ERegs). f r) words)
 
-  pub reg_is : (r : ℕ) (o : Option Shown) → option_map shown_word o ≡ held_in code.places ws r → IsRegAfter P m r o
+  pub reg_is : (r : ℕ) (o : Option Shown) → option_map shown_word o ≡ shown_in r → IsRegAfter P m r o
   reg_is r o e t p run = e ∙ sym (words_of t p run r)
 
 pub start_is : (es : List ℕ) (b n : ℕ) → b < length es → n ≡ get_or es b n → begin_at es b ≡ n
 start_is es b n lt is = get_or_from_slice_get es b n 0 (slice_get_read es (length es) b n refl lt is)
 
 -- the words of the machine, by its places
-pub word_none : (places : PlaceList) (ws : List Word) (r : ℕ) → place_of places r ≡ None →
-    option_map shown_word None ≡ held_in places ws r
-word_none places ws r e = sym (ap (option_and_then (λ k. option_and_then held (slice_get ws k))) e)
+pub word_none : (ns : List ℕ) (places : PlaceList) (ws : List Word) (r : ℕ) → place_of places r ≡ None →
+    option_map shown_word None ≡ option_map (numbered ns) (held_in places ws r)
+word_none ns places ws r e =
+    sym (ap (λ o. option_map (numbered ns) (option_and_then (λ k. option_and_then held (slice_get ws k)) o)) e)
 
-pub word_some : (places : PlaceList) (ws : List Word) (r k : ℕ) (w : Word) (o : Option Shown) →
-    place_of places r ≡ Some k → k < length ws → w ≡ get_or ws k w → option_map shown_word o ≡ held w →
-    option_map shown_word o ≡ held_in places ws r
-word_some places ws r k w o e lt is same =
-    same ∙ sym (ap (option_and_then (λ j. option_and_then held (slice_get ws j))) e ∙ ap (option_and_then held)
-    (slice_get_read ws (length ws) k w refl lt is))
+pub word_some : (ns : List ℕ) (places : PlaceList) (ws : List Word) (r k : ℕ) (w : Word) (o : Option Shown) →
+    place_of places r ≡ Some k → k < length ws → w ≡ get_or ws k w →
+    option_map shown_word o ≡ option_map (numbered ns) (held w) →
+    option_map shown_word o ≡ option_map (numbered ns) (held_in places ws r)
+word_some ns places ws r k w o e lt is same =
+    same ∙ ap (option_map (numbered ns)) (sym (ap (option_and_then (λ j. option_and_then held (slice_get ws j))) e
+    ∙ ap (option_and_then held) (slice_get_read ws (length ws) k w refl lt is)))
+
+points_prop : (n : ℕ) (w : Word) → IsProp (PointsBelow n w)
+points_prop n (Address a) = le_prop
+points_prop n (Int i) = Unit-prop
+points_prop n (Label l) = Unit-prop
+points_prop n (Empty m) = Unit-prop
 
 -- what holds of a machine, whichever program it stands for
 module _ (laws : ProgramLaws) (x : Heap) (ws : List Word) (code : Code) (at : ℕ)
@@ -132,3 +152,13 @@ module _ (laws : ProgramLaws) (x : Heap) (ws : List Word) (code : Code) (at : �
 
   pub some_word : (r k : ℕ) → place_of code.places r ≡ Some k → k < length ws
   some_word r k e = ∥∥₁_elim some le_prop (λ z. let lt = z.4.has_places.0 r k e in omega (arith, lt, z.4.has_words))
+
+  pub some_shown : (r k : ℕ) (w : Word) → place_of code.places r ≡ Some k → w ≡ get_or ws k w →
+      PointsBelow (length x.starts.items) w
+  some_shown r k w e is = ∥∥₁_elim some (points_prop (length x.starts.items) w) (λ z.
+      let lt = z.4.has_places.0 r k e in
+      let in' : k < length ws = omega (arith, lt, z.4.has_words) in
+      let all = z.4.words_started in
+      subst (λ ss. PointsBelow (length ss) w) (sym z.4.has_heap.1) (started_below (starts_from 0 z.4.tuples) w
+      (subst (Started (starts_from 0 z.4.tuples)) (sym is) (All-get_or (Started (starts_from 0 z.4.tuples)) ws k w in'
+      all))))

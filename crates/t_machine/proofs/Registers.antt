@@ -12,11 +12,12 @@ use Rattle.t_rules.specs.Registers.{with_reg}
 use Rattle.t_rules.specs.Erase.{EWord, EInt, EAddress, ELabel, EEmpty, base_word}
 use Rattle.t_rules.specs.Erase.{no_ewords}
 use Rattle.t_machine.specs.Places.{PlaceList, place_of, ArePlaces}
-use Rattle.t_machine.specs.Words.{tuple_of, word, held, regs_of, IsInteger}
+use Rattle.t_collect.specs.Words.{tuple_of, IsInteger}
+use Rattle.t_machine.specs.Words.{word, held, regs_of}
 use Rattle.t_machine.specs.Code.{IsPlace, IsBase, IsNoNumber, IsNumber}
 use Rattle.t_machine.specs.Steps.{InRange, NumberInRange, at_place, value_of, number_of}
-use Rattle.t_machine.specs.declared.word.Word.{Word}
-use Rattle.t_machine.specs.declared.word.Word.TheVariants.{Int, Address, Label, Empty}
+use Rattle.t_collect.specs.declared.word.Word.{Word}
+use Rattle.t_collect.specs.declared.word.Word.TheVariants.{Int, Address, Label, Empty}
 use Rattle.t_machine.specs.declared.code.Operand.{Operand}
 use Rattle.t_machine.specs.declared.code.Operand.TheVariants as O
 use Rattle.t_machine.specs.declared.code.Number.{Number}

@@ -2,8 +2,8 @@
 use Rattle.std.specs.Prelude.{ℕ}
 use Rattle.idx_core.specs.declared.arith.Op.{Op}
 use Rattle.idx_core.specs.declared.arith.Op.TheVariants.{Add, Sub, Mul}
-use Rattle.t_machine.specs.declared.word.Word.{Word}
-use Rattle.t_machine.specs.declared.word.Word.TheVariants as word
+use Rattle.t_collect.specs.declared.word.Word.{Word}
+use Rattle.t_collect.specs.declared.word.Word.TheVariants as word
 use Rattle.t_machine.specs.declared.code.Operand.{Operand}
 use Rattle.t_machine.specs.declared.code.Operand.TheVariants as operand
 use Rattle.t_machine.specs.declared.code.Number.{Number}

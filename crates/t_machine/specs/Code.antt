@@ -4,9 +4,9 @@ use Rattle.t_terms.specs.Tree.{TBase, Reg}
 use Rattle.t_terms.specs.Tree as tree
 use Rattle.t_rules.specs.Erase.{EInstr, EArith, EBnz, ELd, EMalloc, EMov, ESt, ESeq, EThen, EJmp, EHalt}
 use Rattle.t_machine.specs.Places.{PlaceList, place_of}
-use Rattle.t_machine.specs.Words.{tuple_of}
+use Rattle.t_collect.specs.Words.{tuple_of}
 use Rattle.t_machine.specs.Action.{Action, action, Arith, Bnz, Ld, Malloc, Mov, St, Jmp, Halt, moved_data}
-use Rattle.t_machine.specs.declared.word.Word.{Word}
+use Rattle.t_collect.specs.declared.word.Word.{Word}
 use Rattle.t_machine.specs.declared.code.Operand.{Operand}
 use Rattle.t_machine.specs.declared.code.Operand.TheVariants.{Register, Int, Label, Data}
 use Rattle.t_machine.specs.declared.code.Number.{Number}

@@ -9,6 +9,8 @@ use Rattle.t_rules.specs.LawsSound.{regs_of}
 use Rattle.t_rules.specs.Erase.{ERegs, erase_regs}
 use Rattle.t_machine.specs.Words.{shown_word, regs_of as held_in}
 use Rattle.t_machine.specs.State.{Shows}
+use Rattle.keep_law.specs.Kept.{numbered}
+use Rattle.t_machine.specs.Numbers.{numbers}
 use Rattle.t_machine.specs.declared.machine.Machine.{Machine}
 use Rattle.t_machine.specs.declared.machine.Ran.{Ran}
 use Rattle.t_machine.specs.declared.machine.Ran.TheVariants.{Halted, Spent, NoMemory}
@@ -17,9 +19,9 @@ use Rattle.t_machine.specs.declared.machine.Ran.TheVariants.{Halted, Spent, NoMe
 abbrev pub Stands : TProg → ℕ → Machine → Type 0
 Stands P m x = Shows P m x.heap x.registers.items x.code x.at
 
--- the words of the machine's registers
+-- the words of the machine's registers, where a tuple has the number that it has in the program's states
 abbrev pub words_in : Machine → ERegs
-words_in x = held_in x.code.places x.registers.items
+words_in x r = option_map (numbered (numbers x.heap)) (held_in x.code.places x.registers.items r)
 
 -- the place of P's state after m steps
 abbrev pub IsPlaceAfter : TProg → ℕ → ℕ → ℕ → Type 0

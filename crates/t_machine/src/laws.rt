@@ -5,12 +5,13 @@ ghost use Rattle.t_machine.specs.Room.{StepsMakeWhatTheyAsk, StepsAreCovered, Re
 ghost use Rattle.t_machine.specs.Runs.{HaltedExactly, SpentExactly, FirstRuns};
 ghost use Rattle.t_machine.specs.Seldom.{SeldomRunsAreCovered};
 
+use keep_law::{kept_states_drop, kept_states_follow};
 use t_rules::{
     accepted_programs_are_never_stuck, erased_code_stands_at_its_place, erased_machine_starts,
     erased_states_go_on, erased_states_halt_alike, runs_are_unique, runs_weigh_within_times,
 };
 
-// What the machine stands on: laws of programs and of their erasure.
+// What the machine stands on: laws of programs, of their erasure, and of tuples that are not kept.
 pub(crate) fn programs_keep_laws()
     ensures { ProgramLaws }
 {
@@ -20,6 +21,8 @@ pub(crate) fn programs_keep_laws()
     erased_code_stands_at_its_place();
     erased_states_go_on();
     erased_states_halt_alike();
+    kept_states_follow();
+    kept_states_drop();
 }
 
 /// The answer of a run is exact, want of memory aside: where the program is halted after at most as many steps as the

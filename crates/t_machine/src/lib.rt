@@ -2,8 +2,8 @@
 //! then run a number of steps at a time.
 #![tactic(auto)]
 
-mod cells;
 mod code;
+mod collecting;
 mod executing;
 mod heap;
 mod laws;
@@ -11,6 +11,7 @@ mod loading;
 mod machine;
 mod places;
 mod placing;
+mod resuming;
 mod running;
 mod starts;
 mod word;

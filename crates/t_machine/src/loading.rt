@@ -7,8 +7,8 @@ ghost use Rattle.t_terms.specs.Spanned.{plain_fields};
 ghost use Rattle.t_check.specs.Checked.{checked_program};
 ghost use Rattle.t_rules.specs.Erase.{ESeq, EHeap, ELd, EMov, ESt, erase_blocks, base_word, no_ewords, held};
 ghost use Rattle.t_rules.specs.Erase.{erase_value, erase_instr, erase_end, erase_block, erase_datum};
-ghost use Rattle.t_machine.specs.Cells.{cells_of};
-ghost use Rattle.t_machine.specs.Heap.{IsHeap, Started, AllStarted};
+ghost use Rattle.t_collect.specs.Cells.{cells_of};
+ghost use Rattle.t_machine.specs.Heap.{IsHeap, IsFresh, Started, AllStarted};
 ghost use Rattle.t_machine.specs.Words.{word};
 ghost use Rattle.t_machine.specs.Places.{Extends};
 ghost use Rattle.t_machine.specs.Action.{action, data_word, moved_data};
@@ -23,10 +23,10 @@ use crate::laws::programs_keep_laws;
 use crate::machine::Machine;
 use crate::places::Places;
 use crate::starts::{data_address, load_starts, sum};
-use crate::word::Word;
 use idx_core::{OutOfMemory, Span};
 use std::alloc::Global;
 use t_check::Checked;
+use t_collect::Word;
 use t_terms::{Base, Block, Data, End, Instr, Value};
 use t_types::TType;
 
@@ -61,11 +61,13 @@ pub fn load(alloc: Global, program: &Checked) -> Result<Machine, OutOfMemory>
 fn load_heap(alloc: Global, tuples: &[Data], starts: &[u32]) -> Result<Heap, OutOfMemory>
     ensures heap { IfOk result (λ x. IsHeap x (map (map erase_datum) (data_of tuples.now))) }
     ensures started { IfOk result (λ x. AllStarted starts.now (cells_of x.cells)) }
+    ensures fresh { IfOk result IsFresh }
 {
     let mut heap = Heap::new(alloc);
     for tuple in tuples {
         load_tuple(&mut heap, &tuple.fields, starts)?;
     }
+    heap.fixed = heap.starts.len() as u32;
     Ok(heap)
 }
 
@@ -79,8 +81,10 @@ fn load_tuple(
         IsHeap heap.new (h ++ map erase_datum (plain_fields (data_fields fields.now)) ∷ [])) }
     ensures started { OnOk result (AllStarted starts.now (cells_of heap.old.cells) →
         AllStarted starts.now (cells_of heap.new.cells)) }
+    ensures kept { OnOk result (heap.new.kept.items ≡ heap.old.kept.items) }
+    ensures dropped { OnOk result (heap.new.dropped ≡ heap.old.dropped) }
 {
-    heap.count = sum(heap.count, 1)?;
+    heap.start_tuple()?;
     for field in fields {
         let word = load_word(&field.0, starts)?;
         heap.cells.push(word)?;

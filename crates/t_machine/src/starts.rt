@@ -2,12 +2,12 @@
 ghost use Rattle.std.specs.Prelude.{◌≡◌, ◌+◌, map, slice_get, Some, IfOk};
 ghost use Rattle.t_terms.specs.Read.{data_of};
 ghost use Rattle.t_rules.specs.Erase.{erase_datum};
-ghost use Rattle.t_machine.specs.Heap.{starts_from};
-ghost use Rattle.t_machine.specs.Words.{tuple_of, start_of};
+ghost use Rattle.t_collect.specs.Tuples.{starts_from};
+ghost use Rattle.t_collect.specs.Words.{tuple_of, start_of};
 
-use crate::word::address_of;
 use idx_core::OutOfMemory;
 use std::alloc::Global;
+use t_collect::address_of;
 use t_terms::Data;
 
 // Where each data tuple is to start.

@@ -22,7 +22,8 @@ use Rattle.t_mismatch.specs.Mismatch.{KnownFits, Mismatch, Note, Register, BaseF
 use Rattle.t_mismatch.specs.Mismatch.{EnterFaultWith, InstrFaultWith, EndFaultWith, BodyFaultWith, BlocksFaultWith}
 use Rattle.t_mismatch.specs.Mismatch.{DatumFaultWith, DataFaultWith, HeapFaultWith, FirstBlockFaultWith, ProgramNoted}
 use Rattle.t_mismatch.specs.Mismatch.{MismatchIsOfTheFault, EachFaultSays, AtMostOneMismatch}
-use Rattle.t_mismatch.proofs.Decided.{Decided, known_fits}
+use Rattle.t_rules.proofs.Settled.{Decided}
+use Rattle.t_mismatch.proofs.Decided.{known_fits}
 use Rattle.t_mismatch.proofs.Beside.{Beside, beside_nothing, beside_refuse, beside_check, beside_part, beside_known}
 use Rattle.t_mismatch.proofs.Beside.{beside_code, beside_exists, beside_tuple, beside_field}
 

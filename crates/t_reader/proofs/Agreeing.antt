@@ -7,13 +7,13 @@ use Rattle.t_terms.specs.declared.fault.TCode.{TCode}
 use Rattle.t_terms.specs.declared.fault.TCode.TheVariants.{T05}
 use Rattle.t_terms.specs.Tree.{TBase, TValue, Plain, Pack, TInstr, Arith, Bnz, Mov, Unpack, Jmp}
 use Rattle.t_terms.specs.Spanned.{SDatum}
-use Rattle.t_terms.specs.Raw.{RawBase, RReg, RNum, RLabel, RawValue, RPlain, RPack, RawInstr, RArith, RBnz, RLd}
-use Rattle.t_terms.specs.Raw.{RMalloc, RMov, RSt, RUnpack, RawEnd, RJmp, RHalt, RawBlock, RawDatum, RawData, RawItem}
-use Rattle.t_terms.specs.Raw.{BlockItem, DataItem, item_name}
-use Rattle.t_terms.specs.Names.{Labels, spelled, or_first, bind, type_of, types_of, base_of, value_of, instr_of}
-use Rattle.t_terms.specs.Names.{body_of, end_of, names_after, names_after_all, block_of, datum_of, data_of}
-use Rattle.t_terms.specs.NameFaults.{only_if, type_faults, types_faults, base_faults, value_faults, instr_faults}
-use Rattle.t_terms.specs.NameFaults.{body_faults, end_faults, block_faults, data_faults, item_faults}
+use Rattle.t_text.specs.Raw.{RawBase, RReg, RNum, RLabel, RawValue, RPlain, RPack, RawInstr, RArith, RBnz, RLd, RMalloc}
+use Rattle.t_text.specs.Raw.{RMov, RSt, RUnpack, RawEnd, RJmp, RHalt, RawBlock, RawDatum, RawData, RawItem, BlockItem}
+use Rattle.t_text.specs.Raw.{DataItem, item_name}
+use Rattle.t_text.specs.Names.{Labels, spelled, or_first, bind, type_of, types_of, base_of, value_of, instr_of, body_of}
+use Rattle.t_text.specs.Names.{end_of, names_after, names_after_all, block_of, datum_of, data_of}
+use Rattle.t_text.specs.NameFaults.{only_if, type_faults, types_faults, base_faults, value_faults, instr_faults}
+use Rattle.t_text.specs.NameFaults.{body_faults, end_faults, block_faults, data_faults, item_faults}
 use Rattle.t_reader.specs.Labelled.{NameTheSame}
 use Rattle.t_reader.specs.Resolve.{numbered_faults}
 

@@ -11,10 +11,10 @@ use Rattle.t_terms.specs.declared.program.TProgram.{TProgram}
 use Rattle.t_terms.specs.Spanned.{SProg}
 use Rattle.t_terms.specs.Read.{spanned_parts}
 use Rattle.t_terms.specs.ReadProgram.{spanned_program}
-use Rattle.t_terms.specs.Raw.{RawItem}
-use Rattle.t_terms.specs.Names.{program_of}
-use Rattle.t_terms.specs.NameFaults.{program_faults}
-use Rattle.t_terms.specs.Text.{ReadsAs, FirstFault, IsFirstFault, AtMostOneProgram, AtMostOneFault, NoFaultWhereRead}
+use Rattle.t_text.specs.Raw.{RawItem}
+use Rattle.t_text.specs.Names.{program_of}
+use Rattle.t_text.specs.NameFaults.{program_faults}
+use Rattle.t_text.specs.Text.{ReadsAs, FirstFault, IsFirstFault, AtMostOneProgram, AtMostOneFault, NoFaultWhereRead}
 use Rattle.t_reader.specs.Resolve.{IsShape}
 
 pub reads : (text : List ℕ) (raw : List RawItem) (bs : List Block) (xs : List Data) → IsShape text raw →

@@ -6,10 +6,10 @@ use Rattle.t_types.specs.declared.types.TType.{TType}
 use Rattle.t_types.specs.Read.{file}
 use Rattle.t_terms.specs.declared.instr.Instr.{Instr}
 use Rattle.t_terms.specs.declared.instr.End.{End}
-use Rattle.t_terms.specs.Raw.{raw_regs}
+use Rattle.t_text.specs.Raw.{raw_regs}
 use Rattle.t_terms.specs.Read as read
-use Rattle.t_terms.specs.Names.{Labels, bind, file_of, body_of, end_of, block_of, names_after_all}
-use Rattle.t_terms.specs.NameFaults.{regs_faults, body_faults, end_faults, block_faults}
+use Rattle.t_text.specs.Names.{Labels, bind, file_of, body_of, end_of, block_of, names_after_all}
+use Rattle.t_text.specs.NameFaults.{regs_faults, body_faults, end_faults, block_faults}
 use Rattle.t_grammar.specs.declared.raw.RawType.{RawType}
 use Rattle.t_grammar.specs.Raw.{raw_reg}
 use Rattle.t_shapes.specs.declared.raw.RawInstr.{RawInstr}

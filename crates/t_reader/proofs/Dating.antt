@@ -9,8 +9,8 @@ use Rattle.t_types.specs.declared.types.TType.{TType}
 use Rattle.t_terms.specs.declared.value.Value.{Value}
 use Rattle.t_terms.specs.Spanned.{SDatum}
 use Rattle.t_terms.specs.Read as read
-use Rattle.t_terms.specs.Names.{Labels, datum_of, data_of}
-use Rattle.t_terms.specs.NameFaults.{value_faults, type_faults, datum_faults, data_faults}
+use Rattle.t_text.specs.Names.{Labels, datum_of, data_of}
+use Rattle.t_text.specs.NameFaults.{value_faults, type_faults, datum_faults, data_faults}
 use Rattle.t_grammar.specs.Raw.{raw}
 use Rattle.t_shapes.specs.declared.raw.RawDatum.{RawDatum}
 use Rattle.t_shapes.specs.declared.raw.RawData.{RawData}

@@ -14,9 +14,9 @@ use Rattle.idx_core.specs.Names.{Name}
 use Rattle.t_types.specs.declared.types.TType.{TType}
 use Rattle.t_types.specs.Tree.{Ty, TFile, NoRegs, MoreRegs}
 use Rattle.t_types.specs.Read.{tree, file}
-use Rattle.t_terms.specs.Raw.{raw_regs}
-use Rattle.t_terms.specs.Names.{insert_reg, file_of, type_of}
-use Rattle.t_terms.specs.NameFaults.{regs_faults, type_faults}
+use Rattle.t_text.specs.Raw.{raw_regs}
+use Rattle.t_text.specs.Names.{insert_reg, file_of, type_of}
+use Rattle.t_text.specs.NameFaults.{regs_faults, type_faults}
 use Rattle.t_grammar.specs.declared.raw.RawType.{RawType}
 use Rattle.t_grammar.specs.Raw.{raw, raw_reg}
 use Rattle.t_terms.specs.declared.fault.TCode.TheVariants.{T07}

@@ -6,27 +6,27 @@ use Rattle.std.proofs.lemmas.List.{length-append}
 use Rattle.std.proofs.lemmas.Int.{ints}
 use Rattle.idx_core.specs.declared.span.Span.{Span}
 use Rattle.t_types.specs.WellFormed.{max_number, max_names, IsRegister}
-use Rattle.t_terms.specs.declared.token.Kind.{Kind}
-use Rattle.t_terms.specs.declared.token.Kind.TheVariants as k
-use Rattle.t_terms.specs.declared.token.Token.{Token}
+use Rattle.t_text.specs.declared.token.Kind.{Kind}
+use Rattle.t_text.specs.declared.token.Kind.TheVariants as k
+use Rattle.t_text.specs.declared.token.Token.{Token}
 use Rattle.text_core.specs.Byte.{value}
 use Rattle.text_core.specs.Tokens.{Cut, c_end, c_gap, c_token, Next, n_spelling, Spelling, Spells, s_word, s_plain}
 use Rattle.text_core.specs.Tokens.{s_negative, s_sign, s_pair, look}
-use Rattle.t_terms.specs.Tokens.{assembly, Keeps, words, word, word_in, is_register, after_first, signs}
-use Rattle.t_terms.specs.Raw.{RawTy, RInt, RName, RCode, RSome, RTuple, RawRegs, NoRawRegs, MoreRawRegs, RawFields}
-use Rattle.t_terms.specs.Raw.{NoRawFields, MoreRawFields, RawReg, RawField, raw_regs, raw_fields, RawBase, RReg, RNum}
-use Rattle.t_terms.specs.Raw.{RLabel, RawValue, RPlain, RPack, RawInstr, RArith, RBnz, RLd, RMalloc, RMov, RSt}
-use Rattle.t_terms.specs.Raw.{RUnpack, RawEnd, RJmp, RHalt, RawBlock, RawDatum, RawItem, BlockItem, DataItem}
-use Rattle.t_terms.specs.Raw.{blocks_in, block_items, Piece}
-use Rattle.t_terms.specs.Grammar.{Names, ns_one, ns_more, Binds, bs_none, bs_names, T, t_int, t_name, t_code, t_some}
-use Rattle.t_terms.specs.Grammar.{t_unit, t_tuple, File, f_none, f_regs, Rs, rs_one, rs_more, Fs, fs_one, fs_more, Ts}
-use Rattle.t_terms.specs.Grammar.{ts_one, ts_more, N, n_reg, n_plain, n_negative, n_label, V, v_base, v_apply, v_pack}
-use Rattle.t_terms.specs.Grammar.{I, i_arith, i_bnz, i_ld, i_malloc_none, i_malloc, i_mov, i_st, i_unpack, Is, is_none}
-use Rattle.t_terms.specs.Grammar.{is_more, End, e_jmp, e_halt, Block, b_block, Blocks, W, Ds, ds_one, ds_more, Tuple}
-use Rattle.t_terms.specs.Grammar.{tu_none, tu_fields, Item, it_block, it_data, Items, its_none, its_more, Program}
-use Rattle.t_terms.specs.Grammar.{p_blocks, p_items}
-use Rattle.t_terms.specs.Grammar as g
-use Rattle.t_terms.proofs.ItemLaws.{as_value, blocks_alone}
+use Rattle.t_text.specs.Tokens.{assembly, Keeps, words, word, word_in, is_register, after_first, signs}
+use Rattle.t_text.specs.Raw.{RawTy, RInt, RName, RCode, RSome, RTuple, RawRegs, NoRawRegs, MoreRawRegs, RawFields}
+use Rattle.t_text.specs.Raw.{NoRawFields, MoreRawFields, RawReg, RawField, raw_regs, raw_fields, RawBase, RReg, RNum}
+use Rattle.t_text.specs.Raw.{RLabel, RawValue, RPlain, RPack, RawInstr, RArith, RBnz, RLd, RMalloc, RMov, RSt, RUnpack}
+use Rattle.t_text.specs.Raw.{RawEnd, RJmp, RHalt, RawBlock, RawDatum, RawItem, BlockItem, DataItem, blocks_in}
+use Rattle.t_text.specs.Raw.{block_items, Piece}
+use Rattle.t_text.specs.Grammar.{Names, ns_one, ns_more, Binds, bs_none, bs_names, T, t_int, t_name, t_code, t_some}
+use Rattle.t_text.specs.Grammar.{t_unit, t_tuple, File, f_none, f_regs, Rs, rs_one, rs_more, Fs, fs_one, fs_more, Ts}
+use Rattle.t_text.specs.Grammar.{ts_one, ts_more, N, n_reg, n_plain, n_negative, n_label, V, v_base, v_apply, v_pack, I}
+use Rattle.t_text.specs.Grammar.{i_arith, i_bnz, i_ld, i_malloc_none, i_malloc, i_mov, i_st, i_unpack, Is, is_none}
+use Rattle.t_text.specs.Grammar.{is_more, End, e_jmp, e_halt, Block, b_block, Blocks, W, Ds, ds_one, ds_more, Tuple}
+use Rattle.t_text.specs.Grammar.{tu_none, tu_fields, Item, it_block, it_data, Items, its_none, its_more, Program}
+use Rattle.t_text.specs.Grammar.{p_blocks, p_items}
+use Rattle.t_text.specs.Grammar as g
+use Rattle.t_text.proofs.ItemLaws.{as_value, blocks_alone}
 
 -- under n names: registers and fields are in range, and not too many names are bound
 abbrev mutual

@@ -8,7 +8,7 @@ use Rattle.std.specs.Map.{lookup}
 use Rattle.std.proofs.lemmas.Map.Text.{hash_map_updates_str}
 use Rattle.idx_core.specs.Names.{Name}
 use Rattle.indexmap.specs.IndexMap.{IndexMap, get_by, UpdatesBy}
-use Rattle.t_terms.specs.Names.{Labels, named_by}
+use Rattle.t_text.specs.Names.{Labels, named_by}
 use Rattle.t_reader.specs.Labelled.{target_base, named_base, labels_in_map, HasFirsts}
 use Rattle.t_reader.specs.declared.target.Target.{Target}
 

@@ -7,7 +7,7 @@ use Rattle.idx_core.specs.Names.{Name}
 use Rattle.idx_core.specs.Levels.{level_of, SetsLevel}
 use Rattle.idx_core.proofs.Leveled.{level_within}
 use Rattle.indexmap.specs.IndexMap.{IndexMap, UpdatesBy}
-use Rattle.t_terms.specs.Names.{is_among, place_of}
+use Rattle.t_text.specs.Names.{is_among, place_of}
 use Rattle.t_reader.specs.Levels.{kept_level}
 
 -- a name without a level is not there

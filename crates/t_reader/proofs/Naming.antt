@@ -11,9 +11,9 @@ use Rattle.t_types.specs.Tree.{Ty, CodeTy, ExistsTy, TupleTy, MoreFields, flagge
 use Rattle.t_types.specs.Read.{tree, flag, file, types}
 use Rattle.t_types.proofs.Trees.{tree_Tuple, tree_Code}
 use Rattle.t_terms.specs.declared.fault.TCode.TheVariants.{T06}
-use Rattle.t_terms.specs.Raw.{RCode, raw_regs, raw_fields}
-use Rattle.t_terms.specs.Names.{spelled, is_among, place_of, bind, type_of, file_of, fields_of, types_of}
-use Rattle.t_terms.specs.NameFaults.{type_faults, regs_faults, fields_faults, types_faults}
+use Rattle.t_text.specs.Raw.{RCode, raw_regs, raw_fields}
+use Rattle.t_text.specs.Names.{spelled, is_among, place_of, bind, type_of, file_of, fields_of, types_of}
+use Rattle.t_text.specs.NameFaults.{type_faults, regs_faults, fields_faults, types_faults}
 use Rattle.t_grammar.specs.declared.raw.RawType.{RawType}
 use Rattle.t_grammar.specs.declared.raw.RawType.TheVariants as R
 use Rattle.t_grammar.specs.declared.raw.RawFile.{RawFile}

@@ -18,12 +18,12 @@ use Rattle.t_terms.specs.Tree.{TBase, Reg, Int, Label, Data}
 use Rattle.t_terms.specs.Spanned.{SBlock, SData}
 use Rattle.t_terms.specs.Read.{spanned, spanned_blocks, spanned_data, spanned_heap, spanned_parts}
 use Rattle.idx_core.specs.declared.span.Span.{Span}
-use Rattle.t_terms.specs.Raw as tree
-use Rattle.t_terms.specs.Raw.{item_name, blocks_in, data_in}
-use Rattle.t_terms.specs.Names.{Labels, spelled, is_among, named_by, item_labels, labels_of, block_of, data_of}
-use Rattle.t_terms.specs.Names.{program_of}
-use Rattle.t_terms.specs.NameFaults.{only_if, item_faults, items_faults, program_faults}
-use Rattle.t_terms.proofs.ItemLaws.{IsTarget}
+use Rattle.t_text.specs.Raw as tree
+use Rattle.t_text.specs.Raw.{item_name, blocks_in, data_in}
+use Rattle.t_text.specs.Names.{Labels, spelled, is_among, named_by, item_labels, labels_of, block_of, data_of}
+use Rattle.t_text.specs.Names.{program_of}
+use Rattle.t_text.specs.NameFaults.{only_if, item_faults, items_faults, program_faults}
+use Rattle.t_text.proofs.ItemLaws.{IsTarget}
 use Rattle.t_shapes.specs.declared.raw.RawBlock.{RawBlock}
 use Rattle.t_shapes.specs.declared.raw.RawData.{RawData}
 use Rattle.t_shapes.specs.declared.raw.RawItem.{RawItem}

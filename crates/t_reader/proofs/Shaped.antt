@@ -9,16 +9,15 @@ use Rattle.t_terms.specs.declared.fault.TCode.{TCode}
 use Rattle.t_terms.specs.declared.fault.TCode.TheVariants.{T03, M1}
 use Rattle.t_terms.specs.declared.fault.TFault.{TFault}
 use Rattle.t_terms.specs.declared.fault.TFault.TheVariants.{Memory, Refused}
-use Rattle.t_terms.specs.declared.token.Token.{Token}
-use Rattle.t_terms.specs.Tokens.{IsCut}
-use Rattle.t_terms.specs.Raw.{RawItem}
-use Rattle.t_terms.specs.Grammar.{Program}
-use Rattle.t_terms.specs.GrammarTable.{table, OfItems}
-use Rattle.t_terms.specs.Text.{most_open, FirstFault, in_tokens, in_names, unexpected, cut_short, too_deep}
-use Rattle.t_terms.specs.Text.{IsFirstFault}
-use Rattle.t_terms.proofs.Instance.{assembly_exact}
+use Rattle.t_text.specs.declared.token.Token.{Token}
+use Rattle.t_text.specs.Tokens.{IsCut}
+use Rattle.t_text.specs.Raw.{RawItem}
+use Rattle.t_text.specs.Grammar.{Program}
+use Rattle.t_text.specs.GrammarTable.{table, OfItems}
+use Rattle.t_text.specs.Text.{most_open, FirstFault, in_tokens, in_names, unexpected, cut_short, too_deep, IsFirstFault}
+use Rattle.t_text.proofs.Instance.{assembly_exact}
 use Rattle.t_lexer.specs.Cut.{IsTokenFault}
-use Rattle.t_terms.specs.NameFaults.{program_faults}
+use Rattle.t_text.specs.NameFaults.{program_faults}
 use Rattle.t_reader.specs.Resolve.{StopsAt, IsShape, place_at}
 
 pub token_fault : (text : List ℕ) (f : TFault) → IsTokenFault text f → IsFirstFault text f

@@ -5,10 +5,10 @@ use Rattle.std.proofs.lemmas.List.{append-nil, map-append}
 use Rattle.std.proofs.Math.ListN.{drop_of_length-le}
 use Rattle.t_terms.specs.declared.block.Block.{Block}
 use Rattle.t_terms.specs.declared.data.Data as heap_of
-use Rattle.t_terms.specs.declared.token.Token.{Token}
-use Rattle.t_terms.specs.Raw as tree
+use Rattle.t_text.specs.declared.token.Token.{Token}
+use Rattle.t_text.specs.Raw as tree
 use Rattle.t_terms.specs.Read.{spanned, spanned_data}
-use Rattle.t_terms.specs.Names.{Labels, labels_of, block_of, data_of}
+use Rattle.t_text.specs.Names.{Labels, labels_of, block_of, data_of}
 use Rattle.t_shapes.specs.declared.raw.RawBlock.{RawBlock}
 use Rattle.t_shapes.specs.declared.raw.RawData.{RawData}
 use Rattle.t_shapes.specs.declared.raw.RawItem.{RawItem}

@@ -14,9 +14,9 @@ use Rattle.t_terms.specs.declared.value.Value.TheVariants as V
 use Rattle.t_terms.specs.declared.instr.Instr.{Instr}
 use Rattle.t_terms.specs.Tree.{TBase, TInstr, Pack}
 use Rattle.t_terms.specs.Read as read
-use Rattle.t_terms.specs.Names.{Labels, spelled, named_by, types_of, base_of, value_of, instr_of, body_of, names_after}
-use Rattle.t_terms.specs.Names.{names_after_all}
-use Rattle.t_terms.specs.NameFaults.{type_faults, types_faults, base_faults, value_faults, instr_faults, body_faults}
+use Rattle.t_text.specs.Names.{Labels, spelled, named_by, types_of, base_of, value_of, instr_of, body_of, names_after}
+use Rattle.t_text.specs.Names.{names_after_all}
+use Rattle.t_text.specs.NameFaults.{type_faults, types_faults, base_faults, value_faults, instr_faults, body_faults}
 use Rattle.t_grammar.specs.declared.raw.RawType.{RawType}
 use Rattle.t_grammar.specs.Raw.{raw}
 use Rattle.t_shapes.specs.declared.raw.RawBase.{RawBase}

@@ -20,17 +20,17 @@ use Rattle.t_terms.specs.Read.{spanned_parts, parts}
 use Rattle.std.proofs.lemmas.List.{length-map}
 use Rattle.t_terms.specs.Whole.{Whole, WellFormedBase, WellFormedValue, WellFormedInstr, WellFormedEnd, WellFormedSeq}
 use Rattle.t_terms.specs.Whole.{WellFormedBlock, WellFormedBlocks, WellFormedDatum, WellFormedData, WellFormedHeap}
-use Rattle.t_terms.specs.Raw.{RawTy, RInt, RName, RCode, RSome, RTuple, RawRegs, NoRawRegs, MoreRawRegs, RawFields}
-use Rattle.t_terms.specs.Raw.{NoRawFields, MoreRawFields, RawBase, RReg, RNum, RLabel, RawValue, RPlain, RPack}
-use Rattle.t_terms.specs.Raw.{RawInstr, RArith, RBnz, RLd, RMalloc, RMov, RSt, RUnpack, RawEnd, RJmp, RHalt, RawBlock}
-use Rattle.t_terms.specs.Raw.{RawDatum, RawItem, BlockItem, DataItem, blocks_in, data_in}
-use Rattle.t_terms.specs.Names.{Labels, named_by, or_first, spelled, is_among, place_of, bind, insert_reg, type_of}
-use Rattle.t_terms.specs.Names.{file_of, fields_of, types_of, base_of, value_of, instr_of, body_of, end_of}
-use Rattle.t_terms.specs.Names.{names_after, names_after_all, labels_of, block_of, datum_of, data_of, program_of}
-use Rattle.t_terms.specs.NameFaults.{only_if, type_faults, regs_faults, fields_faults, types_faults, base_faults}
-use Rattle.t_terms.specs.NameFaults.{value_faults, instr_faults, body_faults, end_faults, block_faults, datum_faults}
-use Rattle.t_terms.specs.NameFaults.{data_faults, items_faults, program_faults}
-use Rattle.t_terms.proofs.ItemLaws.{IsTarget, labels_named, no_register}
+use Rattle.t_text.specs.Raw.{RawTy, RInt, RName, RCode, RSome, RTuple, RawRegs, NoRawRegs, MoreRawRegs, RawFields}
+use Rattle.t_text.specs.Raw.{NoRawFields, MoreRawFields, RawBase, RReg, RNum, RLabel, RawValue, RPlain, RPack, RawInstr}
+use Rattle.t_text.specs.Raw.{RArith, RBnz, RLd, RMalloc, RMov, RSt, RUnpack, RawEnd, RJmp, RHalt, RawBlock, RawDatum}
+use Rattle.t_text.specs.Raw.{RawItem, BlockItem, DataItem, blocks_in, data_in}
+use Rattle.t_text.specs.Names.{Labels, named_by, or_first, spelled, is_among, place_of, bind, insert_reg, type_of}
+use Rattle.t_text.specs.Names.{file_of, fields_of, types_of, base_of, value_of, instr_of, body_of, end_of, names_after}
+use Rattle.t_text.specs.Names.{names_after_all, labels_of, block_of, datum_of, data_of, program_of}
+use Rattle.t_text.specs.NameFaults.{only_if, type_faults, regs_faults, fields_faults, types_faults, base_faults}
+use Rattle.t_text.specs.NameFaults.{value_faults, instr_faults, body_faults, end_faults, block_faults, datum_faults}
+use Rattle.t_text.specs.NameFaults.{data_faults, items_faults, program_faults}
+use Rattle.t_text.proofs.ItemLaws.{IsTarget, labels_named, no_register}
 use Rattle.t_reader.specs.Resolve.{IsShape}
 use Rattle.t_reader.proofs.Fitting.{FitsTy, FitsRegs, FitsFields, FitsTys, FitsBase, FitsValue, FitsInstr, after_raw}
 use Rattle.t_reader.proofs.Fitting.{after_steps, FitsSteps, FitsEnd, FitsBlock, FitsDatum, FitsData, FitsItems}

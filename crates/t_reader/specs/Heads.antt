@@ -1,13 +1,13 @@
 -- The heads of items, and the labels that they give.
 use Rattle.std.specs.Prelude.{◌≡◌, ℕ, suc, List, [], ◌∷◌, map}
-use Rattle.t_terms.specs.declared.token.Token.{Token}
+use Rattle.t_text.specs.declared.token.Token.{Token}
 use Rattle.t_terms.specs.declared.block.Block.{Block}
 use Rattle.t_terms.specs.declared.data.Data as heap_of
 use Rattle.t_terms.specs.Tree.{Label, Data}
 use Rattle.t_terms.specs.Read.{spanned_parts}
-use Rattle.t_terms.specs.Raw.{RawItem, BlockItem, DataItem}
-use Rattle.t_terms.specs.Names.{Labels, spelled, program_of}
-use Rattle.t_terms.specs.NameFaults.{program_faults}
+use Rattle.t_text.specs.Raw.{RawItem, BlockItem, DataItem}
+use Rattle.t_text.specs.Names.{Labels, spelled, program_of}
+use Rattle.t_text.specs.NameFaults.{program_faults}
 use Rattle.t_shapes.specs.Reads.{AreProgram}
 use Rattle.t_reader.specs.declared.heads.Head.{Head}
 use Rattle.t_reader.specs.declared.heads.Head.TheVariants as H

@@ -4,7 +4,7 @@ use Rattle.std.specs.Borrow.{Bor}
 use Rattle.idx_core.specs.Names.{Name}
 use Rattle.indexmap.specs.IndexMap.{IndexMap, get_by}
 use Rattle.t_terms.specs.Tree.{TBase, Label, Data}
-use Rattle.t_terms.specs.Names.{Labels, named_by}
+use Rattle.t_text.specs.Names.{Labels, named_by}
 use Rattle.t_reader.specs.declared.target.Target.{Target}
 use Rattle.t_reader.specs.declared.target.Target.TheVariants as T
 

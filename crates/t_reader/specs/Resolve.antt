@@ -7,18 +7,18 @@ use Rattle.idx_core.specs.Names.{Name}
 use Rattle.text_core.specs.Shapes.{NonePasses}
 use Rattle.t_types.specs.WellFormed.{max_number}
 use Rattle.t_types.specs.declared.types.TType.{TType}
-use Rattle.t_terms.specs.declared.token.Token.{Token}
+use Rattle.t_text.specs.declared.token.Token.{Token}
 use Rattle.t_terms.specs.declared.fault.TCode.{TCode}
 use Rattle.t_terms.specs.declared.fault.TCode.TheVariants.{T04}
 use Rattle.t_terms.specs.declared.fault.TFault.{TFault}
 use Rattle.t_terms.specs.declared.fault.TFault.TheVariants.{Memory, Refused}
-use Rattle.t_terms.specs.Tokens.{IsCut}
+use Rattle.t_text.specs.Tokens.{IsCut}
 use Rattle.t_terms.specs.Tree.{TBase, Label, Data}
-use Rattle.t_terms.specs.Raw.{RawBlock, RawData, RawItem, BlockItem, DataItem, item_name}
-use Rattle.t_terms.specs.Grammar.{Program, assembly_grammar}
-use Rattle.t_terms.specs.Names.{Labels, spelled, is_among, place_of, named_by}
-use Rattle.t_terms.specs.NameFaults.{only_if, item_faults}
-use Rattle.t_terms.specs.Text.{most_open}
+use Rattle.t_text.specs.Raw.{RawBlock, RawData, RawItem, BlockItem, DataItem, item_name}
+use Rattle.t_text.specs.Grammar.{Program, assembly_grammar}
+use Rattle.t_text.specs.Names.{Labels, spelled, is_among, place_of, named_by}
+use Rattle.t_text.specs.NameFaults.{only_if, item_faults}
+use Rattle.t_text.specs.Text.{most_open}
 use Rattle.t_reader.specs.Labelled.{is_target}
 
 -- the first of the faults in the order of the text, or want of memory

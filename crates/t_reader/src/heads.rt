@@ -10,7 +10,8 @@ use std::alloc::Global;
 use t_grammar::{peek, take};
 use t_lexer::Tokens;
 use t_shapes::RawItem;
-use t_terms::{Kind, TFault, Wanted};
+use t_terms::TFault;
+use t_text::{Kind, Wanted};
 
 /// What an item begins as: a block or a data tuple, with the place of its label.
 #[derive(Clone, Copy, Debug, Drop)]

@@ -1,6 +1,6 @@
 // The labels of a text, and the blocks and data tuples that they name.
 ghost use Rattle.std.specs.Prelude.{◌≡◌, [], ◌∷◌, ◌++◌, MatchResult};
-ghost use Rattle.t_terms.specs.Names.{Labels as LabelList, labels_of};
+ghost use Rattle.t_text.specs.Names.{Labels as LabelList, labels_of};
 ghost use Rattle.t_terms.specs.declared.fault.TFault.TheVariants as fault;
 ghost use Rattle.t_shapes.specs.Raw.{raw_items};
 ghost use Rattle.t_reader.specs.Heads.{head_labels};
@@ -24,7 +24,7 @@ pub struct Labels<'a> {
 }
 
 impl<'a> Model for Labels<'a> {
-    ghost use Rattle.t_terms.specs.Names.{Labels as LabelList};
+    ghost use Rattle.t_text.specs.Names.{Labels as LabelList};
     ghost use Rattle.t_reader.specs.Labelled.{labels_in_map};
 
     ghost Value = { LabelList };

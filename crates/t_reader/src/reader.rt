@@ -6,14 +6,14 @@ ghost use Rattle.t_terms.specs.declared.fault.TFault.TheVariants as fault;
 ghost use Rattle.t_terms.specs.Spanned.{SProg};
 ghost use Rattle.t_terms.specs.Read.{spanned, spanned_data, spanned_parts};
 ghost use Rattle.t_terms.specs.ReadProgram.{spanned_program};
-ghost use Rattle.t_terms.specs.Text.{ReadsAs, FirstFault, IsFirstFault};
-ghost use Rattle.t_terms.specs.Names.{program_of, block_of, data_of};
-ghost use Rattle.t_terms.specs.NameFaults.{program_faults};
+ghost use Rattle.t_text.specs.Text.{ReadsAs, FirstFault, IsFirstFault};
+ghost use Rattle.t_text.specs.Names.{program_of, block_of, data_of};
+ghost use Rattle.t_text.specs.NameFaults.{program_faults};
 ghost use Rattle.t_lexer.specs.Kept.{tokens_of};
 ghost use Rattle.t_shapes.specs.Raw.{raw_block, raw_data, raw_item, raw_items};
 ghost use Rattle.t_shapes.specs.Reads.{AreProgram, HasRead};
-ghost use Rattle.t_terms.specs.Raw as tree;
-ghost use Rattle.t_terms.specs.Tokens.{IsCut};
+ghost use Rattle.t_text.specs.Raw as tree;
+ghost use Rattle.t_text.specs.Tokens.{IsCut};
 ghost use Rattle.t_reader.specs.Heads.{head_labels, AreParts};
 ghost use Rattle.t_reader.specs.Labelled.{target_base, same_base, NameTheSame};
 ghost use Rattle.t_reader.specs.Resolve.{StopsAt, place_at, stands_before};
@@ -30,10 +30,8 @@ use std::alloc::Global;
 use t_grammar::{Stopped, peek};
 use t_lexer::{Tokens, tokens};
 use t_shapes::{RawBlock, RawData, RawItem, SoFar, Turn, begin, is_all, next_item, program};
-use t_terms::{
-    Block, Data, TCode, TFault, TProgram, at_most_one_fault, at_most_one_program,
-    no_fault_where_read,
-};
+use t_terms::{Block, Data, TCode, TFault, TProgram};
+use t_text::{at_most_one_fault, at_most_one_program, no_fault_where_read};
 
 // the blocks and the data of a text, each in the order of the text
 #[derive(Drop)]

@@ -2,10 +2,10 @@
 ghost use Rattle.std.specs.Prelude.{◌≡◌, List, [], map, MatchResult};
 ghost use Rattle.t_types.specs.Read.{tree};
 ghost use Rattle.t_terms.specs.Tree.{Pack};
-ghost use Rattle.t_terms.specs.Names.{base_of, value_of, instr_of, body_of, end_of, block_of, datum_of, data_of};
-ghost use Rattle.t_terms.specs.Names.{names_after, names_after_all};
-ghost use Rattle.t_terms.specs.NameFaults.{base_faults, value_faults, instr_faults, body_faults, end_faults};
-ghost use Rattle.t_terms.specs.NameFaults.{block_faults, datum_faults, data_faults};
+ghost use Rattle.t_text.specs.Names.{base_of, value_of, instr_of, body_of, end_of, block_of, datum_of, data_of};
+ghost use Rattle.t_text.specs.Names.{names_after, names_after_all};
+ghost use Rattle.t_text.specs.NameFaults.{base_faults, value_faults, instr_faults, body_faults, end_faults};
+ghost use Rattle.t_text.specs.NameFaults.{block_faults, datum_faults, data_faults};
 ghost use Rattle.t_terms.specs.Read as read;
 ghost use Rattle.t_shapes.specs.Raw.{raw_base, raw_value, raw_pack, raw_instr, raw_step, raw_end};
 ghost use Rattle.t_shapes.specs.Raw.{raw_block, raw_datum, raw_data};

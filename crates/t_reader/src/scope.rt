@@ -1,7 +1,7 @@
 // Type names in scope.
 ghost use Rattle.std.specs.Prelude.{◌≡◌, [], ◌∷◌, drop, OnOk, OnErr, Err};
 ghost use Rattle.indexmap.specs.IndexMap.{IsEmpty};
-ghost use Rattle.t_terms.specs.Names.{spelled, bind};
+ghost use Rattle.t_text.specs.Names.{spelled, bind};
 ghost use Rattle.t_reader.specs.Resolve.{IsFound};
 ghost use Rattle.idx_core.specs.Levels.{level_of};
 ghost use Rattle.t_terms.specs.declared.fault.TFault.TheVariants as fault;

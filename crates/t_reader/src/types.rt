@@ -3,9 +3,9 @@ ghost use Rattle.std.specs.Prelude.{◌≡◌, ◌≤◌, List, [], map, length,
 ghost use Rattle.t_types.specs.Tree.{ExistsTy};
 ghost use Rattle.t_types.specs.declared.types.TType.TheVariants as ttype;
 ghost use Rattle.t_types.specs.Read.{tree, types, file};
-ghost use Rattle.t_terms.specs.Raw.{raw_regs, raw_fields};
-ghost use Rattle.t_terms.specs.Names.{type_of, types_of, file_of};
-ghost use Rattle.t_terms.specs.NameFaults.{type_faults, types_faults, regs_faults};
+ghost use Rattle.t_text.specs.Raw.{raw_regs, raw_fields};
+ghost use Rattle.t_text.specs.Names.{type_of, types_of, file_of};
+ghost use Rattle.t_text.specs.NameFaults.{type_faults, types_faults, regs_faults};
 ghost use Rattle.t_grammar.specs.Raw.{raw, raw_reg};
 ghost use Rattle.t_reader.specs.Resolve.{StopsAt, has};
 ghost use Rattle.t_terms.specs.declared.fault.TFault.TheVariants as fault;

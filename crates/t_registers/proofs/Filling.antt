@@ -12,11 +12,11 @@ use Rattle.t_intern.specs.Marks.{has, marked}
 use Rattle.t_intern.specs.Nodes.{at}
 use Rattle.t_registers.specs.declared.registers.Entry.{Entry}
 use Rattle.t_registers.specs.declared.registers.Registers.{Registers}
-use Rattle.t_registers.specs.Bounds.{Bounded}
+use Rattle.t_types.specs.Bounds.{Bounded}
 use Rattle.t_registers.specs.Known.{own, seen, known, IsSound, IsFound, IsSet, IsTupleWith, HasField, IsFilled}
 use Rattle.t_intern.proofs.Growing.{grown_at, grown_length}
 use Rattle.t_registers.specs.Marks.{marks}
-use Rattle.t_registers.proofs.Depth.{filled_shallow}
+use Rattle.t_rules.proofs.Depth.{filled_shallow}
 use Rattle.t_registers.proofs.Sets.{unmarked_tuple, marked_filled}
 use Rattle.t_registers.proofs.Noting.{set_known, set_sound, known_grown, sound_grown}
 use Rattle.t_registers.proofs.Tuples.{tuple_back, filled_shift}

@@ -18,10 +18,10 @@ use Rattle.t_intern.proofs.Growing.{grown_length, grown_at}
 use Rattle.t_registers.specs.declared.registers.Entry.{Entry}
 use Rattle.t_registers.specs.declared.registers.Moment.{Moment}
 use Rattle.t_registers.specs.declared.registers.Registers.{Registers}
-use Rattle.t_registers.specs.Bounds.{Bounded}
+use Rattle.t_types.specs.Bounds.{Bounded}
 use Rattle.t_registers.specs.Known.{own, seen, entry_of, known, IsEntry, IsSound, IsFound, IsSet, IsNoted, IsOfBlock}
 use Rattle.t_registers.specs.Known.{IsEmpty}
-use Rattle.t_registers.proofs.Depth.{shallow, bounded}
+use Rattle.t_rules.proofs.Depth.{shallow, bounded}
 use Rattle.t_registers.proofs.Fitted.{fitted_same, fitted_set, fitted_bound}
 use Rattle.t_registers.proofs.Sets.{marks_grown, own_marks_grown}
 

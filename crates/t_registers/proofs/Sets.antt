@@ -12,6 +12,8 @@ use Rattle.t_intern.specs.Marks.{branch, none, has, marked_fields, marked}
 use Rattle.t_intern.specs.Nodes.{at, fields_at, FieldsBelow}
 use Rattle.t_intern.proofs.Growing.{grown_at, grown_length}
 use Rattle.t_registers.specs.Marks.{IsOpened, IsWith, marks, IsMarks, with_marks, marked_list}
+use Rattle.std.proofs.Math.Bool.{or-false as or_none}
+use Rattle.idx_core.proofs.Bools.{or_true}
 
 -- a set's parts, looked up
 module _ (here : Bool) (left right : ℕ → Bool) where
@@ -141,14 +143,6 @@ module _ (ts us ws : List Ty) (set : ℕ) (left right : ℕ) (here : Bool) (p m 
       )
 
 -- fields that are marked
-or_none : (b : Bool) → (b || false) ≡ b
-or_none true = refl
-or_none false = refl
-
-pub or_true : (b : Bool) → (b || true) ≡ true
-or_true true = refl
-or_true false = refl
-
 pub marked_none : (p : ℕ) (fs : TFields) → marked_fields none p fs ≡ fs
 marked_none p NoFields = refl
 marked_none p (MoreFields t flag fs) =

@@ -9,7 +9,7 @@ use Rattle.t_types.specs.Fields.{AField, field, filled}
 use Rattle.t_types.specs.WellFormed.{max_names}
 use Rattle.t_rules.specs.Registers.{with_reg}
 use Rattle.t_intern.specs.Nodes.{at}
-use Rattle.t_registers.specs.Bounds.{Bounded}
+use Rattle.t_types.specs.Bounds.{Bounded}
 use Rattle.t_registers.specs.Fitted.{Rises, FitsBut}
 use Rattle.t_registers.specs.Marks.{with_marks, IsMarks}
 use Rattle.t_registers.specs.declared.registers.Entry.{Entry}

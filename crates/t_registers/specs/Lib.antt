@@ -1,4 +1,3 @@
-pub mod Bounds
 pub mod Fitted
 pub mod Known
 pub mod Labels

@@ -5,7 +5,7 @@ ghost use Rattle.t_types.specs.WellFormed.{max_names, max_number, WellFormedFile
 ghost use Rattle.t_rules.specs.Registers.{raised};
 ghost use Rattle.t_intern.specs.Grown.{Grown, IsNumber};
 ghost use Rattle.t_intern.specs.Nodes.{at, regs_at, RegsBelow};
-ghost use Rattle.t_registers.specs.Bounds.{Bounded};
+ghost use Rattle.t_types.specs.Bounds.{Bounded};
 ghost use Rattle.t_registers.specs.Known.{seen, entry_of, known, IsSound, IsEmpty, IsEntry, IsFound, IsOfBlock};
 ghost use Rattle.t_registers.specs.Known.{IsNoted, IsFilled, IsSet, HasField};
 ghost use Rattle.t_registers.specs.Tells.{TellsFit};

@@ -17,6 +17,7 @@ use Rattle.t_terms.specs.Tree.{St, Unpack, TEnd, Jmp, Halt, TSeq, Then, Ends, TB
 use Rattle.t_terms.specs.Tree.{over_instr, over_end, over_seq, put_seq, names_after}
 use Rattle.t_rules.specs.Registers.{with_reg, raised, inst_file, inst_seq, inst_known}
 use Rattle.t_rules.specs.Rules.{label_type, data_type, BaseHas, Has, Enters, Typed, EndTyped, SeqAccepted}
+use Rattle.t_terms.proofs.BodyWalks.{names_grow}
 
 pub over_length : (f : ℕ → ℕ → Ty) (d : ℕ) (ts : List Ty) → length (over_types f d ts) ≡ length ts
 over_length f d [] = refl
@@ -67,9 +68,6 @@ names_over f (Malloc rd ts) d e = refl
 names_over f (Mov rd v) d e = refl
 names_over f (St rd i rs) d e = refl
 names_over f (Unpack rd v) d e = refl
-
-names_grow : (i : TInstr) (d : ℕ) → d ≤ names_after i d
-names_grow i d = omega (arith, names_more i d)
 
 names_up : (i : TInstr) (d : ℕ) → names_after i (d + 1) ≡ names_after i d + 1
 names_up i d = omega (arith, names_more i d, names_more i (d + 1))

@@ -26,10 +26,10 @@ use Rattle.text_core.proofs.Refusals.{Settles, holds, comes, refused, settle_che
 use Rattle.text_core.proofs.Refusals.{settle_map}
 use Rattle.t_rules.proofs.Forms.{settle_code, settle_exists, settle_tuple, settle_field}
 
-abbrev Decided : Type 0 → Type 0
+abbrev pub Decided : Type 0 → Type 0
 Decided A = A ⊎ (A → ⊥)
 
-by_equal : {A B : Type 0} → Decided A → (A → B) → ((A → ⊥) → B → ⊥) → Decided B
+pub by_equal : {A B : Type 0} → Decided A → (A → B) → ((A → ⊥) → B → ⊥) → Decided B
 by_equal (inl x) f g = inl (f x)
 by_equal (inr x) f g = inr (g x)
 
@@ -144,7 +144,7 @@ as_tuples (VarTy i) u = inr (λ h. let e = h.2 in cc)
 as_tuples (CodeTy n f) u = inr (λ h. let e = h.2 in cc)
 as_tuples (ExistsTy t) u = inr (λ h. let e = h.2 in cc)
 
-fits : (t u : Ty) → Decided (Fits t u)
+pub fits : (t u : Ty) → Decided (Fits t u)
 fits t u = by_same (ty_same t u) (as_tuples t u)
   where
     by_same : Decided (t ≡ u) → Decided (FitAsTuples t u) → Decided (Fits t u)
@@ -164,7 +164,7 @@ fits_file g (MoreRegs r t file) =
         differ (subst (λ z. Fits z t) e h.2))
 
 -- what is in range is there
-there : {A : Type 0} (xs : List A) (i : ℕ) → i < length xs → (x : A) × (slice_get xs i ≡ Some x)
+pub there : {A : Type 0} (xs : List A) (i : ℕ) → i < length xs → (x : A) × (slice_get xs i ≡ Some x)
 there [] i lt = absurd (omega (arith, lt))
 there (x ∷ xs) zero lt = (x, refl)
 there (x ∷ xs) (suc i) lt = there xs i (omega (arith, lt))

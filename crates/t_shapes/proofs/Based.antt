@@ -4,12 +4,12 @@ use Rattle.std.proofs.Common.{true}
 use Rattle.std.proofs.lemmas.Option.{slice_get_within}
 use Rattle.std.proofs.lemmas.List.{map-append}
 use Rattle.text_core.specs.Table.{Nt, Do, Mark}
-use Rattle.t_terms.specs.declared.token.Token.{Token}
-use Rattle.t_terms.specs.declared.wanted.Wanted.TheVariants as want
-use Rattle.t_terms.specs.Raw.{RawTy, RPlain, ending}
-use Rattle.t_terms.specs.GrammarTable.{LV, LArgs, LSomeTypes, LTypeList, MakeNoTypes, MakeBase, MakeApply, base_of}
-use Rattle.t_terms.specs.GrammarTable.{OfToken, OfValue, OfList}
-use Rattle.t_terms.specs.Text.{most_open}
+use Rattle.t_text.specs.declared.token.Token.{Token}
+use Rattle.t_text.specs.declared.wanted.Wanted.TheVariants as want
+use Rattle.t_text.specs.Raw.{RawTy, RPlain, ending}
+use Rattle.t_text.specs.GrammarTable.{LV, LArgs, LSomeTypes, LTypeList, MakeNoTypes, MakeBase, MakeApply, base_of}
+use Rattle.t_text.specs.GrammarTable.{OfToken, OfValue, OfList}
+use Rattle.t_text.specs.Text.{most_open}
 use Rattle.t_grammar.specs.declared.raw.RawType.{RawType}
 use Rattle.t_grammar.specs.declared.cursor.Stopped.{Stopped}
 use Rattle.t_grammar.specs.declared.cursor.Stopped.TheVariants.{TooDeep}

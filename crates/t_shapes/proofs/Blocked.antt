@@ -7,13 +7,13 @@ use Rattle.idx_core.specs.declared.span.Span.{Span}
 use Rattle.text_core.specs.Table.{Tm, Nt, Do}
 use Rattle.text_core.specs.Going.{Lacks, at_the_end, other}
 use Rattle.text_core.proofs.Going as step
-use Rattle.t_terms.specs.declared.token.Token.{Token}
-use Rattle.t_terms.specs.declared.wanted.Wanted.TheVariants as want
-use Rattle.t_terms.specs.Raw as tree
-use Rattle.t_terms.specs.Raw.{BlockItem, block_items}
-use Rattle.t_terms.specs.GrammarTable.{table, Stack, Val, LI, LMoreSteps, LBlock, LMoreBlocks, MakeNextBlock}
-use Rattle.t_terms.specs.GrammarTable.{instr_after, steps_tail, block_owed, blocks_tail}
-use Rattle.t_terms.specs.Text.{most_open}
+use Rattle.t_text.specs.declared.token.Token.{Token}
+use Rattle.t_text.specs.declared.wanted.Wanted.TheVariants as want
+use Rattle.t_text.specs.Raw as tree
+use Rattle.t_text.specs.Raw.{BlockItem, block_items}
+use Rattle.t_text.specs.GrammarTable.{table, Stack, Val, LI, LMoreSteps, LBlock, LMoreBlocks, MakeNextBlock}
+use Rattle.t_text.specs.GrammarTable.{instr_after, steps_tail, block_owed, blocks_tail}
+use Rattle.t_text.specs.Text.{most_open}
 use Rattle.t_grammar.specs.Cursor.{Next, Misses}
 use Rattle.t_grammar.proofs.Stepping.{Moves, is_next, is_of, as_token, by_none}
 use Rattle.t_shapes.specs.Raw.{raw_step, raw_block, raw_item, raw_items}

@@ -1,10 +1,10 @@
 -- What stands in brackets of instructions, and a register with a comma.
 use Rattle.std.proofs.Common.{◌≡◌, ℕ, ◌+◌, List, [], ◌∷◌, refl, arith, inr}
 use Rattle.text_core.specs.Table.{Tm, Nt, Do, Mark}
-use Rattle.t_terms.specs.declared.token.Token.{Token}
-use Rattle.t_terms.specs.declared.wanted.Wanted.{Wanted}
-use Rattle.t_terms.specs.declared.wanted.Wanted.TheVariants as want
-use Rattle.t_terms.specs.GrammarTable.{Stack, Val, Line, LTo, MakeTo, LAt, MakeAt, LIndex, OfToken, Act, act}
+use Rattle.t_text.specs.declared.token.Token.{Token}
+use Rattle.t_text.specs.declared.wanted.Wanted.{Wanted}
+use Rattle.t_text.specs.declared.wanted.Wanted.TheVariants as want
+use Rattle.t_text.specs.GrammarTable.{Stack, Val, Line, LTo, MakeTo, LAt, MakeAt, LIndex, OfToken, Act, act}
 use Rattle.t_grammar.specs.declared.cursor.Stopped.{Stopped}
 use Rattle.t_grammar.specs.Reads.{Reads, Fails}
 use Rattle.t_grammar.specs.Cursor.{Next, IsMissed, TwoMissed}

@@ -9,16 +9,16 @@ use Rattle.text_core.specs.Table.{Tm, Nt, Do, Mark, Fine, bounded, whole, marks}
 use Rattle.text_core.specs.Table as table_of
 use Rattle.text_core.specs.Going.{verdict, next_of}
 use Rattle.text_core.proofs.Going as step
-use Rattle.t_terms.specs.declared.token.Token.{Token}
-use Rattle.t_terms.specs.declared.token.Kind.TheVariants as k
-use Rattle.t_terms.specs.declared.wanted.Wanted.{Wanted}
-use Rattle.t_terms.specs.declared.wanted.Wanted.TheVariants as want
-use Rattle.t_terms.specs.Raw as tree
-use Rattle.t_terms.specs.GrammarTable.{table, Stack, Val, LProgram, LHeader, LTuple, LDatums, LSomeItems, LMoreItems}
-use Rattle.t_terms.specs.GrammarTable.{LFirst, LItem, MakeTuple, MakeBlock, MakeBlockItem, MakeNextItem, MakeHeaded}
-use Rattle.t_terms.specs.GrammarTable.{MakeProgram, OfToken, OfEnd, OfSteps, OfFile, OfNames, OfBlock, OfItem, OfItems}
-use Rattle.t_terms.specs.GrammarTable.{items_tail, blocks_owed, items_owed, header_after}
-use Rattle.t_terms.specs.Text.{most_open}
+use Rattle.t_text.specs.declared.token.Token.{Token}
+use Rattle.t_text.specs.declared.token.Kind.TheVariants as k
+use Rattle.t_text.specs.declared.wanted.Wanted.{Wanted}
+use Rattle.t_text.specs.declared.wanted.Wanted.TheVariants as want
+use Rattle.t_text.specs.Raw as tree
+use Rattle.t_text.specs.GrammarTable.{table, Stack, Val, LProgram, LHeader, LTuple, LDatums, LSomeItems, LMoreItems}
+use Rattle.t_text.specs.GrammarTable.{LFirst, LItem, MakeTuple, MakeBlock, MakeBlockItem, MakeNextItem, MakeHeaded}
+use Rattle.t_text.specs.GrammarTable.{MakeProgram, OfToken, OfEnd, OfSteps, OfFile, OfNames, OfBlock, OfItem, OfItems}
+use Rattle.t_text.specs.GrammarTable.{items_tail, blocks_owed, items_owed, header_after}
+use Rattle.t_text.specs.Text.{most_open}
 use Rattle.t_grammar.specs.declared.cursor.Stopped.{Stopped}
 use Rattle.t_grammar.specs.declared.cursor.Stopped.TheVariants.{Memory, Unexpected, TooDeep}
 use Rattle.t_grammar.specs.Reads.{Fails}

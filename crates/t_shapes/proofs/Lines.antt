@@ -2,21 +2,21 @@
 use Rattle.std.proofs.Common.{◌≡◌, ◌≢◌, ℕ, List, [], ◌∷◌, ◌++◌, slice_get, refl, Some, None, true, false, if◌then◌else◌}
 use Rattle.text_core.specs.Table.{Tm, Nt, Do, Mark, then_more}
 use Rattle.text_core.proofs.Going as step
-use Rattle.t_terms.specs.declared.token.Token.{Token}
-use Rattle.t_terms.specs.declared.token.Kind.{Kind}
-use Rattle.t_terms.specs.declared.token.Kind.TheVariants as k
-use Rattle.t_terms.specs.declared.wanted.Wanted.TheVariants as want
-use Rattle.t_terms.specs.GrammarTable.{table, LT, LTypes, LTypeList, LSomeTypes, LMoreTypes, MakeTypes, MakeFirstType}
-use Rattle.t_terms.specs.GrammarTable.{MakeNextType, MakeClosedTypes, MakeNoTypes, LV, LArgs, LPacked, MakeApply}
-use Rattle.t_terms.specs.GrammarTable.{MakePacked, LTo, MakeTo, LAt, MakeAt, LIndex, MakeIndex, LTarget, MakeTarget}
-use Rattle.t_terms.specs.GrammarTable.{LInt, MakeInt, LBlock, LMoreBlocks, LProgram, LHeader, MakeProgram, LW}
-use Rattle.t_terms.specs.GrammarTable.{LWordArgs, LWordPacked, MakeWordApply, MakeWordPacked, LDatums, LMoreDatums}
-use Rattle.t_terms.specs.GrammarTable.{MakeNoDatums, MakeFirstDatum, MakeNextDatum, MakeClosedDatums, LSomeItems}
-use Rattle.t_terms.specs.GrammarTable.{LMoreItems, LFirst, LItem, MakeNextItem, fits, after, type_list_after}
-use Rattle.t_terms.specs.GrammarTable.{some_types_after, types_tail, value_after, base_owed, instr_after, block_owed}
-use Rattle.t_terms.specs.GrammarTable.{blocks_tail, end_after, word_after, word_owed, datums_after, datums_tail}
-use Rattle.t_terms.specs.GrammarTable.{tuple_after, items_tail, item_after}
-use Rattle.t_terms.specs.Text.{most_open}
+use Rattle.t_text.specs.declared.token.Token.{Token}
+use Rattle.t_text.specs.declared.token.Kind.{Kind}
+use Rattle.t_text.specs.declared.token.Kind.TheVariants as k
+use Rattle.t_text.specs.declared.wanted.Wanted.TheVariants as want
+use Rattle.t_text.specs.GrammarTable.{table, LT, LTypes, LTypeList, LSomeTypes, LMoreTypes, MakeTypes, MakeFirstType}
+use Rattle.t_text.specs.GrammarTable.{MakeNextType, MakeClosedTypes, MakeNoTypes, LV, LArgs, LPacked, MakeApply}
+use Rattle.t_text.specs.GrammarTable.{MakePacked, LTo, MakeTo, LAt, MakeAt, LIndex, MakeIndex, LTarget, MakeTarget}
+use Rattle.t_text.specs.GrammarTable.{LInt, MakeInt, LBlock, LMoreBlocks, LProgram, LHeader, MakeProgram, LW, LWordArgs}
+use Rattle.t_text.specs.GrammarTable.{LWordPacked, MakeWordApply, MakeWordPacked, LDatums, LMoreDatums, MakeNoDatums}
+use Rattle.t_text.specs.GrammarTable.{MakeFirstDatum, MakeNextDatum, MakeClosedDatums, LSomeItems, LMoreItems, LFirst}
+use Rattle.t_text.specs.GrammarTable.{LItem, MakeNextItem, fits, after, type_list_after, some_types_after, types_tail}
+use Rattle.t_text.specs.GrammarTable.{value_after, base_owed, instr_after, block_owed, blocks_tail, end_after}
+use Rattle.t_text.specs.GrammarTable.{word_after, word_owed, datums_after, datums_tail, tuple_after, items_tail}
+use Rattle.t_text.specs.GrammarTable.{item_after}
+use Rattle.t_text.specs.Text.{most_open}
 use Rattle.t_grammar.specs.Cursor.{Misses}
 use Rattle.t_grammar.proofs.Stepping.{Moves, not_fits, Opens, ListLine}
 use Rattle.t_shapes.specs.Raw.{is_base, is_word_base}

@@ -2,9 +2,9 @@
 use Rattle.std.proofs.Common.{◌≡◌, ℕ, ◌+◌, List, [], ◌∷◌, slice_get, Result, Ok, Err, Some, arith}
 use Rattle.std.specs.Result.{MatchResult}
 use Rattle.text_core.specs.Table.{Nt, marks}
-use Rattle.t_terms.specs.declared.token.Token.{Token}
-use Rattle.t_terms.specs.GrammarTable.{table, Stack, LI, OfToken, OfStep, instr_after}
-use Rattle.t_terms.specs.Text.{most_open}
+use Rattle.t_text.specs.declared.token.Token.{Token}
+use Rattle.t_text.specs.GrammarTable.{table, Stack, LI, OfToken, OfStep, instr_after}
+use Rattle.t_text.specs.Text.{most_open}
 use Rattle.t_grammar.specs.declared.cursor.Stopped.{Stopped}
 use Rattle.t_grammar.specs.Reads.{Reads, Fails}
 use Rattle.t_grammar.proofs.Stepping.{begins, after_moves}

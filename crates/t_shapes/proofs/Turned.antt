@@ -6,15 +6,15 @@ use Rattle.std.proofs.lemmas.Option.{slice_get_within}
 use Rattle.text_core.specs.Table.{Nt, Do}
 use Rattle.text_core.specs.Going.{next_of}
 use Rattle.text_core.proofs.Going as step
-use Rattle.t_terms.specs.declared.token.Token.{Token}
-use Rattle.t_terms.specs.declared.wanted.Wanted.{Wanted}
-use Rattle.t_terms.specs.declared.wanted.Wanted.TheVariants as want
-use Rattle.t_terms.specs.Raw as tree
-use Rattle.t_terms.specs.Raw.{BlockItem}
-use Rattle.t_terms.specs.GrammarTable.{table, Stack, LHeader, LMoreBlocks, LSomeItems, MakeFirstBlock}
-use Rattle.t_terms.specs.GrammarTable.{MakeNextBlock, MakeNoItems, MakeNextItem, MakeHeaded, MakeProgram}
-use Rattle.t_terms.specs.GrammarTable.{header_after, OfItems, blocks_owed, items_owed}
-use Rattle.t_terms.specs.Text.{most_open}
+use Rattle.t_text.specs.declared.token.Token.{Token}
+use Rattle.t_text.specs.declared.wanted.Wanted.{Wanted}
+use Rattle.t_text.specs.declared.wanted.Wanted.TheVariants as want
+use Rattle.t_text.specs.Raw as tree
+use Rattle.t_text.specs.Raw.{BlockItem}
+use Rattle.t_text.specs.GrammarTable.{table, Stack, LHeader, LMoreBlocks, LSomeItems, MakeFirstBlock, MakeNextBlock}
+use Rattle.t_text.specs.GrammarTable.{MakeNoItems, MakeNextItem, MakeHeaded, MakeProgram, header_after, OfItems}
+use Rattle.t_text.specs.GrammarTable.{blocks_owed, items_owed}
+use Rattle.t_text.specs.Text.{most_open}
 use Rattle.t_grammar.specs.Cursor.{Next, Misses}
 use Rattle.t_grammar.specs.Reads.{ReadsOwed}
 use Rattle.t_grammar.proofs.Stepping.{Moves, start, begins, by_token, by_call, by_do}
@@ -25,7 +25,7 @@ use Rattle.t_shapes.specs.Reads.{version_owed, HasReadAs, ReadsItem, ReadsSomeIt
 use Rattle.t_shapes.specs.Reads.{HasBlocks, AreProgram, some_owed, all_blocks}
 use Rattle.t_shapes.specs.declared.blocks.FoundBlock.{FoundBlock}
 use Rattle.t_shapes.specs.declared.items.FoundItem.{FoundItem}
-use Rattle.t_terms.specs.GrammarTable as g
+use Rattle.t_text.specs.GrammarTable as g
 use Rattle.t_shapes.proofs.Blocked.{as_block, no_more_blocks, items_append}
 use Rattle.t_shapes.proofs.Itemed.{as_item, item_left, no_more, program_goes, all_read}
 

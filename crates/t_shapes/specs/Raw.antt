@@ -1,11 +1,11 @@
 -- The trees of what is read, before names are resolved.
 use Rattle.std.specs.Prelude.{Bool, true, false, List, map}
 use Rattle.idx_core.specs.declared.span.Span.{Span}
-use Rattle.t_terms.specs.declared.token.Kind.{Kind}
-use Rattle.t_terms.specs.declared.token.Kind.TheVariants as k
-use Rattle.t_terms.specs.Raw as tree
-use Rattle.t_terms.specs.Raw.{RReg, RNum, RLabel, RPlain, RPack, RArith, RBnz, RLd, RMalloc, RMov, RSt, RUnpack, RJmp}
-use Rattle.t_terms.specs.Raw.{RHalt, BlockItem, DataItem}
+use Rattle.t_text.specs.declared.token.Kind.{Kind}
+use Rattle.t_text.specs.declared.token.Kind.TheVariants as k
+use Rattle.t_text.specs.Raw as tree
+use Rattle.t_text.specs.Raw.{RReg, RNum, RLabel, RPlain, RPack, RArith, RBnz, RLd, RMalloc, RMov, RSt, RUnpack, RJmp}
+use Rattle.t_text.specs.Raw.{RHalt, BlockItem, DataItem}
 use Rattle.t_grammar.specs.Raw.{raw, raw_file}
 use Rattle.t_shapes.specs.declared.raw.RawBase.{RawBase}
 use Rattle.t_shapes.specs.declared.raw.RawBase.TheVariants as B

@@ -7,20 +7,19 @@ use Rattle.text_core.specs.Table.{Nt, Tm, Do, Fine, bounded, whole}
 use Rattle.text_core.specs.Table as table_of
 use Rattle.text_core.specs.Going.{Goes, next_of}
 use Rattle.text_core.specs.Going as going
-use Rattle.t_terms.specs.declared.token.Token.{Token}
-use Rattle.t_terms.specs.declared.wanted.Wanted.TheVariants as want
-use Rattle.t_terms.specs.Raw as tree
-use Rattle.t_terms.specs.Raw.{ending, block_items}
-use Rattle.t_terms.specs.Text.{most_open}
-use Rattle.t_terms.specs.GrammarTable.{table, fits, Line, Stack, LTo, LV, LPacked, LAt, LIndex, LTypes, LTypeList}
-use Rattle.t_terms.specs.GrammarTable.{LSomeTypes, LTarget, LInt, LI, LEnd, LBlock, LBinds, LFile, LT, LHeader}
-use Rattle.t_terms.specs.GrammarTable.{LMoreSteps, LMoreBlocks, LW, LWordPacked, LTuple, LDatums, LItem, LSomeItems}
-use Rattle.t_terms.specs.GrammarTable.{LMoreItems, header_after, MakeBnz, MakeLd, MakeMalloc, MakeMov, MakeSt}
-use Rattle.t_terms.specs.GrammarTable.{MakeUnpack}
-use Rattle.t_terms.specs.GrammarTable.{MakeNoSteps, MakeFirstBlock, MakeNoItems, arith_owed, blocks_owed, items_owed}
-use Rattle.t_terms.specs.GrammarTable.{instr_after, OfToken, OfType, OfStep, OfSteps, OfFile, OfNames, OfBlocks, OfList}
-use Rattle.t_terms.specs.GrammarTable.{OfIndex, OfAt, OfTarget, OfPlace, OfReg, OfValue, OfPacked, OfEnd, OfBlock}
-use Rattle.t_terms.specs.GrammarTable.{OfWord, OfTuple, OfItem, OfItems}
+use Rattle.t_text.specs.declared.token.Token.{Token}
+use Rattle.t_text.specs.declared.wanted.Wanted.TheVariants as want
+use Rattle.t_text.specs.Raw as tree
+use Rattle.t_text.specs.Raw.{ending, block_items}
+use Rattle.t_text.specs.Text.{most_open}
+use Rattle.t_text.specs.GrammarTable.{table, fits, Line, Stack, LTo, LV, LPacked, LAt, LIndex, LTypes, LTypeList}
+use Rattle.t_text.specs.GrammarTable.{LSomeTypes, LTarget, LInt, LI, LEnd, LBlock, LBinds, LFile, LT, LHeader}
+use Rattle.t_text.specs.GrammarTable.{LMoreSteps, LMoreBlocks, LW, LWordPacked, LTuple, LDatums, LItem, LSomeItems}
+use Rattle.t_text.specs.GrammarTable.{LMoreItems, header_after, MakeBnz, MakeLd, MakeMalloc, MakeMov, MakeSt}
+use Rattle.t_text.specs.GrammarTable.{MakeUnpack, MakeNoSteps, MakeFirstBlock, MakeNoItems, arith_owed, blocks_owed}
+use Rattle.t_text.specs.GrammarTable.{items_owed, instr_after, OfToken, OfType, OfStep, OfSteps, OfFile, OfNames}
+use Rattle.t_text.specs.GrammarTable.{OfBlocks, OfList, OfIndex, OfAt, OfTarget, OfPlace, OfReg, OfValue, OfPacked}
+use Rattle.t_text.specs.GrammarTable.{OfEnd, OfBlock, OfWord, OfTuple, OfItem, OfItems}
 use Rattle.t_grammar.specs.Raw.{raw, raw_file}
 use Rattle.t_grammar.specs.Reads.{ReadsOwed, Fails, IsLine}
 use Rattle.t_grammar.specs.declared.cursor.Stopped.{Stopped}

@@ -11,7 +11,7 @@ use idx_core::Span;
 use std::alloc::Global;
 use t_grammar::{Stopped, expect, expect_two};
 use t_lexer::Tokens;
-use t_terms::Wanted;
+use t_text::Wanted;
 
 /// Instructions that were read, and the number of the token after them.
 #[derive(Drop)]

@@ -8,7 +8,7 @@ use crate::words::word;
 use std::alloc::Global;
 use t_grammar::{Stopped, expect, peek, take, whole_type};
 use t_lexer::Tokens;
-use t_terms::{Kind, Wanted};
+use t_text::{Kind, Wanted};
 
 /// The fields of a data tuple that were read, and the number of the token after them.
 #[derive(Drop)]

@@ -11,7 +11,7 @@ use idx_core::Span;
 use std::alloc::Global;
 use t_grammar::{Stopped, peek};
 use t_lexer::Tokens;
-use t_terms::Kind;
+use t_text::Kind;
 
 /// The end of a block that was read, with its place, and the number of the token after it.
 #[derive(Drop)]

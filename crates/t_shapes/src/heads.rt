@@ -7,7 +7,7 @@ use idx_core::Span;
 use std::alloc::Global;
 use t_grammar::{RawFile, Stopped, binds, expect, file};
 use t_lexer::Tokens;
-use t_terms::Wanted;
+use t_text::Wanted;
 
 /// What was read of a block before its instructions: its names and its file, and the number of the token after them.
 #[derive(Drop)]

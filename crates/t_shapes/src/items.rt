@@ -1,8 +1,8 @@
 // The reading of items: blocks and data tuples.
 ghost use Rattle.std.specs.Prelude.{◌≡◌, ◌≤◌, ◌||◌, not, length, slice_get, is_some};
 ghost use Rattle.text_core.specs.Going.{next_of};
-ghost use Rattle.t_terms.specs.GrammarTable.{table};
-ghost use Rattle.t_terms.specs.declared.wanted.Wanted.TheVariants as want;
+ghost use Rattle.t_text.specs.GrammarTable.{table};
+ghost use Rattle.t_text.specs.declared.wanted.Wanted.TheVariants as want;
 ghost use Rattle.t_shapes.specs.Raw.{raw_item, is_block};
 ghost use Rattle.t_shapes.specs.Reads.{IsItem, AreItems};
 ghost use Rattle.t_lexer.specs.Kept.{tokens_of};
@@ -13,7 +13,7 @@ use crate::raw::{RawData, RawItem};
 use std::alloc::Global;
 use t_grammar::{Stopped, expect, peek, take};
 use t_lexer::Tokens;
-use t_terms::{Kind, Wanted};
+use t_text::{Kind, Wanted};
 
 /// An item that was read, and the number of the token after it.
 #[derive(Drop)]

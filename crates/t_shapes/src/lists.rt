@@ -1,13 +1,13 @@
 // The reading of lists of types.
 ghost use Rattle.std.specs.Prelude.{◌≤◌, length};
-ghost use Rattle.t_terms.specs.Text.{most_open};
+ghost use Rattle.t_text.specs.Text.{most_open};
 ghost use Rattle.t_shapes.specs.Reads.{IsTypes, IsTypeList, IsSomeTypes};
 ghost use Rattle.t_lexer.specs.Kept.{tokens_of};
 
 use std::alloc::Global;
 use t_grammar::{RawType, Stopped, expect, opened, take, whole_type};
 use t_lexer::Tokens;
-use t_terms::Wanted;
+use t_text::Wanted;
 
 /// Types in brackets that were read, the end of the closing bracket, and the number of the token after it.
 #[derive(Drop)]

@@ -6,7 +6,7 @@ ghost use Rattle.t_lexer.specs.Kept.{tokens_of};
 use idx_core::Span;
 use t_grammar::{Stopped, expect, expect_index, expect_register, expect_two};
 use t_lexer::Tokens;
-use t_terms::Wanted;
+use t_text::Wanted;
 
 /// A number in brackets, and the end of the closing bracket.
 #[derive(Drop)]

@@ -1,6 +1,6 @@
 // The reading of instructions. Around them no construct is open.
 ghost use Rattle.std.specs.Prelude.{◌≡◌, ◌≤◌, ◌<◌, length, slice_get, is_some};
-ghost use Rattle.t_terms.specs.GrammarTable.{instr_after};
+ghost use Rattle.t_text.specs.GrammarTable.{instr_after};
 ghost use Rattle.t_shapes.specs.Reads.{IsRest, IsStep, step_next, arith_left, bnz_left, ld_left, malloc_left, mov_left};
 ghost use Rattle.t_shapes.specs.Reads.{st_left, unpack_left};
 ghost use Rattle.t_lexer.specs.Kept.{tokens_of};
@@ -13,7 +13,7 @@ use idx_core::{Op, Span};
 use std::alloc::Global;
 use t_grammar::{Stopped, expect, expect_register, peek};
 use t_lexer::Tokens;
-use t_terms::{Kind, Token, Wanted};
+use t_text::{Kind, Token, Wanted};
 
 /// An instruction that was read, with its place, and the number of the token after it.
 #[derive(Drop)]

@@ -1,7 +1,7 @@
 // The reading of a program an item at a time.
 ghost use Rattle.std.specs.Prelude.{◌≡◌, List, [], ◌∷◌, ◌++◌, Bool, true, IfSome, IfOk};
 ghost use Rattle.t_lexer.specs.Kept.{tokens_of};
-ghost use Rattle.t_terms.specs.Raw as tree;
+ghost use Rattle.t_text.specs.Raw as tree;
 ghost use Rattle.t_shapes.specs.Raw.{raw_item};
 ghost use Rattle.t_shapes.specs.Reads.{HasReadAs, HasRead, AreProgram};
 ghost use Rattle.t_shapes.specs.declared.whole.Version.TheVariants.{Blocks, Items};
@@ -13,7 +13,7 @@ use crate::whole::{Version, version_of};
 use std::alloc::Global;
 use t_grammar::{Stopped, peek, take};
 use t_lexer::Tokens;
-use t_terms::Wanted;
+use t_text::Wanted;
 
 /// How far a program is read: what its header heads, whether a block was read, and the number of the next token.
 #[derive(Clone, Copy)]

@@ -1,8 +1,8 @@
 // The reading of values.
 ghost use Rattle.std.specs.Prelude.{◌≡◌, ◌≤◌, length, slice_get, Some, true, false, MatchOption, MatchResult};
-ghost use Rattle.t_terms.specs.Raw.{RPack};
-ghost use Rattle.t_terms.specs.GrammarTable.{base_of};
-ghost use Rattle.t_terms.specs.Text.{most_open};
+ghost use Rattle.t_text.specs.Raw.{RPack};
+ghost use Rattle.t_text.specs.GrammarTable.{base_of};
+ghost use Rattle.t_text.specs.Text.{most_open};
 ghost use Rattle.t_grammar.specs.Raw.{raw};
 ghost use Rattle.t_grammar.specs.declared.cursor.Stopped.TheVariants as stopped;
 ghost use Rattle.t_shapes.specs.Raw.{raw_base, raw_value, is_base};
@@ -14,7 +14,7 @@ use crate::raw::{RawBase, RawPack, RawValue};
 use std::alloc::Global;
 use t_grammar::{RawType, Stopped, expect, opened, peek, take, whole_type};
 use t_lexer::Tokens;
-use t_terms::{Kind, Token, Wanted};
+use t_text::{Kind, Token, Wanted};
 
 /// A value that was read, the end of its last token, and the number of the token after it.
 #[derive(Drop)]

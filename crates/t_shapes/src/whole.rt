@@ -1,6 +1,6 @@
 // The reading of programs.
 ghost use Rattle.std.specs.Prelude.{◌≡◌, ◌≤◌, length, MatchResult};
-ghost use Rattle.t_terms.specs.GrammarTable.{header_after};
+ghost use Rattle.t_text.specs.GrammarTable.{header_after};
 ghost use Rattle.t_shapes.specs.Reads.{AreBlocks, version_owed, IsHeaded, IsProgram, IsStop};
 ghost use Rattle.t_lexer.specs.Kept.{tokens_of};
 
@@ -10,7 +10,7 @@ use crate::raw::RawItem;
 use std::alloc::Global;
 use t_grammar::{Stopped, expect, peek, take};
 use t_lexer::Tokens;
-use t_terms::{Kind, Wanted};
+use t_text::{Kind, Wanted};
 
 // Block .. Block, one or more
 fn blocks(alloc: Global, tokens: &Tokens, at: usize) -> Result<FoundItems, Stopped>

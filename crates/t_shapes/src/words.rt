@@ -1,7 +1,7 @@
 // The reading of the values of data.
 ghost use Rattle.std.specs.Prelude.{◌≡◌, ◌≤◌, length, slice_get, Some, true, false, MatchOption};
-ghost use Rattle.t_terms.specs.GrammarTable.{base_of};
-ghost use Rattle.t_terms.specs.Text.{most_open};
+ghost use Rattle.t_text.specs.GrammarTable.{base_of};
+ghost use Rattle.t_text.specs.Text.{most_open};
 ghost use Rattle.t_shapes.specs.Raw.{raw_base, is_word_base};
 ghost use Rattle.t_shapes.specs.Reads.{IsWord, IsWordPacked};
 ghost use Rattle.t_lexer.specs.Kept.{tokens_of};
@@ -14,7 +14,7 @@ use idx_core::Span;
 use std::alloc::Global;
 use t_grammar::{Stopped, expect, opened, peek, take, whole_type};
 use t_lexer::Tokens;
-use t_terms::{Kind, Token, Wanted};
+use t_text::{Kind, Token, Wanted};
 
 /// The value of a data field that was read, with its place, and the number of the token after it.
 #[derive(Drop)]

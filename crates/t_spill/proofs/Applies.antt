@@ -3,7 +3,7 @@ use Rattle.std.proofs.Common.{ℕ, suc, ◌-◌, ◌≤◌, List, ◌∷◌, len
 use Rattle.idx_core.specs.Over.{IsWord, PutFitsAt}
 use Rattle.t_types.specs.Tree.{Ty, TFile, shift, ShiftFits, put_file, each, each_file}
 use Rattle.t_spill.specs.Applying.{CanApply}
-use Rattle.t_spill.proofs.Depth.{shallow, shallow_shift_fits, inst_put, inst_fits}
+use Rattle.t_rules.proofs.Depth.{shallow, shallow_shift_fits, inst_put, inst_fits}
 
 pub record Goes (k : ℕ) (f : TFile) (u : Ty) (us : List Ty) : Type 0 where
   pub some : 1 ≤ k

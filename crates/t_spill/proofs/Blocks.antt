@@ -1,26 +1,15 @@
 -- The blocks and the data of a program, by place.
-use Rattle.std.proofs.Common.{◌≡◌, ℕ, zero, suc, ◌<◌, List, [], ◌∷◌, length, Some, sym, ap, get_or, arith, slice_get}
+use Rattle.std.proofs.Common.{◌≡◌, ℕ, ◌<◌, List, length, sym, ap, get_or, slice_get}
 use Rattle.std.specs.Prelude.{option_map}
 use Rattle.t_types.specs.Tree.{CodeTy, TupleTy}
-use Rattle.t_terms.specs.Read.{block, blocks_of, data_of, spanned_data}
+use Rattle.t_terms.specs.Read.{blocks_of, data_of, spanned_data}
 use Rattle.t_terms.specs.Spanned.{plain_fields}
 use Rattle.t_terms.specs.declared.block.Block.{Block}
 use Rattle.t_terms.specs.declared.data.Data.{Data}
 use Rattle.t_types.specs.Read.{file}
 use Rattle.t_rules.specs.Rules.{label_type, data_type, data_fields}
 use Rattle.spill_law.specs.Spill.{or_int}
-
-block_at : (bs : List Block) (l : ℕ) (x : Block) → l < length bs → x ≡ get_or bs l x →
-    slice_get (blocks_of bs) l ≡ Some (block x)
-block_at [] l x lt is = absurd (omega arith)
-block_at (b ∷ bs) zero x lt is = ap (λ (y : Block). Some (block y)) (sym is)
-block_at (b ∷ bs) (suc l) x lt is = block_at bs l x (omega arith) is
-
-data_at : (xs : List Data) (d : ℕ) (x : Data) → d < length xs → x ≡ get_or xs d x →
-    slice_get (data_of xs) d ≡ Some (plain_fields (spanned_data x).fields)
-data_at [] d x lt is = absurd (omega arith)
-data_at (y ∷ xs) zero x lt is = ap (λ (z : Data). Some (plain_fields (spanned_data z).fields)) (sym is)
-data_at (y ∷ xs) (suc d) x lt is = data_at xs d x (omega arith) is
+use Rattle.t_terms.proofs.Items.{block_at, data_at}
 
 pub label_is : (bs : List Block) (l : ℕ) (x : Block) → l < length bs → x ≡ get_or bs l x →
     CodeTy x.owes (file x.regs.regs.items) ≡ or_int (option_map label_type (slice_get (blocks_of bs) l))

@@ -1,5 +1,5 @@
 -- The types of bases are bounded, and so they may be applied.
-use Rattle.std.proofs.Common.{◌≡◌, ℕ, zero, suc, ◌<◌, ◌==◌, ◌∙◌, arith, cond, Bool, true, false, nat_eq, List, [], ◌∷◌}
+use Rattle.std.proofs.Common.{◌≡◌, ℕ, zero, suc, ◌<◌, arith, cond, Bool, true, false, nat_eq, List, [], ◌∷◌}
 use Rattle.std.proofs.Common.{length, Option, Some, subst, sym, slice_get}
 use Rattle.std.specs.Prelude.{option_map}
 use Rattle.t_types.specs.Tree.{Ty, TFile, NoRegs, MoreRegs}
@@ -9,10 +9,10 @@ use Rattle.t_terms.specs.Tree.{TBase, Reg, Int, Label, Data, Plain, TBlock, TDat
 use Rattle.t_terms.specs.Whole.{WellFormedBlocks, WellFormedHeap, Whole}
 use Rattle.t_rules.specs.Rules.{label_type, data_type}
 use Rattle.spill_law.specs.Spill.{or_int, base_type}
-use Rattle.t_spill.specs.Bounds.{Bounded}
+use Rattle.t_types.specs.Bounds.{Bounded}
 use Rattle.t_spill.specs.Ready.{Typable}
 use Rattle.t_spill.specs.Applying.{MayApply}
-use Rattle.t_spill.proofs.Depth.{shallow, bounded, label_bounded, data_bounded}
+use Rattle.t_rules.proofs.Depth.{shallow, bounded, label_bounded, data_bounded}
 
 reg_case : (n : ℕ) (t : Ty) (b : Bool) (o : Option Ty) → Bounded n t → Bounded n (or_int o) →
     Bounded n (or_int (cond b (Some t) o))
@@ -57,7 +57,3 @@ pub may_apply : (P : TProg) → Whole P → (x : TFile) (b : TBase) (ts : List T
 may_apply P w x b [] t some e h = absurd (omega arith)
 may_apply P w x b (u ∷ us) t some e h =
     let r = h.1 in subst (λ z. MayApply z (u ∷ us)) (sym e) (h.0, r.0, base_bounded P w h.0 x b r.1, r.2.1, r.3)
-
-pub not_empty : (n : ℕ) (b : Bool) → b ≡ (n == 0) → b ≡ false → 0 < n
-not_empty zero b e f = let no : true ≡ false = sym e ∙ f in cc
-not_empty (suc n) b e f = omega arith

@@ -3,7 +3,6 @@ pub mod Beside
 pub mod Blocks
 pub mod Bounding
 pub mod Data
-pub mod Depth
 pub mod Framed
 pub mod Knowing
 pub mod Lasts

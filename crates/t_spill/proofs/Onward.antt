@@ -38,10 +38,6 @@ pub length_front : (xs ys : List ℕ) → length xs ≤ length (xs ++ ys)
 length_front [] ys = omega arith
 length_front (x ∷ xs) ys = let a = length_front xs ys in omega (arith, a)
 
-pub count_numbers : (xs : List (ℕ × TType)) → length (numbers (file xs)) ≡ length xs
-count_numbers [] = refl
-count_numbers (x ∷ xs) = ap suc (count_numbers xs)
-
 -- labels have a next
 value_fits : (p q n : ℕ) (v : TValue) → p < 2 ^ 64 → WellFormedValue p q n v → ValueFits v
 value_fits p q n (Plain (Reg r) ts) few h = tt

@@ -13,12 +13,10 @@ use Rattle.t_terms.specs.declared.value.Value.{Value}
 use Rattle.spill_law.specs.Spill.{sp_block, sp_blocks, sp_datum, sp_data, entry}
 use Rattle.t_frames.specs.Onto.{ValueFits}
 use Rattle.t_spill.specs.Ready.{BlockReady, BlocksReady, DataReady, HeapReady}
+use Rattle.t_terms.proofs.Items.{blocks_more}
+use Rattle.std.proofs.lemmas.List.{append-nil as no_more}
 
 -- blocks
-pub blocks_more : (bs : List Block) (b : Block) → blocks_of (bs ++ b ∷ []) ≡ blocks_of bs ++ block b ∷ []
-blocks_more [] b = refl
-blocks_more (x ∷ bs) b = ap (λ (ys : List TBlock). block x ∷ ys) (blocks_more bs b)
-
 blocks_suc : (m : ℕ) (P : TProg) (bs : List Block) (i : ℕ) (b : Block) → i < length bs → b ≡ get_or bs i b →
     sp_blocks m P (blocks_of (drop i bs)) ≡ sp_block m P (block b) ∷ sp_blocks m P (blocks_of (drop (suc i) bs))
 blocks_suc m P [] i b lt is = absurd (omega arith)
@@ -59,10 +57,6 @@ none_after m P [] zero le = refl
 none_after m P [] (suc i) le = refl
 none_after m P (x ∷ bs) zero le = absurd (omega arith)
 none_after m P (x ∷ bs) (suc i) le = none_after m P bs i (omega arith)
-
-no_more : (xs : List TBlock) → xs ++ [] ≡ xs
-no_more [] = refl
-no_more (x ∷ xs) = ap (λ (zs : List TBlock). x ∷ zs) (no_more xs)
 
 pub all_blocks : (m : ℕ) (P : TProg) (bs made : List Block) (i : ℕ) (all : List TBlock) → length bs ≤ i →
     blocks_of made ++ sp_blocks m P (blocks_of (drop i bs)) ≡ all → blocks_of made ≡ all

@@ -9,7 +9,7 @@ use Rattle.t_types.specs.Read.{tree, file}
 use Rattle.t_types.specs.declared.types.TType.{TType}
 use Rattle.spill_law.specs.Spill.{among, keep, numbers, high_part, with_if}
 use Rattle.spill_law.proofs.Files.{RisesFrom, Ascends, rises_ascends, CaseOf, case_of}
-use Rattle.spill_law.proofs.Live.{Agree, keep_at, ascends_keep}
+use Rattle.spill_law.proofs.Live.{Agree, keep_at, ascends_keep, nothing as no_type, rises_less as less}
 use Rattle.t_frames.specs.Homes.{Lists, Above, Ascending}
 use Rattle.t_frames.specs.Onto.{front}
 use Rattle.t_frames.specs.declared.homes.Homes.{Homes}
@@ -17,10 +17,6 @@ use Rattle.t_spill.specs.Known.{one}
 use Rattle.t_spill.specs.Picking.{wanted, picked_one, picked, Homed}
 
 -- files in order that know the same are the same
-less : (low r : ℕ) (x : TFile) → low < r → RisesFrom r x → RisesFrom low x
-less low r NoRegs lt h = tt
-less low r (MoreRegs q t x) lt h = (omega (arith, lt, h.0), h.1)
-
 none_below : (low : ℕ) (x : TFile) (r : ℕ) → RisesFrom low x → r ≤ low → lookup x r ≡ None
 none_below low NoRegs r h le = refl
 none_below low (MoreRegs q t x) r h le =
@@ -82,10 +78,6 @@ if_above b q t x r o c h same =
     there : (b : Bool) → (q ≡ r → ⊥) → lookup (with_if b q t x) r ≡ lookup x r
     there true ne = look_past q r t x ne
     there false ne = refl
-
-no_type : (b : Bool) (o : Option Ty) → o ≡ None → None ≡ cond b o None
-no_type true o e = sym e
-no_type false o e = refl
 
 pub look_high : (m : ℕ) (x : TFile) (r : ℕ) → lookup (high_part m x) r ≡ cond (nat_lt m r) (lookup x r) None
 look_high m NoRegs r = no_type (nat_lt m r) None refl

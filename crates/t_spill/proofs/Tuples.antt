@@ -1,5 +1,5 @@
 -- Fields made one by one.
-use Rattle.std.proofs.Common.{◌≡◌, ℕ, zero, suc, ◌+◌, ◌<◌, ◌≤◌, ◌==◌, Bool, true, false, List, [], ◌∷◌, ◌++◌, map}
+use Rattle.std.proofs.Common.{◌≡◌, ℕ, zero, suc, ◌+◌, ◌<◌, ◌≤◌, ◌==◌, Bool, false, List, [], ◌∷◌, ◌++◌, map}
 use Rattle.std.proofs.Common.{refl, sym, ap, ap₂, ◌∙◌, take, drop, length, get_or, arith}
 use Rattle.std.specs.Prelude.{◌||◌}
 use Rattle.std.proofs.lemmas.List.{take_all, drop_all}
@@ -9,6 +9,8 @@ use Rattle.t_types.specs.Tree.{Ty, IntTy, MoreFields, flagged}
 use Rattle.t_types.specs.Fields.{field, filled, empty_fields}
 use Rattle.t_types.specs.Read.{tree, flag, fields, types}
 use Rattle.spill_law.specs.Spill.{type_in}
+use Rattle.std.proofs.Math.Bool.{or-false as or_false}
+use Rattle.idx_core.proofs.Bools.{or_true}
 
 abbrev pub empty_flag : TType → Ty × Bool
 empty_flag t = (tree t, false)
@@ -26,14 +28,6 @@ made_empty ys ts n done all =
 abbrev pub marked : List (TType × Bool) → ℕ → ℕ → List (Ty × Bool)
 marked [] j i = []
 marked (x ∷ xs) j i = (tree x.0, x.1 || (j == i)) ∷ marked xs (j + 1) i
-
-or_false : (b : Bool) → (b || false) ≡ b
-or_false true = refl
-or_false false = refl
-
-or_true : (b : Bool) → (b || true) ≡ true
-or_true true = refl
-or_true false = refl
 
 passed : (xs : List (TType × Bool)) (j i : ℕ) → i < j → flagged (marked xs j i) ≡ fields xs
 passed [] j i lt = refl

@@ -2,7 +2,7 @@
 use Rattle.std.specs.Prelude.{ℕ, ◌≤◌, List, length}
 use Rattle.t_types.specs.Tree.{Ty, TFile}
 use Rattle.t_types.specs.WellFormed.{max_names, WellFormedTypes}
-use Rattle.t_spill.specs.Bounds.{OwedFile, Bounded}
+use Rattle.t_types.specs.Bounds.{OwedFile, Bounded}
 use Rattle.t_spill.specs.Ready.{Enough}
 
 abbrev pub CanApply : ℕ → TFile → List Ty → Type 0

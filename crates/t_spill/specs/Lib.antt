@@ -1,5 +1,4 @@
 pub mod Applying
-pub mod Bounds
 pub mod Finishing
 pub mod Known
 pub mod Moving

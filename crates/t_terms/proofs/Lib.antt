@@ -1,15 +1,4 @@
-mod DataRows
 mod ProgramRows
-mod TextRows
 pub mod Blocks
 pub mod BodyWalks
-pub mod Complete
-pub mod Filling
-pub mod Instance
-pub mod ItemLaws
-pub mod Nested
-pub mod TableLines
-pub mod TableRows
-pub mod TextExact
-pub mod TokenLaws
-pub mod Worked
+pub mod Items

@@ -1,16 +1,9 @@
-pub mod Grammar
-pub mod GrammarTable
 pub mod Laws
-pub mod NameFaults
-pub mod Names
 pub mod Nesting
-pub mod Raw
 pub mod Read
 pub mod ReadProgram
 pub mod Spanned
 pub mod SpannedLaws
-pub mod Text
-pub mod Tokens
 pub mod Tree
 pub mod TreeLaws
 pub mod Whole

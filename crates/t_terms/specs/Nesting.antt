@@ -1,13 +1,10 @@
 -- How many constructs are open at once in the text of a program, whatever text stands for it: brackets `<`, `[` and `{`
 -- up to their closing ones, and `some` up to the end of its type.
-use Rattle.std.specs.Prelude.{◌≡◌, ◌≤◌, ◌↔◌, ℕ, ◌+◌, max, List, [], ◌∷◌}
+use Rattle.std.specs.Prelude.{ℕ, ◌+◌, max, List, [], ◌∷◌}
 use Rattle.t_types.specs.Tree.{Ty, IntTy, VarTy, CodeTy, ExistsTy, TupleTy, TFile, NoRegs, MoreRegs, TFields, NoFields}
 use Rattle.t_types.specs.Tree.{MoreFields}
 use Rattle.t_terms.specs.Tree.{TValue, Plain, Pack, TInstr, Arith, Bnz, Ld, Malloc, Mov, St, Unpack, TEnd, Jmp, Halt}
 use Rattle.t_terms.specs.Tree.{TSeq, Then, Ends, TBlock, TDatum, TData, TProg}
-use Rattle.t_terms.specs.Spanned.{SProg, plain_program}
-use Rattle.t_terms.specs.Grammar.{open_Program}
-use Rattle.t_terms.specs.Text.{most_open, Stands, StandsFor, KeepsLimit}
 
 abbrev mutual
   pub type_nesting : Ty → ℕ
@@ -75,18 +72,6 @@ heap_nesting (x ∷ xs) = max (1 + data_nesting x) (heap_nesting xs)
 abbrev pub nesting : TProg → ℕ
 nesting P = max (blocks_nesting P.blocks) (heap_nesting P.heap)
 
--- the greatest number of a list
-abbrev pub greatest : List ℕ → ℕ
-greatest [] = 0
-greatest (n ∷ ns) = max n (greatest ns)
-
--- The laws.
-
--- the nesting of a program is the greatest number of constructs that are open at a token of a text that stands for it
-abbrev pub CountsOpen : Type 0
-CountsOpen = (text : List ℕ) (P : SProg) (s : Stands text P) →
-    greatest (open_Program s.shape 0) ≡ nesting (plain_program P)
-
--- a text that stands for a program keeps the limit exactly where the program's nesting is within it
-abbrev pub KeepsByNesting : Type 0
-KeepsByNesting = (text : List ℕ) (P : TProg) → StandsFor text P → KeepsLimit text ↔ (nesting P ≤ most_open)
+-- how many constructs may be open at a token of a text
+abbrev pub most_open : ℕ
+most_open = 2000

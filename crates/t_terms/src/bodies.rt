@@ -1,7 +1,7 @@
 // Shift and put of the types in bodies and blocks.
 ghost use Rattle.std.specs.Prelude.{◌≡◌, ℕ, ◌+◌, ◌<◌, ◌≤◌, ◌↔◌, IfOk, IsTrue};
 ghost use Rattle.idx_core.specs.Over.{IsWord, ShiftFitsAt, PutFitsAt, BelowAt, AnyDepth, shifted, putted};
-ghost use Rattle.t_types.specs.Bound.{Tells};
+ghost use Rattle.idx_core.specs.Bound.{Tells};
 ghost use Rattle.t_types.specs.Read.{tree};
 ghost use Rattle.t_types.specs.Tree.{Ty, VarTy, over, each};
 ghost use Rattle.t_terms.specs.Read.{body, end_of, spanned};
@@ -13,9 +13,9 @@ use crate::instr::{End, Instr};
 use crate::walks::{
     bound_after, end_below, instr_below, names_after, put_end, put_instr, shift_end, shift_instr,
 };
-use idx_core::{OutOfMemory, Scoped, Span};
+use idx_core::{OutOfMemory, Scoped, Span, deeper};
 use std::alloc::Global;
-use t_types::{RegFile, TType, deeper, file_below, put_regs};
+use t_types::{RegFile, TType, file_below, put_regs};
 
 // A body, and the number of type names after it.
 #[derive(Drop)]

@@ -1,7 +1,7 @@
 // Shift and put of the types in values, instructions and ends, and how many of their variables are free.
 ghost use Rattle.std.specs.Prelude.{◌≡◌, ℕ, ◌≤◌, IfOk};
 ghost use Rattle.idx_core.specs.Over.{IsWord, ShiftFitsAt, PutFitsAt, BelowAt, AnyDepth, shifted, putted};
-ghost use Rattle.t_types.specs.Bound.{IsBound, Tells};
+ghost use Rattle.idx_core.specs.Bound.{IsBound, Tells};
 ghost use Rattle.t_types.specs.Read.{tree};
 ghost use Rattle.t_types.specs.Tree.{VarTy, over, each};
 ghost use Rattle.t_terms.specs.Read.{value, instr, end_of};
@@ -9,9 +9,9 @@ ghost use Rattle.t_terms.specs.Tree.{over_value, over_instr, over_end, each_valu
 
 use crate::instr::{End, Instr};
 use crate::value::Value;
-use idx_core::{OutOfMemory, Scoped};
+use idx_core::{OutOfMemory, Scoped, deeper};
 use std::alloc::Global;
-use t_types::{TType, deeper, put_type, put_types, shift_types, type_below, types_below};
+use t_types::{TType, put_type, put_types, shift_types, type_below, types_below};
 
 pub(crate) fn shift_value(alloc: Global, v: &Value, by: u64, cut: u64) -> Result<Value, OutOfMemory>
     requires { each_value (ShiftFitsAt by) IsWord cut (value v.now) }

@@ -9,6 +9,7 @@ use Rattle.t_types.specs.Read.{tree, file, fields}
 use Rattle.t_terms.specs.declared.shown.Shown.{Shown}
 use Rattle.t_trace.specs.Line.{separator, names_text, flag_text, text_at, regs_text, fields_text, word_text}
 use Rattle.t_trace.specs.Line.{words_text, line_text, AreWordsOf}
+use Rattle.idx_core.proofs.Lists.{item}
 
 -- items with separators, with i before them
 abbrev pub listed : {A : Type 0} → (A → List ℕ) → ℕ → List A → List ℕ
@@ -111,11 +112,6 @@ pub tuple_done : (n d : ℕ) (fs : TFields) (t0 t1 t2 t3 : List ℕ) → t1 ≡ 
 tuple_done n d fs t0 t1 t2 t3 e1 e2 e3 = rw (e3, e2, e1) (simp append_assoc)
 
 -- an item that is there
-pub item : {A : Type 0} (xs : List A) (i : ℕ) (d : A) → i < length xs → get_or xs i d ≡ get_or xs i (get_or xs i d)
-item [] i d lt = absurd (omega (arith, lt))
-item (x ∷ xs) zero d lt = refl
-item (x ∷ xs) (suc i) d lt = item xs i d (omega (arith, lt))
-
 -- the words of a file, with i before them
 abbrev pub Regs : Type 0
 Regs = List (ℕ × TType)

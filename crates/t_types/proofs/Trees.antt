@@ -1,9 +1,9 @@
 -- The trees of what holds a vector, by the vector's items. The walks over files and fields are then `map` and `All` of
 -- std.
-use Rattle.std.proofs.Common.{◌≡◌, ℕ, List, [], ◌∷◌, map, Vec, Global, refl, ap, ◌∙◌, sym, ◌<◌, ◌≤◌, ◌+◌, take, length}
-use Rattle.std.proofs.Common.{subst, All, Bool, get_or}
+use Rattle.std.proofs.Common.{◌≡◌, ℕ, List, [], ◌∷◌, map, Vec, Global, refl, ap, ◌∙◌, sym, ◌≤◌, take, length}
+use Rattle.std.proofs.Common.{subst, All, Bool}
 use Rattle.std.proofs.lemmas.List.{take_all}
-use Rattle.std.proofs.lemmas.List.Elements.{All-nil, All-cons, All-head, All-tail, All-get_or, All-more}
+use Rattle.std.proofs.lemmas.List.Elements.{All-nil, All-cons, All-head, All-tail}
 use mathlib.Core.Former.{Count}
 use Rattle.idx_core.specs.Over.{At}
 use Rattle.t_types.specs.declared.types.TType.{TType, Row_of-RegFile-regs-2 as RegRow}
@@ -92,14 +92,6 @@ module _ (V : ℕ → ℕ → Type 0) (B : ℕ → Type 0) (d : ℕ) where
       tuple_has xs (subst (λ (ys : List (TType × Bool)). All FieldHas ys) (take_all n xs all) h)
 
 -- an item that a loop reads, by its place
-pub item_has : {A : Type 0} (P : A → Type 0) (xs : List A) (i : ℕ) (x : A) → x ≡ get_or xs i x → i < length xs →
-    All P xs → P x
-item_has P xs i x is lt all = subst P (sym is) (All-get_or P xs i x lt all)
-
-pub items_more : {A : Type 0} (P : A → Type 0) (xs : List A) (i : ℕ) (x : A) → x ≡ get_or xs i x → i < length xs →
-    All P (take i xs) → P x → All P (take (i + 1) xs)
-items_more P xs i x is lt all h = All-more P xs i x lt all (subst P is h)
-
 -- a walk over each part
 module _ (f : At Ty) (d : ℕ) where
   abbrev pub over_reg : ℕ × TType → ℕ × Ty

@@ -1,4 +1,4 @@
-pub mod Bound
+pub mod Bounds
 pub mod Fields
 pub mod Fits
 pub mod Laws

@@ -15,4 +15,4 @@ pub use fitting::{find, fits, fits_file};
 pub use laws::{puts_exchange, puts_under};
 pub use lists::{file_below, put_types, shift_types, types_below};
 pub use types::{RegFile, TType};
-pub use walks::{deeper, put_regs, put_type, type_below};
+pub use walks::{put_regs, put_type, type_below};

@@ -1,7 +1,7 @@
 // Shift and put of register files and of lists of types.
 ghost use Rattle.std.specs.Prelude.{◌≡◌, ◌≤◌, IfOk};
 ghost use Rattle.idx_core.specs.Over.{IsWord, ShiftFitsAt, PutFitsAt, shifted, putted};
-ghost use Rattle.t_types.specs.Bound.{Tells};
+ghost use Rattle.idx_core.specs.Bound.{Tells};
 ghost use Rattle.t_types.specs.Read.{tree, types, file_tree};
 ghost use Rattle.t_types.specs.Tree.{Ty, TFile, VarTy, over, over_file, over_types, each, each_file, each_types};
 ghost use Rattle.t_types.specs.Tree.{BelowFile, BelowTypes};

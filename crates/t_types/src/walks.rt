@@ -1,7 +1,7 @@
 // Shift and put of types, and how many of their variables are free.
-ghost use Rattle.std.specs.Prelude.{◌≡◌, ℕ, ◌+◌, ◌<◌, ◌≤◌, IfOk};
+ghost use Rattle.std.specs.Prelude.{◌≡◌, ◌≤◌, IfOk};
 ghost use Rattle.idx_core.specs.Over.{IsWord, ShiftFitsAt, PutFitsAt, BelowAt, AnyDepth};
-ghost use Rattle.t_types.specs.Bound.{IsBound, Tells};
+ghost use Rattle.idx_core.specs.Bound.{Tells};
 ghost use Rattle.t_types.specs.Read.{tree, file, fields};
 ghost use Rattle.t_types.specs.Tree.{Ty, VarTy, over, over_file, over_fields, each, each_file, each_fields, shift};
 ghost use Rattle.t_types.specs.Tree.{shift_file, shift_fields, put_from, put_file_from, put_fields_from, ShiftFits};
@@ -9,7 +9,7 @@ ghost use Rattle.t_types.specs.Tree.{PutFits, Below, BelowFile, BelowFields};
 ghost use Rattle.t_types.specs.TreeLaws.{types_part, types_over, type_is_below};
 
 use crate::types::{RegFile, TType};
-use idx_core::{OutOfMemory, Scoped};
+use idx_core::{OutOfMemory, Scoped, deeper, index_below};
 use std::alloc::Global;
 
 #[cycle(shift)]
@@ -163,26 +163,6 @@ fn put_flagged(
         made.push((t, field.1))?;
     }
     Ok(made)
-}
-
-/// The bound on indices under so many more binders, where `None` is past every index.
-pub fn deeper(bound: Option<u64>, by: u64) -> Option<u64>
-    ensures { (n : ℕ) → IsBound bound n → IsBound result (n + by) }
-{
-    match bound {
-        Some(n) => n.checked_add(by),
-        None => None,
-    }
-}
-
-// Whether the index is less than the bound.
-fn index_below(i: u64, bound: Option<u64>) -> bool
-    ensures { Tells bound (λ n. i < n) result }
-{
-    match bound {
-        Some(n) => i < n,
-        None => true,
-    }
 }
 
 /// Whether each free index of a type is less than the bound, where `None` is past every index.

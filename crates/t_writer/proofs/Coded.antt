@@ -1,12 +1,12 @@
 -- What the loops over instructions and blocks keep, over plain lists.
 use Rattle.std.proofs.Common.{◌≡◌, ◌≤◌, ◌<◌, ℕ, suc, ◌+◌, List, [], ◌∷◌, ◌++◌, length, drop, get_or, sym, ◌∙◌}
-use Rattle.std.proofs.Common.{ap, subst, append_assoc, add-one, drop-cons, codes, decimal}
+use Rattle.std.proofs.Common.{subst, append_assoc, add-one, codes, decimal}
 use Rattle.std.proofs.Math.ListN.{drop_of_length-le}
 use Rattle.idx_core.specs.declared.span.Span.{Span}
 use Rattle.t_terms.specs.declared.instr.Instr.{Instr}
 use Rattle.t_terms.specs.declared.block.Block.{Block}
 use Rattle.t_terms.specs.Tree.{TEnd, TSeq, TBlock, names_after}
-use Rattle.t_terms.specs.declared.token.Kind.TheVariants as k
+use Rattle.t_text.specs.declared.token.Kind.TheVariants as k
 use Rattle.t_terms.specs.Spanned.{seq_of}
 use Rattle.t_terms.specs.Read.{instr, body, block, blocks_of}
 use Rattle.t_terms.specs.Whole.{WellFormedInstr, WellFormedEnd, WellFormedSeq, WellFormedBlocks}
@@ -15,10 +15,7 @@ use Rattle.t_writer.specs.Lexeme.{Lexeme, LabelName, Reserved, Sign, render}
 use Rattle.t_writer.specs.Written.{space, line_end, binds_written, file_written, instr_written, end_written}
 use Rattle.t_writer.specs.Written.{seq_written, block_written, blocks_written}
 use Rattle.t_writer.proofs.Rendered.{render_append}
-
-pub item_next : {A : Type 0} (xs : List A) (i : ℕ) (x : A) → x ≡ get_or xs i x → i < length xs →
-    drop i xs ≡ x ∷ drop (i + 1) xs
-item_next {A} xs i x is lt = rw add-one (drop-cons xs i x lt ∙ ap (λ (y : A). y ∷ drop (suc i) xs) (sym is))
+use Rattle.idx_core.proofs.Lists.{next_item as item_next}
 
 -- the sequence of what is left of a body
 abbrev pub left_code : List (Instr × Span) → ℕ → TEnd → TSeq

@@ -8,7 +8,7 @@ use Rattle.t_types.specs.Read.{tree}
 use Rattle.t_types.specs.Tree.{Ty}
 use Rattle.t_terms.specs.declared.value.Value.{Value}
 use Rattle.t_terms.specs.declared.data.Data.{Data}
-use Rattle.t_terms.specs.declared.token.Kind.TheVariants as k
+use Rattle.t_text.specs.declared.token.Kind.TheVariants as k
 use Rattle.t_terms.specs.Tree.{TValue, TDatum, TData}
 use Rattle.t_terms.specs.Spanned.{plain_fields}
 use Rattle.t_terms.specs.Read.{value, data_fields, data_of}
@@ -18,7 +18,7 @@ use Rattle.t_writer.specs.Lexeme.{Lexeme, DataName, Reserved, Sign, render}
 use Rattle.t_writer.specs.Written.{space, line_end, separator, value_written, type_written, datum_written}
 use Rattle.t_writer.specs.Written.{data_fields_written, data_written, heap_written}
 use Rattle.t_writer.proofs.Rendered.{render_append}
-use Rattle.t_writer.proofs.Coded.{item_next}
+use Rattle.idx_core.proofs.Lists.{next_item as item_next}
 
 -- a field as the code keeps it
 abbrev pub Field : Type 0

@@ -10,14 +10,15 @@ use Rattle.text_core.specs.Byte.{space, of_word}
 use Rattle.text_core.specs.Tokens.{Gap, Spelling, Next, Cut, c_end, c_gap, c_token}
 use Rattle.text_core.specs.Lexeme.{item}
 use Rattle.text_core.proofs.Items.{some_next}
-use Rattle.t_terms.specs.declared.token.Kind.{Kind}
-use Rattle.t_terms.specs.declared.token.Token.{Token}
-use Rattle.t_terms.specs.Tokens.{assembly}
-use Rattle.t_terms.specs.Grammar.{tok}
-use Rattle.t_terms.proofs.TokenLaws.{assembly_signs}
+use Rattle.t_text.specs.declared.token.Kind.{Kind}
+use Rattle.t_text.specs.declared.token.Token.{Token}
+use Rattle.t_text.specs.Tokens.{assembly}
+use Rattle.t_text.specs.Grammar.{tok}
+use Rattle.t_text.proofs.TokenLaws.{assembly_signs}
 use Rattle.t_writer.specs.Lexeme.{Lexeme, Reserved, TypeName, LabelName, DataName, Register, Number, Digit, Sign}
 use Rattle.t_writer.specs.Lexeme.{Blank, bytes, render}
-use Rattle.t_writer.proofs.Items.{Stops, Valid, plain_sign, kind_of, lexeme_item, lexeme_keeps}
+use Rattle.text_core.proofs.Characters.{Stops}
+use Rattle.t_writer.proofs.Items.{Valid, plain_sign, kind_of, lexeme_item, lexeme_keeps}
 
 -- the length of what is written
 abbrev pub size : List Lexeme → ℕ

@@ -9,7 +9,7 @@ use Rattle.t_types.specs.declared.types.TType.{TType}
 use Rattle.t_types.specs.Tree.{Ty, CodeTy, TupleTy, TFile, TFields}
 use Rattle.t_types.specs.Read.{tree, file, fields, types}
 use Rattle.t_types.specs.WellFormed.{WellFormed, RegsAbove, WellFormedFields, WellFormedTypes}
-use Rattle.t_terms.specs.declared.token.Kind.TheVariants as k
+use Rattle.t_text.specs.declared.token.Kind.TheVariants as k
 use Rattle.t_terms.specs.Tree.{TValue, Pack}
 use Rattle.t_writer.specs.Lexeme.{Lexeme, TypeName, Register, Sign, bytes, render}
 use Rattle.t_writer.specs.Written.{separator, names_written, binds_written, flag_written, type_written, regs_written}

@@ -6,7 +6,7 @@ use Rattle.std.proofs.lemmas.Slice.Eq.{bytes_eq-Decides}
 use Rattle.std.proofs.lemmas.Fmt.{decimal_injective}
 use Rattle.idx_core.specs.Names.{Name}
 use Rattle.t_terms.specs.Tree.{Label, Data}
-use Rattle.t_terms.specs.Names.{Labels, is_among, place_of, named_by}
+use Rattle.t_text.specs.Names.{Labels, is_among, place_of, named_by}
 
 abbrev pub type_name : ℕ → Name
 type_name n = 84 ∷ decimal n

@@ -5,8 +5,9 @@ use Rattle.t_terms.specs.declared.data.Data.{Data}
 use Rattle.t_terms.specs.Tree.{TProg}
 use Rattle.t_terms.specs.Read.{blocks_of, data_of, parts}
 use Rattle.t_terms.specs.Whole.{Whole}
-use Rattle.t_terms.specs.Text.{most_open, StandsFor, ReadsBack}
-use Rattle.t_terms.specs.Nesting.{nesting, KeepsByNesting}
+use Rattle.t_text.specs.Text.{most_open, StandsFor, ReadsBack}
+use Rattle.t_terms.specs.Nesting.{nesting}
+use Rattle.t_text.specs.NestingLaws.{KeepsByNesting}
 use Rattle.t_terms.proofs.Blocks.{blocks_count, data_count}
 use Rattle.t_writer.specs.Ints.{BlocksFit, HeapFits}
 use Rattle.t_writer.specs.Lexeme.{render}

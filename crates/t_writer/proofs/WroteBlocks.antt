@@ -5,15 +5,15 @@ use Rattle.std.proofs.lemmas.List.{append-nil}
 use Rattle.idx_core.specs.declared.span.Span.{Span}
 use Rattle.idx_core.specs.Names.{Name}
 use Rattle.t_types.specs.WellFormed.{max_names}
-use Rattle.t_terms.specs.declared.token.Kind.TheVariants as k
-use Rattle.t_terms.specs.declared.token.Token.{Token}
+use Rattle.t_text.specs.declared.token.Kind.TheVariants as k
+use Rattle.t_text.specs.declared.token.Token.{Token}
 use Rattle.t_terms.specs.Tree.{TSeq, Then, Ends, Label, TBlock}
 use Rattle.t_terms.specs.Tree as tree_of
 use Rattle.t_terms.specs.Spanned.{seq_of, plain, plain_blocks}
-use Rattle.t_terms.specs.Raw.{RawInstr, RawEnd, RawBlock, RawItem, BlockItem, block_items}
-use Rattle.t_terms.specs.Grammar.{Is, is_none, is_more, End, Block, b_block, Blocks, bs_more, it_block, Items, its_more}
-use Rattle.t_terms.specs.Names.{spelled, bind, names_after_all, body_of, end_of, block_of, Labels, item_labels}
-use Rattle.t_terms.specs.NameFaults.{body_faults, end_faults, block_faults, items_faults}
+use Rattle.t_text.specs.Raw.{RawInstr, RawEnd, RawBlock, RawItem, BlockItem, block_items}
+use Rattle.t_text.specs.Grammar.{Is, is_none, is_more, End, Block, b_block, Blocks, bs_more, it_block, Items, its_more}
+use Rattle.t_text.specs.Names.{spelled, bind, names_after_all, body_of, end_of, block_of, Labels, item_labels}
+use Rattle.t_text.specs.NameFaults.{body_faults, end_faults, block_faults, items_faults}
 use Rattle.t_terms.specs.Whole.{WellFormedSeq, WellFormedBlock, WellFormedBlocks}
 use Rattle.t_writer.specs.Ints.{SeqFits, BlocksFit}
 use Rattle.t_writer.specs.Lexeme.{Reserved, LabelName, Sign, bytes}

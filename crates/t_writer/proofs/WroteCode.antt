@@ -9,19 +9,19 @@ use Rattle.idx_core.specs.declared.arith.Op.TheVariants.{Add, Sub, Mul}
 use Rattle.idx_core.specs.Names.{Name}
 use Rattle.t_types.specs.Tree.{Ty}
 use Rattle.t_types.specs.WellFormed.{max_names, max_number}
-use Rattle.t_terms.specs.declared.token.Kind.{Kind}
-use Rattle.t_terms.specs.declared.token.Kind.TheVariants as k
-use Rattle.t_terms.specs.declared.token.Token.{Token}
+use Rattle.t_text.specs.declared.token.Kind.{Kind}
+use Rattle.t_text.specs.declared.token.Kind.TheVariants as k
+use Rattle.t_text.specs.declared.token.Token.{Token}
 use Rattle.t_terms.specs.Tree.{TBase, Reg, Int, Label, Data, TValue, Plain, Pack, TInstr, Arith, Bnz, Ld, Malloc, Mov}
 use Rattle.t_terms.specs.Tree.{St, Unpack, TEnd, Jmp, Halt}
 use Rattle.t_terms.specs.Tree as tree_of
-use Rattle.t_terms.specs.Raw.{RawBase, RReg, RNum, RLabel, RawValue, RPlain, RPack, RawInstr, RArith, RBnz, RLd}
-use Rattle.t_terms.specs.Raw.{RMalloc, RMov, RSt, RUnpack, RawEnd, RJmp, RHalt, Piece, ending, up_to}
-use Rattle.t_terms.specs.Grammar.{tok, N, n_reg, n_plain, n_negative, n_label, V, v_base, v_apply, v_pack, IsOp}
-use Rattle.t_terms.specs.Grammar.{is_add, is_sub, is_mul, I, i_arith, i_bnz, i_ld, i_malloc_none, i_malloc, i_mov}
-use Rattle.t_terms.specs.Grammar.{i_st, i_unpack, End, e_jmp, e_halt}
-use Rattle.t_terms.specs.Names.{Labels, spelled, named_by, base_of, value_of, instr_of, names_after, end_of}
-use Rattle.t_terms.specs.NameFaults.{base_faults, value_faults, instr_faults, end_faults}
+use Rattle.t_text.specs.Raw.{RawBase, RReg, RNum, RLabel, RawValue, RPlain, RPack, RawInstr, RArith, RBnz, RLd, RMalloc}
+use Rattle.t_text.specs.Raw.{RMov, RSt, RUnpack, RawEnd, RJmp, RHalt, Piece, ending, up_to}
+use Rattle.t_text.specs.Grammar.{tok, N, n_reg, n_plain, n_negative, n_label, V, v_base, v_apply, v_pack, IsOp, is_add}
+use Rattle.t_text.specs.Grammar.{is_sub, is_mul, I, i_arith, i_bnz, i_ld, i_malloc_none, i_malloc, i_mov, i_st}
+use Rattle.t_text.specs.Grammar.{i_unpack, End, e_jmp, e_halt}
+use Rattle.t_text.specs.Names.{Labels, spelled, named_by, base_of, value_of, instr_of, names_after, end_of}
+use Rattle.t_text.specs.NameFaults.{base_faults, value_faults, instr_faults, end_faults}
 use Rattle.t_terms.specs.Whole.{WellFormedBase, WellFormedValue, WellFormedInstr, WellFormedEnd}
 use Rattle.t_writer.specs.Ints.{IntFits, BaseFits, ValueFits, InstrFits, EndFits}
 use Rattle.t_writer.specs.Lexeme.{Lexeme, Reserved, TypeName, LabelName, DataName, Register, Number, Sign, bytes}

@@ -5,17 +5,17 @@ use Rattle.std.proofs.lemmas.List.{append-nil}
 use Rattle.idx_core.specs.declared.span.Span.{Span}
 use Rattle.idx_core.specs.Names.{Name}
 use Rattle.t_types.specs.Tree.{Ty}
-use Rattle.t_terms.specs.declared.token.Kind.TheVariants as k
-use Rattle.t_terms.specs.declared.token.Token.{Token}
+use Rattle.t_text.specs.declared.token.Kind.TheVariants as k
+use Rattle.t_text.specs.declared.token.Token.{Token}
 use Rattle.t_terms.specs.Tree.{TBase, TValue, Plain, Pack, TDatum, TData, Data}
 use Rattle.t_terms.specs.Spanned.{plain_fields, plain_heap}
-use Rattle.t_terms.specs.Raw.{RawTy, RawBase, RawValue, RPlain, RPack, RawDatum, RawItem, DataItem, blocks_in, data_in}
-use Rattle.t_terms.specs.Raw.{Piece, up_to}
-use Rattle.t_terms.specs.Grammar.{tok, T, N, n_reg, n_plain, n_negative, n_label, Q, q_plain, q_negative, q_label, W}
-use Rattle.t_terms.specs.Grammar.{w_base, w_apply, w_pack, datum, Ds, ds_one, ds_more, Tuple, tu_none, tu_fields, Item}
-use Rattle.t_terms.specs.Grammar.{it_data, Items, its_more}
-use Rattle.t_terms.specs.Names.{spelled, Labels, base_of, value_of, datum_of, data_of, item_labels}
-use Rattle.t_terms.specs.NameFaults.{value_faults, data_faults, items_faults}
+use Rattle.t_text.specs.Raw.{RawTy, RawBase, RawValue, RPlain, RPack, RawDatum, RawItem, DataItem, blocks_in, data_in}
+use Rattle.t_text.specs.Raw.{Piece, up_to}
+use Rattle.t_text.specs.Grammar.{tok, T, N, n_reg, n_plain, n_negative, n_label, Q, q_plain, q_negative, q_label, W}
+use Rattle.t_text.specs.Grammar.{w_base, w_apply, w_pack, datum, Ds, ds_one, ds_more, Tuple, tu_none, tu_fields, Item}
+use Rattle.t_text.specs.Grammar.{it_data, Items, its_more}
+use Rattle.t_text.specs.Names.{spelled, Labels, base_of, value_of, datum_of, data_of, item_labels}
+use Rattle.t_text.specs.NameFaults.{value_faults, data_faults, items_faults}
 use Rattle.t_terms.specs.Whole.{WellFormedValue, HasNoRegister, WellFormedDatum, WellFormedData, WellFormedHeap}
 use Rattle.t_writer.specs.Ints.{ValueFits, DataFit, HeapFits}
 use Rattle.t_writer.specs.Lexeme.{Reserved, DataName, Sign, bytes}

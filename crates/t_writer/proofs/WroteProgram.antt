@@ -3,16 +3,16 @@ use Rattle.std.proofs.Common.{◌≡◌, ◌≤◌, ◌^◌, ℕ, ◌+◌, List,
 use Rattle.std.proofs.Common.{◌∙◌, arith, subst, zero-add}
 use Rattle.std.proofs.lemmas.List.{append-nil}
 use Rattle.idx_core.specs.Names.{Name}
-use Rattle.t_terms.specs.declared.token.Kind.TheVariants as k
+use Rattle.t_text.specs.declared.token.Kind.TheVariants as k
 use Rattle.t_terms.specs.Tree.{Label, TBlock, TData, TProg}
 use Rattle.t_terms.specs.Spanned.{plain_blocks, plain_heap, plain_program}
-use Rattle.t_terms.specs.Raw.{RawBlock, RawData, RawItem, blocks_in, data_in, block_items}
-use Rattle.t_terms.specs.Grammar.{bs_one, its_none, HasBlock, Program, p_blocks, p_items}
-use Rattle.t_terms.specs.Names.{block_of, data_of, Labels, labels_of, program_of}
-use Rattle.t_terms.specs.NameFaults.{items_faults, program_faults}
+use Rattle.t_text.specs.Raw.{RawBlock, RawData, RawItem, blocks_in, data_in, block_items}
+use Rattle.t_text.specs.Grammar.{bs_one, its_none, HasBlock, Program, p_blocks, p_items}
+use Rattle.t_text.specs.Names.{block_of, data_of, Labels, labels_of, program_of}
+use Rattle.t_text.specs.NameFaults.{items_faults, program_faults}
 use Rattle.t_terms.specs.Whole.{Whole}
-use Rattle.t_terms.specs.Text.{StandsFor}
-use Rattle.t_terms.proofs.ItemLaws.{blocks_in-append, data_in-append, blocks_alone, no_data_alone}
+use Rattle.t_text.specs.Text.{StandsFor}
+use Rattle.t_text.proofs.ItemLaws.{blocks_in-append, data_in-append, blocks_alone, no_data_alone}
 use Rattle.t_writer.specs.Ints.{BlocksFit, HeapFits}
 use Rattle.t_writer.specs.Lexeme.{Lexeme, Reserved, Digit, render}
 use Rattle.t_writer.specs.Written.{block_written, blocks_written, heap_written, program_written, second_written}

@@ -10,16 +10,16 @@ use Rattle.t_types.specs.Tree.{Ty, IntTy, VarTy, CodeTy, ExistsTy, TupleTy, TFil
 use Rattle.t_types.specs.Tree.{MoreFields}
 use Rattle.t_types.specs.WellFormed.{max_names, WellFormed, WellFormedFile, RegsAbove, WellFormedFields}
 use Rattle.t_types.specs.WellFormed.{WellFormedTypes}
-use Rattle.t_terms.specs.declared.token.Kind.{Kind}
-use Rattle.t_terms.specs.declared.token.Kind.TheVariants as k
-use Rattle.t_terms.specs.declared.token.Token.{Token}
-use Rattle.t_terms.specs.Raw.{RawTy, RInt, RName, RCode, RSome, RTuple, RawRegs, RawReg, raw_regs, RawField}
-use Rattle.t_terms.specs.Raw.{raw_fields, Piece, ending}
-use Rattle.t_terms.specs.Grammar.{tok, Names, ns_one, ns_more, Binds, bs_none, bs_names, IsFlag, is_zero, is_one, T}
-use Rattle.t_terms.specs.Grammar.{t_int, t_name, t_code, t_some, t_unit, t_tuple, File, f_none, f_regs, Rs, rs_one}
-use Rattle.t_terms.specs.Grammar.{rs_more, Fs, fs_one, fs_more, Ts, ts_one, ts_more}
-use Rattle.t_terms.specs.Names.{spelled, bind, insert_reg, type_of, file_of, fields_of, types_of}
-use Rattle.t_terms.specs.NameFaults.{type_faults, regs_faults, fields_faults, types_faults}
+use Rattle.t_text.specs.declared.token.Kind.{Kind}
+use Rattle.t_text.specs.declared.token.Kind.TheVariants as k
+use Rattle.t_text.specs.declared.token.Token.{Token}
+use Rattle.t_text.specs.Raw.{RawTy, RInt, RName, RCode, RSome, RTuple, RawRegs, RawReg, raw_regs, RawField, raw_fields}
+use Rattle.t_text.specs.Raw.{Piece, ending}
+use Rattle.t_text.specs.Grammar.{tok, Names, ns_one, ns_more, Binds, bs_none, bs_names, IsFlag, is_zero, is_one, T}
+use Rattle.t_text.specs.Grammar.{t_int, t_name, t_code, t_some, t_unit, t_tuple, File, f_none, f_regs, Rs, rs_one}
+use Rattle.t_text.specs.Grammar.{rs_more, Fs, fs_one, fs_more, Ts, ts_one, ts_more}
+use Rattle.t_text.specs.Names.{spelled, bind, insert_reg, type_of, file_of, fields_of, types_of}
+use Rattle.t_text.specs.NameFaults.{type_faults, regs_faults, fields_faults, types_faults}
 use Rattle.t_writer.specs.Lexeme.{Reserved, TypeName, Register, Sign, bytes}
 use Rattle.t_writer.specs.Written.{comma, bit, flag_written, names_written, binds_written, type_written, regs_written}
 use Rattle.t_writer.specs.Written.{fields_written, file_written, types_written}

@@ -1,7 +1,7 @@
 // Programs.
 ghost use Rattle.std.specs.Prelude.{◌≡◌, ◌≤◌, [], IfOk};
 ghost use Rattle.t_terms.specs.ReadProgram.{program as program_of};
-ghost use Rattle.t_terms.specs.Text.{most_open, StandsFor, ReadsBack};
+ghost use Rattle.t_text.specs.Text.{most_open, StandsFor, ReadsBack};
 ghost use Rattle.t_terms.specs.Nesting.{nesting};
 ghost use Rattle.t_writer.specs.Lexeme.{render};
 ghost use Rattle.t_writer.specs.Written.{HasHeader, HasSecondHeader, program_written, second_written};
@@ -10,7 +10,8 @@ use crate::blocks::write_blocks;
 use crate::heap::write_heap;
 use idx_core::OutOfMemory;
 use std::alloc::Global;
-use t_terms::{TProgram, keeps_by_nesting};
+use t_terms::TProgram;
+use t_text::keeps_by_nesting;
 
 /// A text in the first version of the language that stands for a program without data, places aside. Its first line is
 /// `tal 1`, and its bytes are those of the program's tokens as the definition of written texts lays them out, so one

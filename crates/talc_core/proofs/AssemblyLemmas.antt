@@ -2,8 +2,9 @@
 use Rattle.std.proofs.Common.{◌≡◌, ◌≤◌, ℕ, List, refl, sym, subst, inr}
 use Rattle.t_terms.specs.ReadProgram.{program, spanned_program}
 use Rattle.t_terms.specs.Whole.{Whole}
-use Rattle.t_terms.specs.Text.{most_open, ReadsBack}
-use Rattle.t_terms.specs.Nesting.{nesting, KeepsByNesting}
+use Rattle.t_text.specs.Text.{most_open, ReadsBack}
+use Rattle.t_terms.specs.Nesting.{nesting}
+use Rattle.t_text.specs.NestingLaws.{KeepsByNesting}
 use Rattle.t_terms.specs.declared.program.TProgram.{TProgram}
 use Rattle.t_terms.specs.declared.fault.TFault.{TFault}
 use Rattle.t_terms.specs.declared.fault.TFault.TheVariants.{Memory, Refused}

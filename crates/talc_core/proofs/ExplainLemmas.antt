@@ -1,5 +1,5 @@
 -- What `explain` shows.
-use Rattle.std.proofs.Common.{◌≡◌, ◌∙◌, ℕ, List, Bool, Option, sym, ap, subst, inl, inr}
+use Rattle.std.proofs.Common.{◌≡◌, ◌∙◌, ℕ, List, Bool, Option, refl, sym, ap, subst, inl, inr}
 use Rattle.std.specs.Prelude.{Result, IfOk, if◌then◌else◌}
 use Rattle.idx_core.specs.declared.span.Span.{Span}
 use Rattle.idx_core.specs.declared.memory.OutOfMemory.{OutOfMemory}
@@ -17,18 +17,28 @@ use Rattle.mismatch_text.specs.Line.{source_line, not_int_line, assembly_line}
 use Rattle.talc_core.specs.declared.fault.Fault.{Fault}
 use Rattle.talc_core.specs.declared.fault.Fault.TheVariants.{Source, Tal}
 use Rattle.talc_core.specs.declared.finding.Finding.{Finding}
-use Rattle.talc_core.specs.FirstFault.{FirstFault, AProgram, AnAssembly, IsAssembly}
+use Rattle.talc_core.specs.FirstFault.{FirstFault, AProgram, AnAssembly, IsAssembly, IsTaken}
 use Rattle.talc_core.specs.AtOdds.{AtOdds}
-use Rattle.talc_core.specs.Explained.{is_assembly, looked_for, explained, OneExplanation}
+use Rattle.text_kind.specs.Kind.{AssemblyBeginsSo, begins_with_tal}
+use Rattle.talc_core.specs.Explained.{looked_for, explained, OneExplanation, TakenIsExplained}
 use Rattle.talc_core.specs.Steps.{IsFinding}
 use Rattle.talc_core.specs.TextLaws.{TextLaws, MismatchLaws}
 use Rattle.talc_core.proofs.FaultLemmas.{one_fault, no_fault_where_taken, no_term_fault, same_term, same_program}
 
 -- what is looked for goes by how the text begins
-pub looks : (text : List ℕ) (found : Result Finding OutOfMemory) (b : Bool) → is_assembly text ≡ b →
+pub looks : (text : List ℕ) (found : Result Finding OutOfMemory) (b : Bool) → begins_with_tal text ≡ b →
     IfOk found (IsFinding (if b then AnAssembly else AProgram) text) → IfOk found (IsFinding (looked_for text) text)
 looks text found b is finds =
     subst (λ (c : Bool). IfOk found (IsFinding (if c then AnAssembly else AProgram) text)) (sym is) finds
+
+-- of a text that `check` takes there is no fault
+pub taken_is_explained : AssemblyBeginsSo → TakenIsExplained
+taken_is_explained begins text taken =
+    inr (record {
+      taken = subst (λ (c : Bool). IsTaken (if c then AnAssembly else AProgram) text)
+          (sym (begins text taken.0 taken.1.0.stands)) taken;
+      is = refl;
+    })
 
 -- and of an assembly program
 pub refused_program : (text : List ℕ) (P : SProg) (code : TCode) (span : Span) (found : Option Mismatch)

@@ -1,5 +1,5 @@
 -- Worked explanations, and that no hint is longer than 100 bytes.
-use Rattle.std.proofs.Common.{◌≡◌, [], length, refl, true, false}
+use Rattle.std.proofs.Common.{◌≡◌, [], length, refl, true}
 use Rattle.std.specs.Prelude.{nat_le, codes}
 use Rattle.std.specs.Fmt.{digits}
 use Rattle.f_terms.specs.declared.fault.Code.{Code}
@@ -11,7 +11,7 @@ use Rattle.t_terms.specs.declared.fault.TCode.TheVariants.{T01, T02, T03, T04, T
 use Rattle.t_terms.specs.declared.fault.TCode.TheVariants.{T11, T12, T13, T14, T15, T16, T17, T18, T19, T20, M1}
 use Rattle.talc_core.specs.declared.fault.Fault.TheVariants.{Source, Tal}
 use Rattle.talc_core.specs.Hints.{source_hint, tal_hint}
-use Rattle.talc_core.specs.Explained.{explained, is_assembly}
+use Rattle.talc_core.specs.Explained.{explained}
 
 -- a name without a binder, from the byte 19 up to the byte 20
 unbound : explained (codes "(fix f(x:int):int. g x) 3") (Source E05 (record { start = 19; end = 20 })) []
@@ -26,16 +26,6 @@ version : explained (codes "tal 3\nL0: code[]{}. halt[int]") (Tal T03 (record { 
     "T03 unexpected token or end: line 1, column 5 (bytes 4..5)\n1 | tal 3\n  |     ^\nno program goes on so here: a token is missing or too much, or the version has it not\n"
 unfolding digits
 version = refl
-
--- which texts are taken for assembly
-an_assembly : is_assembly (codes "tal 1") ≡ true
-an_assembly = refl
-
-a_source : is_assembly (codes "tall 1") ≡ false
-a_source = refl
-
-three_bytes : is_assembly (codes "tal") ≡ false
-three_bytes = refl
 
 source_hint_is_short : (code : Code) → nat_le (length (source_hint code)) 100 ≡ true
 source_hint_is_short E01 = refl

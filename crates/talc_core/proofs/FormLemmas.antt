@@ -11,12 +11,13 @@ use Rattle.f_parser.specs.Text.{Source as StandsFor, FewBytes}
 use Rattle.f_writer.specs.Laws.{WrittenTwiceIsWrittenOnce, WrittenTextsAreWithin}
 use Rattle.words.specs.declared.form.Form.{Form}
 use Rattle.words.specs.declared.form.Form.TheVariants.{Source, Assembly}
-use Rattle.pipeline.specs.Made.{IsMade}
+use Rattle.pipeline.specs.Made.{IsMade, compiled_program}
 use Rattle.forms.specs.Forms.{assembly_text, form_text}
 use Rattle.forms.specs.Translated.{FormsAreOfTranslations, IsFormOf}
 use Rattle.talc_core.specs.FirstFault.{AProgram, IsChecked, IsTaken}
 use Rattle.talc_core.specs.FormShown.{FormShown}
-use Rattle.talc_core.specs.Composition.{OneForm, ShownAssemblyIsCompiled, ShownSourceIsTheSame, ShownSourceIsTaken}
+use Rattle.talc_core.specs.Composition.{OneCompiledText, OneForm, ShownAssemblyIsCompiled, ShownSourceIsTheSame}
+use Rattle.talc_core.specs.Composition.{ShownSourceIsTaken}
 use Rattle.talc_core.specs.Composition.{ShownSourceShowsTheSame, ShownSourceIsKept}
 use Rattle.talc_core.specs.TextLaws.{TextLaws}
 use Rattle.talc_core.proofs.FaultLemmas.{same_term}
@@ -59,6 +60,19 @@ module _ (laws : TextLaws) where
       shown.is ∙ ap (λ t. form_text Assembly (plain t)) same in
       is ∙ (ap assembly_text (sym m.is) ∙ sym made.written.is))
       made.made
+
+  pub one_compiled_text : OneCompiledText
+  one_compiled_text s t a b x y e f checked_e checked_f same =
+      let of_x : plain x.term ≡ plain e = ap plain (same_term laws s x.term e x.checked.0 checked_e.0) in
+      let of_y : plain y.term ≡ plain f = ap plain (same_term laws t y.term f y.checked.0 checked_f.0) in
+      let terms : plain x.term ≡ plain y.term = of_x ∙ (same ∙ sym of_y) in
+      equal_bytes a b
+      (λ (m : IsMade (plain x.term) x.program). equal_bytes a b
+      (λ (n : IsMade (plain y.term) y.program).
+      let programs : x.program ≡ y.program = m.is ∙ (ap compiled_program terms ∙ sym n.is) in
+      x.written.is ∙ (ap assembly_text programs ∙ sym y.written.is))
+      y.made)
+      x.made
 
 pub source_is_the_same : WrittenTwiceIsWrittenOnce → ShownSourceIsTheSame
 source_is_the_same once source text shown =

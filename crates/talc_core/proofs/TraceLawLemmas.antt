@@ -13,6 +13,7 @@ use Rattle.talc_core.specs.Traced.{AreLines, HaltedStates, RunningStates, OneLin
 use Rattle.talc_core.specs.TraceLaws.{OneTrace, TraceEndsAsRun}
 use Rattle.talc_core.proofs.FaultLemmas.{same_program}
 use Rattle.talc_core.proofs.RunLemmas.{going_not_halted}
+use Rattle.t_rules.proofs.OneStep.{halted_one as one_integer}
 
 pub trace_ends_as_run : TraceEndsAsRun
 trace_ends_as_run from to Done text lines shown = (
@@ -46,11 +47,6 @@ trace_ends_as_run from to WriteFault text lines shown = absurd shown
 trace_ends_as_run from to Memory text lines shown = absurd shown
 
 -- the integer of a halted state
-one_integer : (s : State) (i j : ℤ) → HaltedWith s i → HaltedWith s j → i ≡ j
-one_integer (At h r (Then k c)) i j x y = absurd x
-one_integer (At h r (Ends (Jmp v))) i j x y = absurd x
-one_integer (At h r (Ends Halt)) i j x y = let e : Some (IntWord i) ≡ Some (IntWord j) = sym x ∙ y in cc
-
 -- the lines of states
 same_lines : OneLine → (P : TProg) (m count : ℕ) (a b : List ℕ) → AreLines P m count a → AreLines P m count b → a ≡ b
 same_lines one P m zero a b x y = x ∙ sym y

@@ -3,6 +3,7 @@ use Rattle.std.proofs.Common.{◌≡◌, ℕ, suc, ◌+◌, ◌-◌, ◌<◌, �
 use Rattle.std.proofs.Common.{length, drop, get_or, Option, Some, None, refl, sym, ap, ◌∙◌, subst, arith, append_assoc}
 use Rattle.std.proofs.Common.{add-one, drop-cons}
 use Rattle.std.specs.Prelude.{option_map, ℤ}
+use Rattle.std.proofs.Math.Path.{fun_ext}
 use Rattle.std.proofs.lemmas.Bool.Decides.{nat_tests}
 use Rattle.std.proofs.lemmas.List.{append-nil}
 use Rattle.std.proofs.Math.ListN.{drop_of_length-le}
@@ -107,20 +108,26 @@ code_there P p (At h r c) block index typed = (typed.1.body, typed.1.at)
 -- a machine that stands for the state after m steps, at its place
 module _ (P : TProg) (whole : Whole P) (acc : Accepted P) (m : ℕ) (x : Machine) (stands : Stands P m x)
     (block index : ℕ) (place : IsPlaceAfter P m block index) where
-  run : After P m stands.erased.1.0 (Spot block index)
-  run = subst (After P m stands.erased.1.0)
-      (place stands.erased.1.0 (Spot stands.block stands.index) stands.erased.1.1) stands.erased.1.1
+  -- the words of the machine's registers are those of the state
+  erased_is : EAt stands.erased.heap (words_in x) stands.rest ≡ erase stands.erased.erased.1.0
+  erased_is =
+      let words : words_in x ≡ stands.erased.regs = fun_ext (λ q. sym (stands.erased.keeps.regs q)) in
+      ap (λ (r : ERegs). EAt stands.erased.heap r stands.rest) words ∙ stands.erased.erased.1.2
+
+  run : After P m stands.erased.erased.1.0 (Spot block index)
+  run = subst (After P m stands.erased.erased.1.0)
+      (place stands.erased.erased.1.0 (Spot stands.block stands.index) stands.erased.erased.1.1) stands.erased.erased.1.1
 
   pub place_there : StatesAreTyped → (c : TSeq) × (code_at P block index ≡ Some c)
   place_there law =
-      code_there P (heap_types P m stands.erased.1.0 (Spot block index) run) stands.erased.1.0 block index
-      (law P whole acc m stands.erased.1.0 (Spot block index) run)
+      code_there P (heap_types P m stands.erased.erased.1.0 (Spot block index) run) stands.erased.erased.1.0 block index
+      (law P whole acc m stands.erased.erased.1.0 (Spot block index) run)
 
   module _ (names : ℕ) (f : TFile) (known : IsKnownFile P block index names f) where
     pub known_have : KnownWordsHaveKinds → HaveAll (words_in x) f
     known_have law = have_all (words_in x) f (λ q t e.
-        let k = law P whole acc m (erase_blocks P) stands.tuples (words_in x) stands.rest block index
-        (refl, (stands.erased.1.0, run, stands.erased.1.2)) names (lookup f) known.known q t e in
+        let k = law P whole acc m (erase_blocks P) stands.erased.heap (words_in x) stands.rest block index
+        (refl, (stands.erased.erased.1.0, run, erased_is)) names (lookup f) known.known q t e in
         (k.0, k.1))
 
     pub line_is : (words : Words) → HaveWords (words_in x) words f → (old new : List ℕ) →
@@ -128,7 +135,7 @@ module _ (P : TProg) (whole : Whole P) (acc : Accepted P) (m : ℕ) (x : Machine
     line_is words have old new e = (
       line_text m block index names words f,
       record {
-        state = stands.erased.1.0;
+        state = stands.erased.erased.1.0;
         block = block;
         index = index;
         names = names;
@@ -137,7 +144,7 @@ module _ (P : TProg) (whole : Whole P) (acc : Accepted P) (m : ℕ) (x : Machine
         run = run;
         known = known;
         have = subst (λ (r : ERegs). HaveWords r words f)
-            (regs_are stands.erased.1.0 stands.tuples (words_in x) stands.rest stands.erased.1.2) have;
+            (regs_are stands.erased.erased.1.0 stands.erased.heap (words_in x) stands.rest erased_is) have;
         is = refl;
       },
       e,

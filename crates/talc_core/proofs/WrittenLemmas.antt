@@ -3,7 +3,7 @@ use Rattle.std.proofs.Common.{◌≡◌, ◌∙◌, ◌≤◌, ℕ, List, sym, a
 use Rattle.t_terms.specs.Spanned.{SProg, plain_program}
 use Rattle.t_terms.specs.Tree.{TProg}
 use Rattle.t_terms.specs.ReadProgram.{program}
-use Rattle.t_terms.specs.Text.{most_open, ReadsBack}
+use Rattle.t_text.specs.Text.{most_open, ReadsBack}
 use Rattle.t_terms.specs.Nesting.{nesting}
 use Rattle.t_terms.specs.declared.program.TProgram.{TProgram}
 use Rattle.t_writer.specs.Lexeme.{render}

@@ -8,7 +8,7 @@ use Rattle.f_terms.specs.Read.{place}
 use Rattle.f_check.specs.Mismatch.{FaultWith, Mismatch as SourceMismatch}
 use Rattle.t_terms.specs.declared.fault.TCode.{TCode}
 use Rattle.t_terms.specs.Spanned.{SProg}
-use Rattle.t_terms.specs.Text as assembly
+use Rattle.t_text.specs.Text as assembly
 use Rattle.t_mismatch.specs.Mismatch.{ProgramFaultWith, Mismatch}
 use Rattle.mismatch_text.specs.Line.{source_line, not_int_line, assembly_line}
 use Rattle.talc_core.specs.declared.fault.Fault.{Fault}

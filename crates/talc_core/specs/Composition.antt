@@ -154,6 +154,12 @@ OneWrittenText =
     (P Q : TProg) (a b : List ℕ) → IsWritten P a → IsWritten Q b → (p q : SProg) → IsAssembly a p → IsAssembly b q →
     plain_program p ≡ plain_program q → a ≡ b
 
+-- two source texts of one program, places aside, are compiled to the same bytes; so a text is compiled to one text
+abbrev pub OneCompiledText : Type 0
+OneCompiledText =
+    (s t a b : List ℕ) → IsTranslated s a → IsTranslated t b →
+    (e f : Tm) → IsChecked s e TInt → IsChecked t f TInt → plain e ≡ plain f → a ≡ b
+
 -- a text is upgraded to one text at most
 abbrev pub OneUpgrade : Type 0
 OneUpgrade = (source a b : List ℕ) → IsUpgraded source a → IsUpgraded source b → a ≡ b

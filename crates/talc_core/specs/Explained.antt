@@ -1,8 +1,8 @@
 -- What `explain` shows of a text.
-use Rattle.std.specs.Prelude.{◌≡◌, ◌⊎◌, ◌==◌, ℕ, List, Bool, if◌then◌else◌, codes}
-use Rattle.std.specs.List.{starts_with}
+use Rattle.std.specs.Prelude.{◌≡◌, ◌⊎◌, ℕ, List, if◌then◌else◌, codes}
 use Rattle.idx_core.specs.declared.span.Span.{Span}
 use Rattle.fault_page.specs.Page.{page}
+use Rattle.text_kind.specs.Kind.{begins_with_tal}
 use Rattle.talc_core.specs.declared.fault.Fault.{Fault}
 use Rattle.talc_core.specs.declared.fault.Fault.TheVariants.{Source, Tal}
 use Rattle.talc_core.specs.declared.status.Status.TheVariants.{Done}
@@ -24,14 +24,10 @@ explained text (Tal code span) types = fault_page text (tal_code code) (tal_word
 abbrev pub no_fault : List ℕ
 no_fault = codes "no fault\n"
 
--- a text that begins with `tal` and a space is taken for an assembly text, and any other for a source text
-abbrev pub is_assembly : List ℕ → Bool
-is_assembly text = starts_with (λ a b. a == b) text (codes "tal ")
-
--- what is looked for in a text: an assembly program that the typing rules accept, as by `check`, or a program of the
--- source, as by `compile`
+-- what is looked for in a text: where its first token is the word `tal`, an assembly program that the typing rules
+-- accept, as by `check`, and else a program of the source, as by `compile`
 abbrev pub looked_for : List ℕ → Need
-looked_for text = if is_assembly text then AnAssembly else AProgram
+looked_for text = if begins_with_tal text then AnAssembly else AProgram
 
 -- the text has this first fault, and the page of the fault is shown, with the types that are at odds
 pub record FaultExplained (text shown : List ℕ) : Type 0 where
@@ -53,6 +49,12 @@ abbrev pub ShowsExplained : Showing
 ShowsExplained Done text shown = ExplainShown text shown
 ShowsExplained other text shown = ⊥
 
--- The law: one text is shown of a text.
+-- The laws.
+
+-- of each text that `check` takes, `no fault` is shown
+abbrev pub TakenIsExplained : Type 0
+TakenIsExplained = (text : List ℕ) → IsTaken AnAssembly text → ExplainShown text no_fault
+
+-- one text is shown of a text
 abbrev pub OneExplanation : Type 0
 OneExplanation = (text a b : List ℕ) → ExplainShown text a → ExplainShown text b → a ≡ b

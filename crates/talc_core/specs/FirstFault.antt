@@ -12,7 +12,7 @@ use Rattle.f_terms.specs.Faults as typing
 use Rattle.f_parser.specs.Text as parser
 use Rattle.t_terms.specs.declared.fault.TCode.{TCode}
 use Rattle.t_terms.specs.Spanned.{SProg, plain_program}
-use Rattle.t_terms.specs.Text as assembly
+use Rattle.t_text.specs.Text as assembly
 use Rattle.t_terms.specs.Whole.{Whole}
 use Rattle.t_rules.specs.Rules.{Accepted}
 use Rattle.t_rules.specs.Faults as checking

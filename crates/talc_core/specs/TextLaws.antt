@@ -1,7 +1,7 @@
 -- The laws of the crates below on which the laws of texts stand.
 use Rattle.f_parser.specs.Text as reading
 use Rattle.f_terms.specs.Laws as typing
-use Rattle.t_terms.specs.Text as assembly
+use Rattle.t_text.specs.Text as assembly
 use Rattle.t_rules.specs.LawsFaults as checking
 use Rattle.f_check.specs.Laws as source_at_odds
 use Rattle.t_mismatch.specs.Mismatch as assembly_at_odds

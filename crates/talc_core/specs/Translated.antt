@@ -12,7 +12,8 @@ use Rattle.talc_core.specs.Written.{IsWritten}
 
 -- The source text is a text of a program, and the target text the one that is written of a translation of it by the
 -- rules of the passes in turn: the one that the passes make. Who wants to know that it is a translation reads the
--- rules alone, and `IsMade` tells no more than that one source gives one program.
+-- rules alone, and by a law of `pipeline` whatever is one and is accepted means the same; `IsMade` shuts what the rules
+-- leave open, so that one source gives one program.
 pub record IsTranslated (source target : List ℕ) : Type 0 where
   pub term : Tm
   pub program : TProg

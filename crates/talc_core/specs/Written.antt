@@ -1,7 +1,7 @@
 -- When a text is the one that is written of an assembly program.
 use Rattle.std.specs.Prelude.{◌≡◌, List, ℕ}
 use Rattle.t_terms.specs.Tree.{TProg}
-use Rattle.t_terms.specs.Text.{ReadsBack}
+use Rattle.t_text.specs.Text.{ReadsBack}
 use Rattle.t_writer.specs.Lexeme.{render}
 use Rattle.t_writer.specs.Written.{second_written}
 

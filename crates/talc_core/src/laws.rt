@@ -9,11 +9,11 @@ ghost use Rattle.talc_core.specs.Composition.{BoundedIsTaken, BoundedMeansTheSam
 ghost use Rattle.talc_core.specs.Composition.{BoundedHasFewRegisters};
 ghost use Rattle.talc_core.specs.Composition.{UpgradedIsTaken, UpgradedIsTheSame, UpgradedRunsTheSame};
 ghost use Rattle.talc_core.specs.Composition.{UpgradedTracesTheSame, UpgradedNeverSticks, UpgradedIsKept};
-ghost use Rattle.talc_core.specs.Composition.{OneUpgrade, OneWrittenText};
+ghost use Rattle.talc_core.specs.Composition.{OneCompiledText, OneUpgrade, OneWrittenText};
 ghost use Rattle.talc_core.specs.Composition.{OneForm, ShownAssemblyIsCompiled, ShownSourceIsTheSame};
 ghost use Rattle.talc_core.specs.Composition.{ShownSourceIsTaken, ShownSourceShowsTheSame, ShownSourceIsKept};
 ghost use Rattle.talc_core.specs.Exact.{HeadlineIsExact};
-ghost use Rattle.talc_core.specs.Explained.{OneExplanation};
+ghost use Rattle.talc_core.specs.Explained.{OneExplanation, TakenIsExplained};
 ghost use Rattle.talc_core.specs.TextLaws.{MismatchLaws, TextLaws};
 ghost use Rattle.talc_core.specs.Traced.{LinesShowKinds, OneLine};
 ghost use Rattle.talc_core.specs.TraceLaws.{OneTrace, TraceEndsAsRun};
@@ -28,7 +28,7 @@ use t_rules::{
     accepted_or_fault, accepted_programs_are_never_stuck, accepted_programs_go_on,
     erased_words_are_of_their_kind, no_fault_where_accepted, places_are_known, runs_are_unique,
 };
-use t_terms::{at_most_one_program, program_or_fault};
+use t_text::{at_most_one_program, program_or_fault};
 
 // What the laws of texts stand on: laws of the crates below.
 pub(crate) fn texts_keep_laws()
@@ -49,8 +49,8 @@ pub(crate) fn texts_keep_laws()
     evaluation_leaves_at_most_its_turns();
     at_most_one_program();
     program_or_fault();
-    t_terms::no_fault_where_read();
-    t_terms::at_most_one_fault();
+    t_text::no_fault_where_read();
+    t_text::at_most_one_fault();
     accepted_or_fault();
     no_fault_where_accepted();
     t_rules::at_most_one_fault();
@@ -253,6 +253,13 @@ pub fn one_written_text()
     texts_keep_laws();
 }
 
+/// Two source texts of one program, places aside, are compiled to the same bytes.
+pub fn one_compiled_text()
+    ensures { OneCompiledText }
+{
+    texts_keep_laws();
+}
+
 /// A program has one line at most after so many steps.
 pub fn one_line()
     ensures { OneLine }
@@ -282,6 +289,13 @@ pub fn one_trace()
 pub fn trace_ends_as_run()
     ensures { TraceEndsAsRun }
 {}
+
+/// Of each text that `check` takes `explain` shows that there is no fault: its first token is the word `tal`.
+pub fn taken_is_explained()
+    ensures { TakenIsExplained }
+{
+    text_kind::assembly_begins_so();
+}
 
 /// What `explain` shows of a text is told by the text.
 pub fn one_explanation()

@@ -1,2 +1,10 @@
 pub mod Ends
+pub mod Laws
 pub mod Levels
+pub mod Props
+pub mod Read
+pub mod Scope
+pub mod Substitution
+pub mod TyLaws
+pub mod Types
+pub mod Walks

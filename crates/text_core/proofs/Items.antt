@@ -3,7 +3,6 @@ use Rattle.std.proofs.Common.{◌≡◌, ◌≤◌, ◌==◌, ℕ, suc, ◌+◌,
 use Rattle.std.proofs.Common.{if◌then◌else◌, not, ◌||◌, refl, sym, ◌∙◌, ap, subst, arith, Option, Some, None}
 use Rattle.std.specs.List.{prefix_len, take_while, list_all}
 use Rattle.std.proofs.lemmas.Bool.{eqb-true, and_parts, or_parts, not-true}
-use Rattle.std.proofs.lemmas.Bool.Decides.{nat_tests}
 use Rattle.std.proofs.lemmas.List.{take-append-drop, length-take-le}
 use Rattle.std.proofs.lemmas.List.Sums.{prefix_len-le-length, take_while-cons}
 use Rattle.text_core.specs.Byte.{space, digit, letter, of_word, of_line, mark, value}
@@ -13,11 +12,9 @@ use Rattle.text_core.specs.Tokens.{n_nothing, HasSigns}
 use Rattle.text_core.specs.Lexeme.{PGap, PWord, PPlain, PNegative, POther, at_dashes, at_negative, sign_item, of_sign}
 use Rattle.text_core.specs.Lexeme.{of_pair, of_piece, item}
 use Rattle.text_core.proofs.Runs.{run_all, run_longest}
+use Rattle.text_core.proofs.Characters.{digit_no_letter as digit_letter}
 
 -- kinds of bytes
-
-digit_letter : (b : ℕ) → digit b ≡ true → letter b ≡ false
-digit_letter b e = grind (arith, nat_tests)
 
 pub record IsMark (b : ℕ) : Type 0 where
   no_letter : letter b ≡ false

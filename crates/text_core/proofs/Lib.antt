@@ -14,3 +14,4 @@ pub mod Total
 pub mod Unique
 pub mod Walk
 pub mod Whole
+pub mod Characters

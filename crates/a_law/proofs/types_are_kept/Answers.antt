@@ -8,7 +8,7 @@ returns c =
     record {
       lifts = c.words_law.ensures.lifts;
       puts = c.words_law.ensures.puts;
-      one = c.words_law.ensures.one;
+      one = c.put_law.ensures;
       scopes = c.words_law.ensures.scopes;
       by_one = c.one_by_one_law.ensures;
     } in

@@ -5,7 +5,7 @@ use std::alloc::Global;
 use std::test::Fail;
 use t_grammar::{RawType, Stopped, expect_index, expect_register, whole_type};
 use t_lexer::Tokens;
-use t_terms::{Kind, Token};
+use t_text::{Kind, Token};
 
 fn token(kind: Kind, start: u64) -> Token {
     Token {

@@ -5,7 +5,8 @@ use std::alloc::Global;
 use std::process::Abort;
 use std::test::Fail;
 use t_lexer::{Tokens, tokens};
-use t_terms::{Kind, TCode, TFault, Token};
+use t_terms::{TCode, TFault};
+use t_text::{Kind, Token};
 
 // The text has this fault, or none where it is cut.
 fn has_fault(rt: &impl Abort, alloc: Global, text: &[u8], wanted: Option<TFault>) {

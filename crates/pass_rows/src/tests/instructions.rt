@@ -4,7 +4,7 @@ use pipeline::compile;
 use std::alloc::Global;
 use std::test::Fail;
 use t_lexer::{Tokens, tokens};
-use t_terms::Kind;
+use t_text::Kind;
 use t_writer::write2;
 
 fn assembly(alloc: Global, source: &str) -> Result<Vec<u8>, Fail> {

@@ -9,7 +9,7 @@ use std::process::Abort;
 use std::test::Fail;
 use t_check::Checked;
 use t_lexer::tokens;
-use t_terms::Kind;
+use t_text::Kind;
 use t_writer::write2;
 
 // Thirty names of numbers, which take no registers.

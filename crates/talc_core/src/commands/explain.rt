@@ -3,7 +3,7 @@ ghost use Rattle.std.specs.Prelude.{◌≡◌, IfOk};
 ghost use Rattle.talc_core.specs.FirstFault.{AnyText};
 ghost use Rattle.talc_core.specs.Lines.{source_code, source_words, tal_code, tal_words};
 ghost use Rattle.talc_core.specs.Hints.{source_hint, tal_hint};
-ghost use Rattle.talc_core.specs.Explained.{ExplainShown, ShowsExplained, explained, is_assembly, looked_for};
+ghost use Rattle.talc_core.specs.Explained.{ExplainShown, ShowsExplained, explained, looked_for};
 ghost use Rattle.talc_core.specs.OnTexts.{ShowsText};
 ghost use Rattle.talc_core.specs.Steps.{IsFinding, ShowsFile};
 
@@ -22,13 +22,7 @@ use idx_core::{OutOfMemory, Span};
 use io_core::{Files, Sink};
 use std::alloc::Global;
 use t_terms::TCode;
-
-// Whether a text is taken for an assembly text.
-fn is_assembly(text: &[u8]) -> bool
-    ensures { result ≡ is_assembly text.now }
-{
-    text.starts_with(b"tal ")
-}
+use text_kind::is_assembly;
 
 // Looks for the first fault of a text.
 fn find_fault(alloc: Global, text: &[u8]) -> Result<Finding, OutOfMemory>

@@ -1,6 +1,5 @@
 // The command `typeof`.
 ghost use Rattle.std.specs.Prelude.{◌≡◌, IfOk};
-ghost use Rattle.f_terms.specs.Ty.{Closed};
 ghost use Rattle.f_terms.specs.Read.{tree};
 ghost use Rattle.talc_core.specs.FirstFault.{AnyTerm};
 ghost use Rattle.talc_core.specs.Lines.{type_line};
@@ -14,17 +13,17 @@ use crate::refusal::Refusal;
 use crate::reply::{Ending, Reply};
 use crate::report::Failure;
 use crate::source::check_source;
-use f_terms::{FType, type_text};
+use f_terms::FType;
+use f_writer::type_at;
 use idx_core::OutOfMemory;
 use io_core::{Files, Sink};
 use std::alloc::Global;
 
 // The text of a type, and a line end.
 fn type_line(alloc: Global, ty: &FType) -> Result<Vec<u8>, OutOfMemory>
-    requires { Closed (tree ty.now) }
     ensures { IfOk result (λ line. line.items ≡ type_line (tree ty.now)) }
 {
-    let mut line = type_text(alloc, ty)?;
+    let mut line = type_at(alloc, ty, 0)?;
     line.extend_from_slice(b"\n")?;
     Ok(line)
 }

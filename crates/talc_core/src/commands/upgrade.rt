@@ -11,7 +11,7 @@ use crate::reply::Ending;
 use crate::report::Failure;
 use io_core::Files;
 use std::alloc::Global;
-use t_terms::keeps_by_nesting;
+use t_text::keeps_by_nesting;
 use t_writer::write2;
 
 /// The accepted program of an assembly text as a text in the newest version of the language (own choice). Refuses a

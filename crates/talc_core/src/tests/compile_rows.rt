@@ -8,7 +8,7 @@ use std::alloc::{AllocError, Global};
 use std::process::Abort;
 use std::test::Fail;
 use t_lexer::tokens;
-use t_terms::Kind;
+use t_text::Kind;
 
 const COMPILE: &str = "talc compile x y";
 

@@ -2,10 +2,10 @@ use Rattle.std.proofs.Common.{◌≡◌, ◌∙◌, length, sym, ap₂, rules}
 use Rattle.std.specs.Vec.Iter.{into_iter_items}
 use Rattle.a_terms.specs.Tree as a
 use Rattle.a_pass.specs.Scope.{field_at, knowns, scope}
-use Rattle.a_pass.proofs.Emitting.{nothing}
 use Rattle.a_pass.proofs.Every.{a_const, consts_map}
 use Rattle.a_pass.proofs.Runs.{mapped_step, mapped_end}
 use Rattle.a_pass.proofs.constants.constant_fields.Goals as goal
+use Rattle.std.proofs.lemmas.List.{nil_from_length as nothing}
 
 pub loop-field-preserved : goal.loop-field-preserved
 loop-field-preserved c =

@@ -1,9 +1,9 @@
 use Rattle.std.proofs.Common.{◌≡◌, length, sym, ap, arith, rules}
 use Rattle.std.specs.Vec.Iter.{into_iter_items}
-use Rattle.a_terms.specs.Tree as a
 use Rattle.a_pass.specs.Emits.{inits}
-use Rattle.a_pass.proofs.Emitting.{emits_none, emits_same, fill_step, nothing}
+use Rattle.a_pass.proofs.Emitting.{emits_none, emits_same, fill_step}
 use Rattle.a_pass.proofs.emit.fill.Goals as goal
+use Rattle.std.proofs.lemmas.List.{nil_from_length as nothing}
 
 pub loop-value-preserved : goal.loop-value-preserved
 loop-value-preserved c =

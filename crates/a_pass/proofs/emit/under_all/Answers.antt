@@ -2,9 +2,9 @@ use Rattle.std.proofs.Common.{◌≡◌, length, rules}
 use Rattle.std.specs.Vec.Iter.{into_iter_items}
 use Rattle.a_terms.specs.NodeTrees.{a_value}
 use Rattle.a_pass.specs.Scope.{value_at}
-use Rattle.a_pass.proofs.Emitting.{nothing}
 use Rattle.a_pass.proofs.Runs.{mapped_step, mapped_end}
 use Rattle.a_pass.proofs.emit.under_all.Goals as goal
+use Rattle.std.proofs.lemmas.List.{nil_from_length as nothing}
 
 pub loop-value-preserved : goal.loop-value-preserved
 loop-value-preserved c =

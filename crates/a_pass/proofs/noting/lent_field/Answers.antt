@@ -3,13 +3,13 @@ use Rattle.c_terms.specs.C.{TCRef}
 use Rattle.c_terms.specs.Read.{ctree}
 use Rattle.a_terms.specs.Typing.{field_of}
 use Rattle.a_law.specs.Allocate.{atype}
-use Rattle.a_pass.proofs.CTrees.{is_tuple}
+use Rattle.term_core.proofs.Trees.{tree_is_tuple}
 use Rattle.a_pass.proofs.noting.lent_field.Goals as goal
 
 pub returns-in-Tuple : goal.returns-in-Tuple
 returns-in-Tuple c =
     c.field_among.ensures
-    ∙ ap (λ t. field_of c.args.i (Some (atype t))) (sym (is_tuple _ _ _ c.in-Tuple.is c.deref.ensures.value))
+    ∙ ap (λ t. field_of c.args.i (Some (atype t))) (sym (tree_is_tuple _ _ _ c.in-Tuple.is c.deref.ensures.value))
 
 pub returns-in-Ref : goal.returns-in-Ref
 returns-in-Ref c =

@@ -2,8 +2,8 @@ use Rattle.std.proofs.Common.{◌≡◌, ap, ◌∙◌, sym, arith, length}
 use Rattle.a_terms.specs.Typing.{aapply, or_int}
 use Rattle.a_terms.specs.Read.{atrees}
 use Rattle.a_pass.specs.Scope.{scope, type_of}
-use Rattle.a_pass.proofs.Emitting.{nothing}
 use Rattle.a_pass.proofs.parts.applied_kind.Goals as goal
+use Rattle.std.proofs.lemmas.List.{nil_from_length as nothing}
 
 pub returns-then-ts-eq0 : goal.returns-then-ts-eq0
 returns-then-ts-eq0 c =

@@ -1,5 +1,4 @@
 use Rattle.std.proofs.Common.{sym, refl, rules, ◌∙◌, ap}
-use Rattle.a_terms.specs.Tree as a
 use Rattle.a_pass.specs.Scope.{all_constants, knowns, scope}
 use Rattle.a_pass.proofs.Steps.{constant_reads, reads_deep, tuple_reads}
 use Rattle.a_pass.proofs.parts.tuple.Goals as goal

@@ -1,5 +1,4 @@
 use Rattle.std.proofs.Common.{sym, subst, List, length}
-use Rattle.a_terms.specs.Tree as a
 use Rattle.h_terms.specs.Nodes.{h_blocks, HRow}
 use Rattle.h_terms.specs.declared.node.HNode.{HNode}
 use Rattle.a_pass.proofs.Blocks.{block_is, block_keeps}

@@ -1,9 +1,9 @@
 use Rattle.std.proofs.Common.{◌≡◌, length, rules}
 use Rattle.std.specs.Vec.Iter.{into_iter_items}
 use Rattle.a_pass.specs.Scope.{type_in, type_of}
-use Rattle.a_pass.proofs.Emitting.{nothing}
 use Rattle.a_pass.proofs.Runs.{mapped_step, mapped_end}
 use Rattle.a_pass.proofs.scope.kinds_of.Goals as goal
+use Rattle.std.proofs.lemmas.List.{nil_from_length as nothing}
 
 pub loop-ty-preserved : goal.loop-ty-preserved
 loop-ty-preserved c = λ g.

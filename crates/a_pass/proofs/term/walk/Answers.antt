@@ -1,4 +1,4 @@
-use Rattle.std.proofs.Common.{◌≡◌, ◌∷◌, [], ◌++◌, ◌∙◌, ap, refl, List, length, ◌+◌, rules}
+use Rattle.std.proofs.Common.{◌≡◌, ◌∷◌, [], ◌++◌, ◌∙◌, ap, refl, List, length, rules}
 use Rattle.std.proofs.lemmas.List.{drop_all}
 use Rattle.a_pass.proofs.Walking.{walk_begins, walk_arity, walk_names, walk_bound, walk_goes, walk_stuck, walk_ends}
 use Rattle.a_pass.proofs.Walking.{next_node}

@@ -9,13 +9,14 @@ use Rattle.a_terms.specs.Tree.{AVar, over, over_types, over_fields}
 use Rattle.a_terms.specs.Read.{atree, afields}
 use Rattle.a_terms.specs.ReadLaws.{a_tuple, a_code, at_types, at_type}
 use Rattle.a_law.specs.Allocate.{atype, atypes, afull}
-use Rattle.a_pass.proofs.CTrees.{is_tuple, is_code, atrees_push, afields_push}
+use Rattle.term_core.proofs.Trees.{tree_is_tuple, tree_is_code}
+use Rattle.a_pass.proofs.CTrees.{atrees_push, afields_push}
 use Rattle.a_pass.proofs.types.+allocating.Goals as goal
 
 pub a_type_under-returns-in_ok-parts-in-Tuple : goal.a_type_under-returns-in_ok-parts-in-Tuple
 a_type_under-returns-in_ok-parts-in-Tuple t c =
     a_tuple c.in_ok-parts-in-Tuple.parts ∙ ap a.ATuple c.in_ok-parts-in-Tuple.ensures
-    ∙ ap (λ x. over (shifted AVar c.args.by) c.args.d (atype x)) (sym (is_tuple _ _ _ c.in-Tuple.is
+    ∙ ap (λ x. over (shifted AVar c.args.by) c.args.d (atype x)) (sym (tree_is_tuple _ _ _ c.in-Tuple.is
     c.deref.ensures.value))
 
 pub a_type_under-returns-in_ok-parts-in-Code : goal.a_type_under-returns-in_ok-parts-in-Code
@@ -24,7 +25,7 @@ a_type_under-returns-in_ok-parts-in-Code t c =
     ∙ ap (a.ACode c.in-Code.owes) (c.in_ok-parts-in-Code.ensures
     ∙ at_types (shifted AVar c.args.by) _ _ _ c.in_ok-below-in-Code.ensures)
     ∙ ap (λ x. over (shifted AVar c.args.by) c.args.d (atype x))
-    (sym (is_code _ _ _ _ c.in-Code.is c.deref-in-Code.ensures.value))
+    (sym (tree_is_code _ _ _ _ c.in-Code.is c.deref-in-Code.ensures.value))
 
 pub a_type_under-returns-in_ok-new-in-Exists : goal.a_type_under-returns-in_ok-new-in-Exists
 a_type_under-returns-in_ok-new-in-Exists t c =

@@ -1,8 +1,8 @@
 use Rattle.std.proofs.Common.{◌∙◌, ◌-◌, arith, ap, sym, Bool}
 use Rattle.a_terms.specs.Read.{atree}
 use Rattle.a_terms.specs.declared.types.AType.{AType}
-use Rattle.a_scope.proofs.Parts.{field_in, field_out}
 use Rattle.a_scope.proofs.noted.field_among.Goals as goal
+use Rattle.a_terms.proofs.Fields.{field_in, field_out}
 
 pub returns-then-i-fields : goal.returns-then-i-fields
 returns-then-i-fields c =

@@ -1,6 +1,6 @@
-use Rattle.a_writer.proofs.TypeTexts.{not_empty}
 use Rattle.a_writer.proofs.ProgramTexts.{data_done}
 use Rattle.a_writer.proofs.program.write_data.Goals as goal
+use Rattle.idx_core.proofs.Numbers.{not_empty}
 
 pub returns : goal.returns
 returns c =

@@ -2,8 +2,9 @@ use Rattle.std.proofs.Common.{◌≡◌, ◌++◌, List, ℕ, codes, append_asso
 use Rattle.a_terms.specs.Tree.{ATys}
 use Rattle.a_terms.specs.Read.{atrees}
 use Rattle.a_writer.specs.Types.{applied_text, types_text}
-use Rattle.a_writer.proofs.TypeTexts.{applied_is, not_empty}
+use Rattle.a_writer.proofs.TypeTexts.{applied_is}
 use Rattle.a_writer.proofs.types.write_applied.Goals as goal
+use Rattle.idx_core.proofs.Numbers.{not_empty}
 
 applied_done : (d : ℕ) (ts : ATys) (t0 t1 t2 t3 : List ℕ) → t1 ≡ t0 ++ codes "[" → t2 ≡ t1 ++ types_text 0 d ts →
     t3 ≡ t2 ++ codes "]" → applied_text d ts ≡ codes "[" ++ (types_text 0 d ts ++ codes "]") →

@@ -1,5 +1,4 @@
 use Rattle.std.proofs.Common.{ap, ◌∙◌, sym}
-use Rattle.c_terms.specs.Stream as S
 use Rattle.c_terms.specs.Read.{written}
 use Rattle.c_walk.specs.Emit as E
 use Rattle.c_emit.proofs.Writes.{after_true, after_false, own_is}

@@ -1,7 +1,8 @@
 use Rattle.std.proofs.Common.{◌≡◌, drop}
 use Rattle.c_law.specs.Close as L
 use Rattle.k_terms.specs.Read.{ktys}
-use Rattle.c_free.specs.Names.{joined, renaming}
+use Rattle.term_core.specs.Read.{joined}
+use Rattle.c_free.specs.Names.{renaming}
 use Rattle.c_free.proofs.close_type.+close.Given as goal
 
 abbrev pub invariant-close_types-loop-t : goal.invariant-close_types-loop-t

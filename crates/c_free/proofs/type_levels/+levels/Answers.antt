@@ -1,9 +1,11 @@
 use Rattle.std.proofs.Common.{◌∙◌, ap, sym, ◌++◌, ◌∷◌, List, ℕ, []}
-use Rattle.c_free.proofs.Trees.{lift_add}
 use Rattle.c_walk.specs.Know as W
 use Rattle.k_terms.specs.Read.{ktree, ktys}
-use Rattle.c_free.proofs.Trees.{is_tuple, is_code, list_in, list_out, append_nil}
+use Rattle.term_core.proofs.Trees.{tree_is_tuple, tree_is_code}
+use Rattle.c_free.proofs.Places.{list_in, list_out}
 use Rattle.c_free.proofs.type_levels.+levels.Goals as goal
+use Rattle.term_core.proofs.Lifts.{lift_add}
+use Rattle.std.proofs.lemmas.List.{append-nil as append_nil}
 
 pub type_levels-returns-in_ok-push-in-Var : goal.type_levels-returns-in_ok-push-in-Var
 type_levels-returns-in_ok-push-in-Var t c =
@@ -21,7 +23,7 @@ type_levels-returns-else-under-i t c =
 pub type_levels-returns-in_ok-types_levels-in-Tuple : goal.type_levels-returns-in_ok-types_levels-in-Tuple
 type_levels-returns-in_ok-types_levels-in-Tuple t c =
     c.in_ok-types_levels-in-Tuple.ensures ∙ ap (λ x. c.args.out.now.items ++ W.type_levels c.args.depth c.args.under x)
-    (sym (is_tuple _ _ _ c.in-Tuple.is c.deref.ensures.value))
+    (sym (tree_is_tuple _ _ _ c.in-Tuple.is c.deref.ensures.value))
 
 pub type_levels-returns-in_ok-types_levels-in-Code : goal.type_levels-returns-in_ok-types_levels-in-Code
 type_levels-returns-in_ok-types_levels-in-Code t c =
@@ -29,4 +31,4 @@ type_levels-returns-in_ok-types_levels-in-Code t c =
     ∙ ap (λ u. c.args.out.now.items ++ W.types_levels c.args.depth u (ktys c.deref-in-Code.result.now))
     (c.in_ok-under-in-Code.ensures ∙ sym (lift_add c.in-Code.owes c.args.under))
     ∙ ap (λ x. c.args.out.now.items ++ W.type_levels c.args.depth c.args.under x)
-    (sym (is_code _ _ _ _ c.in-Code.is c.deref-in-Code.ensures.value))
+    (sym (tree_is_code _ _ _ _ c.in-Code.is c.deref-in-Code.ensures.value))

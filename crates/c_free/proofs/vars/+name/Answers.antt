@@ -1,9 +1,9 @@
 use Rattle.std.proofs.Common.{◌≡◌, ◌∙◌, ◌+◌, suc, ap, sym, arith}
 use Rattle.c_walk.specs.Know as W
-use Rattle.c_free.proofs.Trees.{lift_add}
 use Rattle.c_free.specs.Names.{side, renaming}
-use Rattle.c_free.proofs.Trees.{under_in, under_out}
+use Rattle.c_free.proofs.Places.{under_in, under_out}
 use Rattle.c_free.proofs.vars.+name.Goals as goal
+use Rattle.term_core.proofs.Lifts.{lift_add}
 
 pub returns-in_ok-at-in-Here : goal.returns-in_ok-at-in-Here
 returns-in_ok-at-in-Here t c =

@@ -1,4 +1,4 @@
-use Rattle.c_free.proofs.Trees.{level_in, level_out}
+use Rattle.c_free.proofs.Places.{level_in, level_out}
 use Rattle.c_free.proofs.vars.level_of.Goals as goal
 
 pub returns-then-i-depth : goal.returns-then-i-depth

@@ -1,8 +1,8 @@
 use Rattle.std.proofs.Common.{◌∙◌, ◌+◌, ap, sym}
 use Rattle.c_walk.specs.Know as W
 use Rattle.term_core.specs.Levels.{level_of}
-use Rattle.c_free.proofs.Trees.{lift_add}
 use Rattle.c_free.proofs.vars.outer_var.Goals as goal
+use Rattle.term_core.proofs.Lifts.{lift_add}
 
 pub returns : goal.returns
 returns c =

@@ -1,7 +1,7 @@
 use Rattle.std.proofs.Common.{◌∙◌, ◌+◌, ap}
 use Rattle.c_walk.specs.Know as W
 use Rattle.term_core.specs.Levels.{level_of}
-use Rattle.c_free.proofs.Trees.{under_in, under_out}
+use Rattle.c_free.proofs.Places.{under_in, under_out}
 use Rattle.c_free.proofs.vars.plain_var.Goals as goal
 
 pub returns-then-i-f : goal.returns-then-i-f

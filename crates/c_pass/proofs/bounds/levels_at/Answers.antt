@@ -1,7 +1,8 @@
 use Rattle.std.proofs.Common.{◌∙◌, ◌++◌, ap, sym}
 use Rattle.c_walk.specs.Know as W
-use Rattle.c_pass.proofs.Bounding.{at_in, at_out, append_nil}
+use Rattle.c_pass.proofs.Bounding.{at_in, at_out}
 use Rattle.c_pass.proofs.bounds.levels_at.Goals as goal
+use Rattle.std.proofs.lemmas.List.{append-nil as append_nil}
 
 pub returns-in_ok-type_levels : goal.returns-in_ok-type_levels
 returns-in_ok-type_levels c =

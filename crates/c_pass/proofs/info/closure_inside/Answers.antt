@@ -3,7 +3,7 @@ use Rattle.k_terms.specs.K.{TKCode}
 use Rattle.k_terms.specs.Read.{ktys}
 use Rattle.c_terms.specs.C as C
 use Rattle.c_terms.specs.Read.{ctys}
-use Rattle.c_terms.specs.declared.types.CType.{CType}
+use Rattle.term_core.specs.declared.types.CoreType.{CoreType as CType}
 use Rattle.c_law.specs.Close as L
 use Rattle.c_walk.specs.Know as W
 use Rattle.c_free.specs.Names.{side}

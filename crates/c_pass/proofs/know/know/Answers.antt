@@ -1,8 +1,8 @@
 use Rattle.std.proofs.Common.{◌∙◌, ◌+◌, ap, sym, drop, map}
 use Rattle.k_terms.specs.Read.{knode}
-use Rattle.c_pass.proofs.Bounding.{read_drop}
 use Rattle.c_pass.specs.Read.{total}
 use Rattle.c_pass.proofs.know.know.Goals as goal
+use Rattle.c_emit.proofs.Writes.{read_drop}
 
 pub loop-node-preserved : goal.loop-node-preserved
 loop-node-preserved c =

@@ -1,5 +1,5 @@
 use Rattle.std.proofs.Common.{◌+◌, sym, ap, ◌∙◌}
-use Rattle.c_terms.proofs.Trees.{tree_is_tuple, tree_is_code}
+use Rattle.term_core.proofs.Trees.{tree_is_tuple, tree_is_code}
 use Rattle.c_writer.specs.Types.{names_variable}
 use Rattle.c_writer.proofs.Listed.{named, passed, none_left}
 use Rattle.c_writer.proofs.closures.+names.Goals as goal

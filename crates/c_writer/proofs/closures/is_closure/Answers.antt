@@ -1,5 +1,5 @@
 use Rattle.std.proofs.Common.{sym, ap, ◌∙◌}
-use Rattle.c_terms.proofs.Trees.{tree_is_tuple}
+use Rattle.term_core.proofs.Trees.{tree_is_tuple}
 use Rattle.c_writer.specs.Types.{is_closure}
 use Rattle.c_writer.proofs.closures.is_closure.Goals as goal
 

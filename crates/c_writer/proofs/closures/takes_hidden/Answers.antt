@@ -1,5 +1,5 @@
 use Rattle.std.proofs.Common.{sym, ap, ◌∙◌}
-use Rattle.c_terms.proofs.Trees.{tree_is_code}
+use Rattle.term_core.proofs.Trees.{tree_is_code}
 use Rattle.c_writer.specs.Types.{takes_hidden}
 use Rattle.c_writer.proofs.closures.takes_hidden.Goals as goal
 

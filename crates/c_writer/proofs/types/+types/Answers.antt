@@ -1,7 +1,7 @@
 use Rattle.std.proofs.Common.{◌≡◌, ◌++◌, sym, ap, ◌∙◌, subst, OnOk}
 use Rattle.c_terms.specs.C.{CTy}
 use Rattle.c_terms.specs.Read.{ctys}
-use Rattle.c_terms.proofs.Trees.{tree_is_tuple, tree_is_code}
+use Rattle.term_core.proofs.Trees.{tree_is_tuple, tree_is_code}
 use Rattle.c_writer.specs.Types.{type_text, closure_text, closure_code}
 use Rattle.c_writer.proofs.Listed.{type_more, types_done, from_start, tuple_done, code_done, closure_done}
 use Rattle.c_writer.proofs.types.+types.Goals as goal

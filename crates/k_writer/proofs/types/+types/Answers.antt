@@ -1,5 +1,5 @@
 use Rattle.k_terms.specs.Read.{ktys}
-use Rattle.k_terms.proofs.Trees.{tree_is_tuple, tree_is_code}
+use Rattle.term_core.proofs.Trees.{tree_is_tuple, tree_is_code}
 use Rattle.k_writer.proofs.TypeTexts.{tuple_done, code_done}
 use Rattle.k_writer.proofs.types.+types.Goals as goal
 

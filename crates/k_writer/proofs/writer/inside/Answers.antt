@@ -1,8 +1,9 @@
 use Rattle.std.proofs.Common.{arith}
 use Rattle.k_terms.specs.Read.{ktys}
 use Rattle.k_writer.specs.State.{inside}
-use Rattle.k_writer.proofs.Nesting.{scope_is, kcount_length}
+use Rattle.k_writer.proofs.Nesting.{scope_is}
 use Rattle.k_writer.proofs.writer.inside.Goals as goal
+use Rattle.term_core.proofs.Trees.{count_length as kcount_length}
 
 pub returns : goal.returns
 returns c =

@@ -3,9 +3,8 @@ use Rattle.std.proofs.Math.Bridge.{le_prop}
 use Rattle.std.proofs.Math.Logic.{∥∥₁_elim, ∥∥₁_map}
 use Rattle.f_check.specs.Typed.{program_term}
 use Rattle.f_terms.specs.ReadTerm as source
-use Rattle.t_terms.specs.Nesting.{nesting}
+use Rattle.t_terms.specs.Nesting.{nesting, most_open}
 use Rattle.t_terms.specs.ReadProgram.{program}
-use Rattle.t_terms.specs.Text.{most_open}
 use Rattle.t_terms.specs.declared.program.TProgram.{TProgram}
 use Rattle.pipeline.specs.Compilation.{IsCompilation}
 use Rattle.pipeline.specs.Made.{IsMade}

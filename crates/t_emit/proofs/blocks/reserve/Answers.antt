@@ -6,8 +6,8 @@ use Rattle.t_terms.specs.Tree.{TBlock}
 use Rattle.t_terms.specs.Spanned.{seq_of}
 use Rattle.t_terms.specs.Read.{body, blocks_of}
 use Rattle.t_terms.specs.declared.instr.Instr.{Instr}
-use Rattle.t_emit.proofs.Bodies.{blocks_snoc}
 use Rattle.t_emit.proofs.blocks.reserve.Goals as goal
+use Rattle.t_terms.proofs.Items.{blocks_more as blocks_snoc}
 
 pub returns : goal.returns
 returns c =

@@ -2,9 +2,9 @@ use Rattle.std.proofs.Common.{◌≡◌, [], ◌∷◌, ◌++◌, ◌+◌, List,
 use Rattle.std.proofs.lemmas.Result.{err_from_is_err_and}
 use Rattle.idx_core.specs.declared.span.Span.{Span}
 use Rattle.text_core.specs.Table.{Tm}
-use Rattle.t_terms.specs.declared.wanted.Wanted.TheVariants as want
-use Rattle.t_terms.specs.GrammarTable.{LNames, LMoreNames, MakeFirstName, MakeNextName, MakeClosedNames, OfNames}
-use Rattle.t_terms.specs.GrammarTable.{OfToken}
+use Rattle.t_text.specs.declared.wanted.Wanted.TheVariants as want
+use Rattle.t_text.specs.GrammarTable.{LNames, LMoreNames, MakeFirstName, MakeNextName, MakeClosedNames, OfNames}
+use Rattle.t_text.specs.GrammarTable.{OfToken}
 use Rattle.t_grammar.proofs.Stepping.{within, list_first, list_first_stops, list_next, list_next_stops, list_whole}
 use Rattle.t_grammar.proofs.Stepping.{list_close_stops, one_read, one_missed}
 use Rattle.t_grammar.proofs.Lines.{list_names}

@@ -1,7 +1,7 @@
 use Rattle.std.proofs.Common.{length, ◌-◌, [], ◌∷◌}
 use Rattle.text_core.specs.Table.{Nt, Tm, Do}
-use Rattle.t_terms.specs.declared.wanted.Wanted.TheVariants as want
-use Rattle.t_terms.specs.GrammarTable.{LNames, LMoreNames, MakeClosedNames, OfNames}
+use Rattle.t_text.specs.declared.wanted.Wanted.TheVariants as want
+use Rattle.t_text.specs.GrammarTable.{LNames, LMoreNames, MakeClosedNames, OfNames}
 use Rattle.t_grammar.specs.Reads.{ReadsSome}
 use Rattle.t_lexer.specs.Kept.{tokens_of}
 use Rattle.t_grammar.proofs.names.names.Given as goal

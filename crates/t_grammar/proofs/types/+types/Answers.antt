@@ -4,11 +4,11 @@ use Rattle.std.proofs.lemmas.Result.{err_from_is_err_and}
 use Rattle.idx_core.specs.declared.span.Span.{Span}
 use Rattle.text_core.specs.Table.{Tm, Nt, Do, Mark}
 use Rattle.text_core.specs.Going.{at_the_end, other}
-use Rattle.t_terms.specs.declared.wanted.Wanted.TheVariants as want
-use Rattle.t_terms.specs.GrammarTable.{LBinds, LFile, LRegs, LMoreRegs, MakeFile, MakeFirstReg, MakeNextReg}
-use Rattle.t_terms.specs.GrammarTable.{MakeClosedRegs, LT, LFields, LMoreFields, MakeFirstField, MakeNextField}
-use Rattle.t_terms.specs.GrammarTable.{MakeClosedFields, MakeTypeInt, MakeTypeName, MakeTypeCode, MakeTypeSome}
-use Rattle.t_terms.specs.GrammarTable.{MakeTypeTuple, type_after}
+use Rattle.t_text.specs.declared.wanted.Wanted.TheVariants as want
+use Rattle.t_text.specs.GrammarTable.{LBinds, LFile, LRegs, LMoreRegs, MakeFile, MakeFirstReg, MakeNextReg}
+use Rattle.t_text.specs.GrammarTable.{MakeClosedRegs, LT, LFields, LMoreFields, MakeFirstField, MakeNextField}
+use Rattle.t_text.specs.GrammarTable.{MakeClosedFields, MakeTypeInt, MakeTypeName, MakeTypeCode, MakeTypeSome}
+use Rattle.t_text.specs.GrammarTable.{MakeTypeTuple, type_after}
 use Rattle.t_grammar.specs.declared.raw.RawType.{RawType}
 use Rattle.t_grammar.specs.Reads.{entry_owed, field_owed}
 use Rattle.t_grammar.proofs.Stepping.{within, start, begins, by_token, by_two, by_call, by_do, by_mark, by_same}

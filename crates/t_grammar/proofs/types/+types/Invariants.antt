@@ -1,8 +1,8 @@
 use Rattle.std.proofs.Common.{◌+◌, length, ◌-◌, ◌*◌, map, [], ◌∷◌}
 use Rattle.text_core.specs.Table.{Nt, Tm, Do}
-use Rattle.t_terms.specs.declared.wanted.Wanted.TheVariants as want
-use Rattle.t_terms.specs.GrammarTable.{LRegs, LFields, LMoreRegs, LMoreFields, MakeClosedRegs, MakeClosedFields}
-use Rattle.t_terms.specs.GrammarTable.{OfRegs, OfFields}
+use Rattle.t_text.specs.declared.wanted.Wanted.TheVariants as want
+use Rattle.t_text.specs.GrammarTable.{LRegs, LFields, LMoreRegs, LMoreFields, MakeClosedRegs, MakeClosedFields, OfRegs}
+use Rattle.t_text.specs.GrammarTable.{OfFields}
 use Rattle.t_grammar.specs.Raw.{raw_reg, raw_field}
 use Rattle.t_grammar.specs.Reads.{ReadsSome}
 use Rattle.t_lexer.specs.Kept.{tokens_of}

@@ -2,8 +2,8 @@ use Rattle.std.proofs.Common.{◌++◌, ◌∙◌, ap, sym, get_or, List, ℕ, a
 use Rattle.std.proofs.lemmas.List.{drop_all}
 use Rattle.t_intern.specs.Applied.{unfilled as unfilled_fields}
 use Rattle.t_intern.proofs.Rows.{unfilled_next}
-use Rattle.t_intern.proofs.Walked.{item}
 use Rattle.t_intern.proofs.numbering.unfilled.Goals as goal
+use Rattle.idx_core.proofs.Lists.{item}
 
 pub loop-i-preserved : goal.loop-i-preserved
 loop-i-preserved c =

@@ -1,8 +1,8 @@
 use Rattle.std.proofs.Common.{◌+◌}
 use Rattle.text_core.proofs.Walk.{skip, read, finish}
-use Rattle.t_terms.specs.declared.token.Kind.TheVariants as k
-use Rattle.t_terms.specs.Tokens.{assembly}
-use Rattle.t_terms.proofs.TokenLaws.{assembly_signs}
+use Rattle.t_text.specs.declared.token.Kind.TheVariants as k
+use Rattle.t_text.specs.Tokens.{assembly}
+use Rattle.t_text.proofs.TokenLaws.{assembly_signs}
 use Rattle.t_lexer.specs.Kept.{kind_of, tokens_of}
 use Rattle.t_lexer.proofs.Exact.{at_most_one_cut, no_token_fault_where_cut, same_fault, is_bad, is_large}
 use Rattle.t_lexer.proofs.cut.tokens.Goals as goal

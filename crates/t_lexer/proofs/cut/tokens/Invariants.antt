@@ -1,6 +1,6 @@
 use Rattle.std.proofs.Common.{length, ◌-◌}
 use Rattle.text_core.proofs.Walk.{SoFar}
-use Rattle.t_terms.specs.Tokens.{assembly}
+use Rattle.t_text.specs.Tokens.{assembly}
 use Rattle.t_lexer.specs.Kept.{tokens_of, IsWhole}
 use Rattle.t_lexer.proofs.cut.tokens.Given as goal
 

@@ -11,4 +11,6 @@ returns c = record {
   goes = c.erased_states_go_on.ensures.goes;
   next = c.erased_states_go_on.ensures.next;
   alike = c.erased_states_halt_alike.ensures;
+  follows = c.kept_states_follow.ensures;
+  drops = c.kept_states_drop.ensures;
 }

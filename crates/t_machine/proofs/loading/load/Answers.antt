@@ -5,9 +5,10 @@ use Rattle.t_terms.specs.declared.program.TProgram.{TProgram}
 use Rattle.t_terms.specs.declared.data.Data.{Data}
 use Rattle.t_terms.specs.Read.{blocks_of}
 use Rattle.t_rules.specs.Erase.{erase_block, erase_blocks}
-use Rattle.t_machine.specs.Cells.{cells_of}
+use Rattle.t_collect.specs.Cells.{cells_of}
 use Rattle.t_machine.specs.Code.{all_moved}
-use Rattle.t_machine.specs.Heap.{starts_from, AllStarted}
+use Rattle.t_collect.specs.Tuples.{starts_from}
+use Rattle.t_machine.specs.Heap.{AllStarted}
 use Rattle.t_machine.specs.Laid.{IsLaid, IsNamed}
 use Rattle.t_machine.specs.State.{Shows}
 use Rattle.t_machine.proofs.Starting.{tuples_of, starts}
@@ -23,7 +24,7 @@ invariant_of-result c =
     c.deref-2.ensures.value c.in_ok-code.code c.in_ok-code.ensures.code c.in_ok-code.ensures.laid
     c.len-count.ensures.places
     c.len-count.result c.len-count.ensures.len c.in_ok-heap.heap c.deref-4.result.now c.deref-4.ensures.value
-    c.in_ok-heap.ensures.heap ss starts_are
+    c.in_ok-heap.ensures.heap c.in_ok-heap.ensures.fresh ss starts_are
     (subst (λ zs. AllStarted zs (cells_of c.in_ok-heap.heap.cells)) c.deref-5.ensures.value
     c.in_ok-heap.ensures.started)
     (subst (λ zs. AllStarted zs (all_moved c.in_ok-code.code.instructions.items)) c.deref-3.ensures.value
@@ -43,7 +44,7 @@ returns-clause-stands c =
     c.deref-2.ensures.value c.in_ok-code.code c.in_ok-code.ensures.code c.in_ok-code.ensures.laid
     c.len-count.ensures.places
     c.len-count.result c.len-count.ensures.len c.in_ok-heap.heap c.deref-4.result.now c.deref-4.ensures.value
-    c.in_ok-heap.ensures.heap ss starts_are
+    c.in_ok-heap.ensures.heap c.in_ok-heap.ensures.fresh ss starts_are
     (subst (λ zs. AllStarted zs (cells_of c.in_ok-heap.heap.cells)) c.deref-5.ensures.value
     c.in_ok-heap.ensures.started)
     (subst (λ zs. AllStarted zs (all_moved c.in_ok-code.code.instructions.items)) c.deref-3.ensures.value

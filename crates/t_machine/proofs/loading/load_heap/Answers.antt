@@ -8,7 +8,7 @@ use Rattle.t_terms.specs.declared.value.Value.{Value}
 use Rattle.t_terms.specs.Read.{data_fields, data_of}
 use Rattle.t_terms.specs.Spanned.{plain_fields}
 use Rattle.t_rules.specs.Erase.{EHeap, erase_datum}
-use Rattle.t_machine.specs.Cells.{cells_of}
+use Rattle.t_collect.specs.Cells.{cells_of}
 use Rattle.t_machine.specs.Heap.{IsHeap, Started}
 use Rattle.t_machine.specs.Words.{word}
 use Rattle.t_machine.proofs.Loads.{data_taken}
@@ -17,7 +17,9 @@ use Rattle.t_machine.proofs.loading.load_heap.Goals as goal
 pub loop-tuple-init : goal.loop-tuple-init
 loop-tuple-init c =
     record {
-      heap = (ap (map word) c.new-heap.ensures.cells, c.new-heap.ensures.count);
+      heap = (ap (map word) c.new-heap.ensures.cells, c.new-heap.ensures.starts);
+      kept = c.new-heap.ensures.kept;
+      dropped = c.new-heap.ensures.dropped;
       started = All-same (Started c.args.starts.now) (cells_of c.new-heap.result.cells) [] c.new-heap.ensures.cells
           (All-nil (Started c.args.starts.now));
     }
@@ -34,6 +36,8 @@ loop-tuple-preserved c =
           (plain_fields (data_fields ys)) ∷ []) c.deref.ensures.value
           ∙ sym (data_taken xs i c.tuple-item.result c.loop-tuple-test.true c.tuple-item.is))
           (c.in_ok-load_tuple.ensures.heap (map (map erase_datum) (data_of (take i xs))) inv.heap);
+      kept = c.in_ok-load_tuple.ensures.kept ∙ inv.kept;
+      dropped = c.in_ok-load_tuple.ensures.dropped ∙ inv.dropped;
       started = c.in_ok-load_tuple.ensures.started inv.started;
     }
 

@@ -7,20 +7,25 @@ use Rattle.t_terms.specs.declared.value.Value.{Value}
 use Rattle.t_terms.specs.Read.{data_fields}
 use Rattle.t_terms.specs.Spanned.{plain_fields}
 use Rattle.t_rules.specs.Erase.{erase_datum}
-use Rattle.t_machine.specs.Cells.{cells_of}
+use Rattle.t_collect.specs.Cells.{cells_of}
 use Rattle.t_machine.specs.Heap.{Started}
 use Rattle.t_machine.specs.Words.{word}
-use Rattle.t_machine.specs.declared.word.Word.{Word}
+use Rattle.t_collect.specs.declared.word.Word.{Word}
 use Rattle.t_machine.proofs.Tuples.{tuple_added}
 use Rattle.t_machine.proofs.Loads.{words_taken}
 use Rattle.t_machine.proofs.loading.load_tuple.Goals as goal
 
 pub loop-field-init : goal.loop-field-init
 loop-field-init c =
+    let x = c.args.heap.now in
+    let cells = c.in_ok-start_tuple.ensures.cells in
     record {
-      count = c.in_ok-heap.ensures;
-      cells = sym (append-nil (map word (cells_of c.args.heap.now.cells)));
-      started = λ all. all;
+      starts = c.in_ok-start_tuple.ensures.starts;
+      kept = c.in_ok-start_tuple.ensures.kept;
+      dropped = c.in_ok-start_tuple.ensures.dropped;
+      cells = ap (map word) cells ∙ sym (append-nil (map word (cells_of x.cells)));
+      started = λ all. All-same (Started c.args.starts.now) (cells_of c.start_tuple.new.self.cells) (cells_of x.cells)
+          cells all;
     }
 
 pub loop-field-preserved : goal.loop-field-preserved
@@ -30,7 +35,9 @@ loop-field-preserved c =
     let ss = c.args.starts.now in
     let w = c.in_ok-word.word in
     record {
-      count = l.invariant.count;
+      starts = l.invariant.starts;
+      kept = l.invariant.kept;
+      dropped = l.invariant.dropped;
       cells =
           ap (λ (ws : List Word). map word ws) c.in_ok-push.ensures
           ∙ map-append word (cells_of l.heap.cells) (w ∷ [])
@@ -51,9 +58,9 @@ returns-clause-heap c =
     let l = c.loop-field in
     let all = take_all l.field-index c.args.fields.now c.loop-field-test.false in
     λ h is.
-    tuple_added c.args.heap.now l.heap h (map erase_datum (plain_fields (data_fields c.args.fields.now))) is
+    tuple_added c.args.heap.now h is l.heap (map erase_datum (plain_fields (data_fields c.args.fields.now)))
     (l.invariant.cells ∙ ap (λ (xs : List (Value × TType × Span)). map word (cells_of c.args.heap.now.cells) ++ map
-    erase_datum (plain_fields (data_fields xs))) all) l.invariant.count
+    erase_datum (plain_fields (data_fields xs))) all) l.invariant.starts
 
 pub returns-clause-started : goal.returns-clause-started
 returns-clause-started c = c.loop-field.invariant.started

@@ -5,7 +5,8 @@ use Rattle.t_terms.specs.declared.data.Data.{Data}
 use Rattle.t_terms.specs.Read.{data_fields, data_of}
 use Rattle.t_terms.specs.Spanned.{plain_fields}
 use Rattle.t_rules.specs.Erase.{EWord, EHeap, erase_datum}
-use Rattle.t_machine.specs.Heap.{fields_of, starts_from}
+use Rattle.t_collect.specs.Tuples.{starts_from}
+use Rattle.t_machine.specs.Heap.{fields_of}
 use Rattle.t_machine.proofs.Loads.{data_taken, words_count}
 use Rattle.t_machine.proofs.Tuples.{fields_push, starts_push}
 use Rattle.t_machine.proofs.starts.load_starts.Goals as goal

@@ -1,7 +1,8 @@
 use Rattle.std.proofs.Common.{◌≡◌, length, map, take}
 use Rattle.t_terms.specs.Read.{data_of}
 use Rattle.t_rules.specs.Erase.{erase_datum}
-use Rattle.t_machine.specs.Heap.{fields_of, starts_from}
+use Rattle.t_collect.specs.Tuples.{starts_from}
+use Rattle.t_machine.specs.Heap.{fields_of}
 use Rattle.t_machine.proofs.starts.load_starts.Given as goal
 
 abbrev pub invariant-loop-tuple : goal.invariant-loop-tuple

@@ -1,6 +1,6 @@
 use Rattle.std.proofs.Common.{◌≡◌, refl, sym, true, false, ◌∙◌}
-use Rattle.t_terms.specs.Names.{spelled}
-use Rattle.t_terms.specs.NameFaults.{block_faults}
+use Rattle.t_text.specs.Names.{spelled}
+use Rattle.t_text.specs.NameFaults.{block_faults}
 use Rattle.t_shapes.specs.Raw.{raw_block}
 use Rattle.t_reader.specs.Resolve.{stands_before}
 use Rattle.t_terms.specs.Tree.{Label}

@@ -1,5 +1,5 @@
 use Rattle.std.proofs.Common.{◌≡◌, drop}
-use Rattle.t_terms.specs.Names.{bind}
+use Rattle.t_text.specs.Names.{bind}
 use Rattle.t_reader.proofs.scope.bind_all.Given as goal
 
 abbrev pub invariant-loop-name : goal.invariant-loop-name

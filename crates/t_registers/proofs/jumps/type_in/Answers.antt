@@ -1,8 +1,9 @@
 use Rattle.std.proofs.Common.{rules, sym, get_or}
 use Rattle.std.proofs.lemmas.List.Sorted.{answers_always}
-use Rattle.t_intern.proofs.Walked.{item, reg_below}
+use Rattle.t_intern.proofs.Walked.{reg_below}
 use Rattle.t_registers.proofs.Rising.{names_rise, found_at, found_none, none_before, lookup_there, lookup_none}
 use Rattle.t_registers.proofs.jumps.type_in.Goals as goal
+use Rattle.idx_core.proofs.Lists.{item}
 
 pub returns-in-Ok-clause-below : goal.returns-in-Ok-clause-below
 returns-in-Ok-clause-below c = λ n below.

@@ -2,10 +2,10 @@ use Rattle.std.proofs.Common.{◌+◌, ◌++◌, ◌∙◌, ap, sym, get_or, fal
 use Rattle.std.proofs.lemmas.List.{drop_all}
 use Rattle.t_intern.specs.Marks.{has}
 use Rattle.t_intern.specs.Nodes.{at}
-use Rattle.t_intern.proofs.Walked.{item}
 use Rattle.t_registers.specs.Marks.{marked_list}
 use Rattle.t_registers.proofs.Sets.{marked_next}
 use Rattle.t_registers.proofs.marking.mark_fields.Goals as goal
+use Rattle.idx_core.proofs.Lists.{item}
 
 pub loop-i-preserved : goal.loop-i-preserved
 loop-i-preserved c =

@@ -1,7 +1,7 @@
 use Rattle.std.proofs.Common.{◌≡◌, List, [], ◌∷◌, ◌++◌, refl, sym, ◌∙◌, ap, arith}
 use Rattle.std.proofs.lemmas.Result.{err_from_is_err_and}
-use Rattle.t_terms.specs.declared.wanted.Wanted.TheVariants as want
-use Rattle.t_terms.specs.GrammarTable.{LDatums, LMoreDatums, MakeFirstDatum, MakeNextDatum, MakeClosedDatums}
+use Rattle.t_text.specs.declared.wanted.Wanted.TheVariants as want
+use Rattle.t_text.specs.GrammarTable.{LDatums, LMoreDatums, MakeFirstDatum, MakeNextDatum, MakeClosedDatums}
 use Rattle.t_grammar.proofs.Stepping.{within, list_first, list_first_stops, list_next, list_next_stops, list_whole}
 use Rattle.t_grammar.proofs.Stepping.{list_close_stops}
 use Rattle.t_shapes.specs.Reads.{datum_owed}

@@ -3,9 +3,9 @@ use Rattle.std.proofs.lemmas.Option.{slice_get_within}
 use Rattle.std.proofs.lemmas.Result.{err_from_is_err_and}
 use Rattle.text_core.specs.Table.{Tm, Nt, Do}
 use Rattle.text_core.specs.Going.{at_the_end, other}
-use Rattle.t_terms.specs.declared.wanted.Wanted.TheVariants as want
-use Rattle.t_terms.specs.GrammarTable.{LItem, LTuple, MakeBlock, MakeBlockItem, MakeDataItem, code_owed, data_owed}
-use Rattle.t_terms.specs.GrammarTable.{item_after}
+use Rattle.t_text.specs.declared.wanted.Wanted.TheVariants as want
+use Rattle.t_text.specs.GrammarTable.{LItem, LTuple, MakeBlock, MakeBlockItem, MakeDataItem, code_owed, data_owed}
+use Rattle.t_text.specs.GrammarTable.{item_after}
 use Rattle.t_grammar.proofs.Stepping.{start, by_token, by_row, by_call, by_do, by_same, stop_token, stop_call}
 use Rattle.t_grammar.proofs.Stepping.{stop_lacks}
 use Rattle.t_shapes.specs.Reads.{item_owed, code_parts}

@@ -1,8 +1,8 @@
 use Rattle.std.proofs.Common.{[], ◌∷◌, refl, sym, ◌∙◌, arith}
 use Rattle.std.proofs.lemmas.Result.{err_from_is_err_and}
 use Rattle.text_core.specs.Table.{Nt}
-use Rattle.t_terms.specs.GrammarTable.{table, LSomeItems, MakeNoItems, MakeNextItem, OfItems}
-use Rattle.t_terms.specs.Text.{most_open}
+use Rattle.t_text.specs.GrammarTable.{table, LSomeItems, MakeNoItems, MakeNextItem, OfItems}
+use Rattle.t_text.specs.Text.{most_open}
 use Rattle.text_core.proofs.Going as step
 use Rattle.t_grammar.proofs.Stepping.{start, by_call, by_do, stop_call}
 use Rattle.t_shapes.specs.Reads.{item_owed, some_owed}

@@ -1,8 +1,8 @@
 use Rattle.std.proofs.Common.{◌≡◌, List, [], ◌∷◌, ◌++◌, refl, sym, ◌∙◌, ap, arith}
 use Rattle.std.proofs.lemmas.Result.{err_from_is_err_and}
 use Rattle.text_core.specs.Table.{Tm, Nt, Do}
-use Rattle.t_terms.specs.declared.wanted.Wanted.TheVariants as want
-use Rattle.t_terms.specs.GrammarTable.{LT, LSomeTypes, LMoreTypes, MakeFirstType, MakeNextType, MakeClosedTypes}
+use Rattle.t_text.specs.declared.wanted.Wanted.TheVariants as want
+use Rattle.t_text.specs.GrammarTable.{LT, LSomeTypes, LMoreTypes, MakeFirstType, MakeNextType, MakeClosedTypes}
 use Rattle.t_grammar.specs.declared.raw.RawType.{RawType}
 use Rattle.t_grammar.proofs.Stepping.{within, stop_call, list_first_from, list_next, list_next_stops, list_whole}
 use Rattle.t_grammar.proofs.Stepping.{list_close_stops}

@@ -1,7 +1,7 @@
 use Rattle.std.proofs.Common.{refl}
 use Rattle.std.proofs.lemmas.Result.{err_from_is_err_and}
-use Rattle.t_terms.specs.declared.wanted.Wanted.TheVariants as want
-use Rattle.t_terms.specs.GrammarTable.{LInt, MakeInt}
+use Rattle.t_text.specs.declared.wanted.Wanted.TheVariants as want
+use Rattle.t_text.specs.GrammarTable.{LInt, MakeInt}
 use Rattle.t_grammar.proofs.Stepping.{not_opening}
 use Rattle.t_shapes.proofs.Lines.{opens_int}
 use Rattle.t_shapes.proofs.Bracketed.{two_stop, two_read}

@@ -2,8 +2,8 @@ use Rattle.std.proofs.Common.{ℕ, [], ◌∷◌, ◌+◌, refl, ap, arith}
 use Rattle.std.proofs.lemmas.Result.{err_from_is_err_and}
 use Rattle.idx_core.specs.declared.span.Span.{Span}
 use Rattle.text_core.specs.Table.{Tm, Do}
-use Rattle.t_terms.specs.declared.wanted.Wanted.TheVariants as want
-use Rattle.t_terms.specs.GrammarTable.{MakeTo}
+use Rattle.t_text.specs.declared.wanted.Wanted.TheVariants as want
+use Rattle.t_text.specs.GrammarTable.{MakeTo}
 use Rattle.t_grammar.proofs.Stepping.{within, by_token, by_two, by_do, stop_token}
 use Rattle.t_shapes.proofs.Bracketed.{to_goes}
 use Rattle.t_lexer.specs.Kept.{tokens_of}

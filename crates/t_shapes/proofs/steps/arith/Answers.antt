@@ -1,7 +1,7 @@
 use Rattle.std.proofs.Common.{[], ◌∷◌, ◌+◌, refl, arith}
 use Rattle.std.proofs.lemmas.Result.{err_from_is_err_and}
 use Rattle.text_core.specs.Table.{Nt, Do}
-use Rattle.t_terms.specs.GrammarTable.{LV, LTo, MakeArith, OfToken}
+use Rattle.t_text.specs.GrammarTable.{LV, LTo, MakeArith, OfToken}
 use Rattle.t_grammar.proofs.Stepping.{by_call, by_do, by_same, stop_call}
 use Rattle.t_shapes.proofs.Bracketed.{starting}
 use Rattle.t_shapes.specs.Reads.{arith_left}

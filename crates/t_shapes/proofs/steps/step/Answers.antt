@@ -1,7 +1,7 @@
 use Rattle.std.proofs.Common.{◌≡◌, [], ◌∷◌, slice_get, Some, refl, sym, ◌∙◌}
 use Rattle.text_core.specs.Table.{Nt}
 use Rattle.text_core.specs.Going.{at_the_end, other}
-use Rattle.t_terms.specs.GrammarTable.{LI}
+use Rattle.t_text.specs.GrammarTable.{LI}
 use Rattle.t_grammar.proofs.Stepping.{start, stop_lacks}
 use Rattle.t_shapes.proofs.Lines.{no_step}
 use Rattle.t_shapes.specs.Reads.{arith_left, bnz_left, mov_left, ld_left, malloc_left, st_left, unpack_left}

@@ -1,7 +1,7 @@
 use Rattle.std.proofs.Common.{◌≡◌, List, [], ◌∷◌, ◌++◌, refl, sym, ◌∙◌, ap, arith}
 use Rattle.std.proofs.lemmas.Result.{err_from_is_err_and}
 use Rattle.text_core.specs.Table.{Nt, Do}
-use Rattle.t_terms.specs.GrammarTable.{LBlock, LMoreBlocks, MakeFirstBlock, MakeNextBlock}
+use Rattle.t_text.specs.GrammarTable.{LBlock, LMoreBlocks, MakeFirstBlock, MakeNextBlock}
 use Rattle.t_grammar.proofs.Stepping.{start, by_call, by_do, stop_call}
 use Rattle.t_shapes.specs.Reads.{all_blocks}
 use Rattle.t_shapes.specs.declared.raw.RawItem.{RawItem}

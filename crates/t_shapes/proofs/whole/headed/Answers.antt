@@ -1,7 +1,7 @@
 use Rattle.std.proofs.Common.{◌≡◌, [], ◌∷◌, slice_get, Some, None, refl, sym, ◌∙◌}
 use Rattle.text_core.specs.Table.{Nt}
 use Rattle.text_core.specs.Going.{at_the_end, other}
-use Rattle.t_terms.specs.GrammarTable.{LHeader, header_after}
+use Rattle.t_text.specs.GrammarTable.{LHeader, header_after}
 use Rattle.t_grammar.proofs.Stepping.{start, stop_lacks}
 use Rattle.t_shapes.proofs.Itemed.{headed_blocks, headed_items}
 use Rattle.t_lexer.specs.Kept.{tokens_of}

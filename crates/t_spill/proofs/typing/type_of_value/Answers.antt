@@ -7,8 +7,9 @@ use Rattle.t_terms.specs.ReadProgram.{program}
 use Rattle.t_terms.specs.declared.value.Value.{Value}
 use Rattle.t_spill.specs.Ready.{Typable}
 use Rattle.t_spill.specs.Applying.{MayApply}
-use Rattle.t_spill.proofs.Bounding.{may_apply, not_empty}
+use Rattle.t_spill.proofs.Bounding.{may_apply}
 use Rattle.t_spill.proofs.typing.type_of_value.Goals as goal
+use Rattle.idx_core.proofs.Numbers.{not_empty}
 
 pub applied-requires : goal.applied-requires
 applied-requires c =

@@ -1,5 +1,5 @@
 use Rattle.std.proofs.Common.{ℕ}
-use Rattle.t_types.specs.Bound.{IsBound}
+use Rattle.idx_core.specs.Bound.{IsBound}
 use Rattle.t_terms.specs.Read.{end_of}
 use Rattle.t_terms.proofs.BodyWalks.{BelowFrom}
 use Rattle.t_terms.proofs.bodies.body_below.Given as goal

@@ -1,8 +1,9 @@
 use Rattle.std.proofs.Common.{◌<◌, refl, subst, sym}
 use Rattle.std.specs.Prelude.{pos}
 use Rattle.t_terms.specs.declared.shown.Shown.TheVariants.{Int}
-use Rattle.t_trace.proofs.Rendered.{as_many, item, word_more, words_none}
+use Rattle.t_trace.proofs.Rendered.{as_many, word_more, words_none}
 use Rattle.t_trace.proofs.lines.write_words.Goals as goal
+use Rattle.idx_core.proofs.Lists.{item}
 
 pub loop-i-init : goal.loop-i-init
 loop-i-init c = record { many = as_many c.args.regs.now c.args.words.now c.requires; written = refl }

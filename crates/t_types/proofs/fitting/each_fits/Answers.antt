@@ -1,9 +1,9 @@
 use Rattle.std.proofs.Common.{refl, sym}
 use Rattle.t_types.specs.Fits.{lookup}
 use Rattle.t_types.specs.Read.{file}
-use Rattle.t_types.proofs.Trees.{item_has, items_more}
 use Rattle.t_types.proofs.Files.{RegFits, regs_fit, file_fits_all, entry_fits, entry_absent}
 use Rattle.t_types.proofs.fitting.each_fits.Goals as goal
+use Rattle.idx_core.proofs.Lists.{item_has, items_more}
 
 pub returns-then-not-fits : goal.returns-then-not-fits
 returns-then-not-fits c =

@@ -3,8 +3,9 @@ use Rattle.std.proofs.lemmas.List.Elements.{All-nil}
 use Rattle.idx_core.specs.Over.{BelowAt, AnyDepth}
 use Rattle.t_types.specs.Tree.{Below}
 use Rattle.t_types.specs.Read.{tree}
-use Rattle.t_types.proofs.Trees.{types_have, types_have_all, item_has, items_more}
+use Rattle.t_types.proofs.Trees.{types_have, types_have_all}
 use Rattle.t_types.proofs.lists.types_below.Goals as goal
+use Rattle.idx_core.proofs.Lists.{item_has, items_more}
 
 pub loop-t-init : goal.loop-t-init
 loop-t-init c = λ n b. All-nil (λ t. Below n (tree t))

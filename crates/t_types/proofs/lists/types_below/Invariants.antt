@@ -1,5 +1,5 @@
 use Rattle.std.proofs.Common.{ℕ, take, All}
-use Rattle.t_types.specs.Bound.{IsBound}
+use Rattle.idx_core.specs.Bound.{IsBound}
 use Rattle.t_types.specs.Tree.{Below}
 use Rattle.t_types.specs.Read.{tree}
 use Rattle.t_types.proofs.lists.types_below.Given as goal

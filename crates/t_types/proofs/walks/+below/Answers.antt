@@ -5,8 +5,8 @@ use Rattle.t_types.specs.declared.types.TType.{TType}
 use Rattle.t_types.specs.Tree.{Below}
 use Rattle.t_types.specs.Read.{tree}
 use Rattle.t_types.proofs.Trees.{tree_is_tuple, tree_is_code, regs_have, fields_have, file_has_all, fields_have_all}
-use Rattle.t_types.proofs.Trees.{item_has, items_more}
 use Rattle.t_types.proofs.walks.+below.Goals as goal
+use Rattle.idx_core.proofs.Lists.{item_has, items_more}
 
 pub type_below-returns-in-Code : goal.type_below-returns-in-Code
 type_below-returns-in-Code t c = λ n b.

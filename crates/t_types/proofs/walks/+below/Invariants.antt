@@ -1,6 +1,6 @@
 use Rattle.std.proofs.Common.{ℕ, Bool, take, All}
 use Rattle.t_types.specs.declared.types.TType.{TType}
-use Rattle.t_types.specs.Bound.{IsBound}
+use Rattle.idx_core.specs.Bound.{IsBound}
 use Rattle.t_types.specs.Tree.{Below}
 use Rattle.t_types.specs.Read.{tree}
 use Rattle.t_types.proofs.walks.+below.Given as goal

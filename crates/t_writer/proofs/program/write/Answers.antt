@@ -1,7 +1,7 @@
 use Rattle.std.proofs.Common.{◌<◌, ◌^◌, length, arith}
 use Rattle.t_terms.specs.Read.{blocks_of, data_of}
 use Rattle.t_terms.specs.ReadProgram.{program}
-use Rattle.t_terms.specs.Text.{StandsFor}
+use Rattle.t_text.specs.Text.{StandsFor}
 use Rattle.t_writer.proofs.Texts.{first_is, first_text, reads_back}
 use Rattle.t_writer.proofs.program.write.Goals as goal
 

@@ -1,8 +1,8 @@
 use Rattle.std.proofs.Common.{rules, ◌≡◌, ◌∷◌, ◌∙◌, ap, sym, length}
 use Rattle.k_terms.specs.Read.{knode, ktree, ktys}
 use Rattle.c_emit.specs.Walked.{walked}
-use Rattle.c_emit.proofs.Writes.{count_ktys}
 use Rattle.c_emit.proofs.state.Walk.step.Goals as goal
+use Rattle.term_core.proofs.Trees.{count_length as count_ktys}
 
 pub returns-in_ok-open-in-Code : goal.returns-in_ok-open-in-Code
 returns-in_ok-open-in-Code c = λ rest.

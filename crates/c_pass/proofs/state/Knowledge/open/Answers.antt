@@ -3,22 +3,22 @@ use Rattle.term_core.specs.Ends.{lift}
 use Rattle.k_terms.specs.K as K
 use Rattle.c_walk.specs.Emit as E
 use Rattle.c_walk.specs.Know as W
-use Rattle.c_pass.proofs.Bounding.{lift_add}
 use Rattle.c_emit.specs.declared.parts.Info.{Info}
 use Rattle.c_free.specs.declared.names.Side.{Side}
 use Rattle.k_terms.specs.Read.{ktys}
 use Rattle.c_emit.specs.Read.{info}
 use Rattle.c_free.specs.Names.{side}
-use Rattle.c_pass.proofs.Lists.{k_code}
+use Rattle.term_core.proofs.Trees.{tree_Code}
 use Rattle.c_pass.specs.declared.state.Bound.{Bound}
 use Rattle.c_pass.specs.Read.{all_told, bounds, clue, clues_of, sides, infos_onto, infos_with, notes_onto, side_from}
 use Rattle.c_pass.specs.Read.{info_parts, told}
 use Rattle.c_pass.proofs.Bounding.{infos_push}
 use Rattle.c_pass.proofs.state.Knowledge.open.Goals as goal
+use Rattle.term_core.proofs.Lifts.{lift_add}
 
 pub info_from-requires : goal.info_from-requires
 info_from-requires c =
-    k_code c.args.owes c.in_ok-all_copied.field-0 ∙ ap (K.TKCode c.args.owes) c.in_ok-all_copied.ensures
+    tree_Code c.args.owes c.in_ok-copy_all.field-0 ∙ ap (K.TKCode c.args.owes) c.in_ok-copy_all.ensures
 
 abbrev known : List E.Info → List E.Note → W.Known
 known is cs = record { infos = is; notes = cs }
@@ -52,7 +52,7 @@ returns c = λ rest.
     ∙ ap (λ (ys : List Bound). told (info_parts td owes args c.args.c.kept.list.items c.args.c.own (bounds ys) f
     (side c.in_ok-g.g))) c.deref-3.ensures.value
     ∙ ap (λ s. told (info_parts td owes args c.args.c.kept.list.items c.args.c.own xs f s)) ge in
-    let own = k_code owes c.in_ok-all_copied.field-0 ∙ ap (K.TKCode owes) c.in_ok-all_copied.ensures in
+    let own = tree_Code owes c.in_ok-copy_all.field-0 ∙ ap (K.TKCode owes) c.in_ok-copy_all.ensures in
     let n1 : c.in_ok-first.first ≡ suc c.args.level = omega (arith, c.in_ok-first.ensures) in
     let n2 : c.in_ok-inside.inside ≡ lift owes td = omega (arith, c.in_ok-inside.ensures, lift_add owes td) in
     let be : bounds c.bind_all.new.xs.items ≡ W.bind_all (W.bind xs c.args.level (K.TKCode owes args) td)

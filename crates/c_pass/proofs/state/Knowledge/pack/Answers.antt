@@ -23,7 +23,7 @@ returns c = λ rest depth.
     let k = W.know rest ys f fs cs in
     let is = infos_with w.infos.items k.infos in
     let be : bounds c.bind_now.new.xs.items ≡ ys =
-    c.in_ok-bind_now.ensures ∙ ap (λ t. W.bind xs c.args.level t (W.side_depth f)) c.in_ok-copied.ensures in
+    c.in_ok-bind_now.ensures ∙ ap (λ t. W.bind xs c.args.level t (W.side_depth f)) c.in_ok-copy.ensures in
     ap (λ (zs : List W.Bound). known (infos_with w.infos.items (W.know rest zs f fs cs).infos)
     (notes_onto c.push_back.new.self.items (W.know rest zs f fs cs).notes)) be
     ∙ ap (λ (vs : List Note). known is (notes_onto vs k.notes)) c.in_ok-push_back.ensures.items

@@ -2,9 +2,9 @@ use Rattle.std.proofs.Common.{◌∙◌, ◌∷◌, ap, refl, subst, sym, List}
 use Rattle.k_terms.specs.K.{TKTuple}
 use Rattle.k_terms.specs.Stream.{NName, NProj, NArith, NCell, NGet, NSet}
 use Rattle.k_terms.specs.Read.{knode, ktree, ktys}
-use Rattle.k_terms.specs.declared.types.KType.{KType}
+use Rattle.term_core.specs.declared.types.CoreType.{CoreType as KType}
 use Rattle.c_pass.specs.Read.{Binds, total}
-use Rattle.c_pass.proofs.Lists.{k_tuple}
+use Rattle.term_core.proofs.Trees.{tree_Tuple}
 use Rattle.c_pass.proofs.state.Knowledge.step.Goals as goal
 
 pub returns-in_ok-pack-in-Pack : goal.returns-in_ok-pack-in-Pack
@@ -42,7 +42,7 @@ returns-in_ok-bind_made-in-Arith c =
 
 pub returns-in_ok-bind_made-in-Set : goal.returns-in_ok-bind_made-in-Set
 returns-in_ok-bind_made-in-Set c = λ rest.
-    let none = k_tuple c.new.result ∙ ap (λ (ts : List KType). TKTuple (ktys ts)) c.new.ensures.items in
+    let none = tree_Tuple c.new.result ∙ ap (λ (ts : List KType). TKTuple (ktys ts)) c.new.ensures.items in
     c.in_ok-bind_made-in-Set.ensures rest (NSet c.in-Set.level)
     (subst (Binds (NSet c.in-Set.level) c.in-Set.level) (sym none) (λ ns xs f fs cs. refl))
     ∙ ap (λ n. total c.args.self.now (knode n ∷ rest)) (sym c.in-Set.is)

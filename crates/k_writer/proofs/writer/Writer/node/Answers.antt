@@ -5,7 +5,7 @@ use Rattle.k_terms.specs.Stream.{NVar, NInt, NTuple, NCode, NEnd, NName, NProj, 
 use Rattle.k_terms.specs.Stream.{NSet}
 use Rattle.k_terms.specs.Stream.{NCall, NIf, NElse, NHalt}
 use Rattle.k_terms.specs.Decode.{calls}
-use Rattle.k_terms.specs.declared.types.KType.{KType}
+use Rattle.term_core.specs.declared.types.CoreType.{CoreType as KType}
 use Rattle.k_writer.specs.declared.page.Stage.TheVariants.{Called}
 use Rattle.k_writer.specs.Moves.{Moves}
 use Rattle.k_writer.specs.State.{Takes, Turns}

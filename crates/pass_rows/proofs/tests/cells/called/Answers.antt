@@ -1,7 +1,7 @@
 use Rattle.std.proofs.Common.{ap, List, [], ◌∷◌}
 use Rattle.k_terms.specs.Read.{ktys}
 use Rattle.k_terms.specs.Stream as S
-use Rattle.k_terms.specs.declared.types.KType.{KType}
+use Rattle.term_core.specs.declared.types.CoreType.{CoreType as KType}
 use Rattle.pass_rows.proofs.Cells.{as_these, later}
 use Rattle.pass_rows.proofs.tests.cells.called.Goals as goal
 

@@ -1,4 +1,4 @@
-use Rattle.k_terms.proofs.Trees.{tree_Tuple}
+use Rattle.term_core.proofs.Trees.{tree_Tuple}
 use Rattle.pass_rows.proofs.tests.cells.tuple_of.Goals as goal
 
 pub returns : goal.returns

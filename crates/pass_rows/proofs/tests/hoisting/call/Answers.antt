@@ -1,6 +1,6 @@
 use Rattle.std.proofs.Common.{ap, [], ◌∷◌, List}
 use Rattle.c_terms.specs.Stream as S
-use Rattle.c_terms.specs.declared.types.CType.{CType}
+use Rattle.term_core.specs.declared.types.CoreType.{CoreType as CType}
 use Rattle.pass_rows.proofs.tests.hoisting.call.Goals as goal
 use Rattle.c_terms.specs.Read.{ctys}
 use Rattle.pass_rows.proofs.Example.{as_these, later}

@@ -5,7 +5,7 @@ use Rattle.t_intern.specs.Applied.{with_types}
 use Rattle.t_intern.specs.Grown.{IsNumber}
 use Rattle.t_intern.specs.Nodes.{at}
 use Rattle.t_intern.proofs.Growing.{grown_at, grown_length}
-use Rattle.t_registers.specs.Bounds.{Bounded}
+use Rattle.t_types.specs.Bounds.{Bounded}
 use Rattle.t_check.proofs.Applying.{applied_row}
 use Rattle.t_check.proofs.checker.Checker.applied.Goals as goal
 

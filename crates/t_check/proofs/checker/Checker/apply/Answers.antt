@@ -7,10 +7,10 @@ use Rattle.t_terms.specs.ReadProgram.{program}
 use Rattle.t_rules.specs.Registers.{inst_file}
 use Rattle.t_intern.specs.Grown.{IsNumber}
 use Rattle.t_intern.specs.Nodes.{at}
-use Rattle.t_registers.specs.Bounds.{Bounded}
+use Rattle.t_types.specs.Bounds.{Bounded}
 use Rattle.t_check.proofs.Applying.{with_file}
 use Rattle.t_check.proofs.Blocks.{types_below}
-use Rattle.t_registers.proofs.Depth.{inst_owed}
+use Rattle.t_rules.proofs.Depth.{inst_owed}
 use Rattle.t_check.proofs.Typing.{plain_ok}
 use Rattle.t_check.proofs.checker.Checker.apply.Goals as goal
 

@@ -5,11 +5,11 @@ use Rattle.t_rules.specs.Registers.{with_reg}
 use Rattle.t_intern.specs.Nodes.{at}
 use Rattle.t_intern.specs.Spread.{types_at}
 use Rattle.t_intern.proofs.Growing.{grown_next}
-use Rattle.t_registers.specs.Bounds.{Bounded}
+use Rattle.t_types.specs.Bounds.{Bounded}
 use Rattle.t_registers.specs.Known.{known}
 use Rattle.t_registers.specs.Labels.{all_flagged}
 use Rattle.t_check.proofs.Blocks.{types_below}
-use Rattle.t_registers.proofs.Depth.{empty_shallow}
+use Rattle.t_rules.proofs.Depth.{empty_shallow}
 use Rattle.t_registers.proofs.Noting.{noted_since, sound_grown}
 use Rattle.t_registers.proofs.Numbering.{empty_flagged}
 use Rattle.t_check.proofs.checker.Checker.check_malloc.Goals as goal

@@ -7,10 +7,10 @@ use Rattle.t_terms.specs.Tree.{Unpack}
 use Rattle.t_rules.specs.Registers.{with_reg, raised}
 use Rattle.t_rules.specs.Rules.{Has}
 use Rattle.t_intern.specs.Nodes.{at}
-use Rattle.t_registers.specs.Bounds.{Bounded}
+use Rattle.t_types.specs.Bounds.{Bounded}
 use Rattle.t_registers.specs.Known.{known}
 use Rattle.t_check.specs.Verdict.{IsStep}
-use Rattle.t_registers.proofs.Depth.{unpacked}
+use Rattle.t_rules.proofs.Depth.{unpacked}
 use Rattle.t_registers.proofs.Noting.{known_grown, sound_grown}
 use Rattle.t_check.proofs.Typing.{unpack_other}
 use Rattle.t_check.proofs.checker.Checker.check_unpack.Goals as goal

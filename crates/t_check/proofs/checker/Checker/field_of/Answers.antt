@@ -2,12 +2,13 @@ use Rattle.std.proofs.Common.{◌<◌, ◌≤◌, ◌∙◌, ap, sym, subst, len
 use Rattle.text_core.specs.Refusals.{nothing}
 use Rattle.t_mismatch.specs.declared.refusal.Refusal.{Refusal}
 use Rattle.t_intern.specs.Nodes.{at}
-use Rattle.t_intern.proofs.Walked.{item, field_below}
+use Rattle.t_intern.proofs.Walked.{field_below}
 use Rattle.t_registers.specs.Known.{known}
 use Rattle.t_check.specs.Verdict.{IsFieldOf}
 use Rattle.t_check.proofs.Loads.{shown_fields, shown_tuple, shown_none, part_fits, part_field, part_bounded}
 use Rattle.t_check.proofs.Loads.{field_absent}
 use Rattle.t_check.proofs.checker.Checker.field_of.Goals as goal
+use Rattle.idx_core.proofs.Lists.{item}
 
 pub returns-then-field-fields-clause-field : goal.returns-then-field-fields-clause-field
 returns-then-field-fields-clause-field c =

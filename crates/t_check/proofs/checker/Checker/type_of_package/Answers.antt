@@ -6,9 +6,9 @@ use Rattle.t_terms.specs.declared.fault.TCode.TheVariants.{T15}
 use Rattle.t_intern.specs.Grown.{IsNumber}
 use Rattle.t_intern.specs.Nodes.{at}
 use Rattle.t_intern.proofs.Growing.{grown_at, grown_next, grown_number}
-use Rattle.t_registers.specs.Bounds.{Shallow}
+use Rattle.t_types.specs.Bounds.{Shallow}
 use Rattle.t_mismatch.specs.Mismatch.{NoPackage, PackFaultWith}
-use Rattle.t_registers.proofs.Depth.{shallow, pack_put_fits}
+use Rattle.t_rules.proofs.Depth.{shallow, pack_put_fits}
 use Rattle.t_check.proofs.Typing.{says_noted, says_types, pack_unfit, pack_none}
 use Rattle.t_check.proofs.checker.Checker.type_of_package.Goals as goal
 

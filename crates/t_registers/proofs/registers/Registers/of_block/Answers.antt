@@ -1,8 +1,8 @@
 use Rattle.std.proofs.Common.{◌≡◌, ◌<◌, ◌-◌, List, ℕ, length, get_or, drop, arith, subst, sym}
 use Rattle.std.proofs.lemmas.List.{drop_all}
-use Rattle.t_intern.proofs.Walked.{item}
 use Rattle.t_registers.proofs.Noting.{IsHeader, header_none, header_step, of_block}
 use Rattle.t_registers.proofs.registers.Registers.of_block.Goals as goal
+use Rattle.idx_core.proofs.Lists.{item}
 
 pub loop-left-init : goal.loop-left-init
 loop-left-init c =

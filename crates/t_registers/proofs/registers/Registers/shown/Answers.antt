@@ -6,7 +6,7 @@ use Rattle.t_intern.specs.Grown.{IsNumber}
 use Rattle.t_intern.proofs.Growing.{grown_next}
 use Rattle.t_registers.specs.Known.{own, seen}
 use Rattle.t_registers.specs.declared.registers.Entry.{Entry}
-use Rattle.t_registers.proofs.Depth.{shift_fits}
+use Rattle.t_rules.proofs.Depth.{shift_fits}
 use Rattle.t_registers.proofs.registers.Registers.shown.Goals as goal
 
 -- an entry that was noted under the names in scope

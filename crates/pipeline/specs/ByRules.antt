@@ -1,0 +1,11 @@
+-- What the rules of the passes say by themselves.
+use Rattle.f_terms.specs.Tm.{Term}
+use Rattle.t_terms.specs.Tree.{TProg}
+use Rattle.t_terms.specs.Whole.{Whole}
+use Rattle.t_rules.specs.Rules.{Accepted}
+use Rattle.pipeline.specs.Compilation.{IsTranslation}
+use Rattle.pipeline.specs.Meaning.{SameMeaning}
+
+-- whatever is a translation of a term by the rules alone, is well formed and is accepted, means the same as the term
+abbrev pub TranslationsMeanTheSame : Type 0
+TranslationsMeanTheSame = (e : Term) (P : TProg) → IsTranslation e P → Whole P → Accepted P → SameMeaning e P

@@ -1,5 +1,0 @@
-use Rattle.t_terms.proofs.Nested.{keeps_by_nesting}
-use Rattle.t_terms.proofs.nesting_laws.keeps_by_nesting.Goals as goal
-
-pub returns : goal.returns
-returns c = keeps_by_nesting

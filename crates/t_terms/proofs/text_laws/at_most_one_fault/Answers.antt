@@ -1,5 +1,0 @@
-use Rattle.t_terms.proofs.TextExact.{at_most_one_fault}
-use Rattle.t_terms.proofs.text_laws.at_most_one_fault.Goals as goal
-
-pub returns : goal.returns
-returns c = at_most_one_fault

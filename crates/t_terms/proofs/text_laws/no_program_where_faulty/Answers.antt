@@ -1,5 +1,0 @@
-use Rattle.t_terms.proofs.TextExact.{no_program_where_faulty}
-use Rattle.t_terms.proofs.text_laws.no_program_where_faulty.Goals as goal
-
-pub returns : goal.returns
-returns c = no_program_where_faulty

@@ -1,5 +1,0 @@
-use Rattle.t_terms.proofs.Worked.{program_or_fault}
-use Rattle.t_terms.proofs.text_laws.program_or_fault.Goals as goal
-
-pub returns : goal.returns
-returns c = program_or_fault

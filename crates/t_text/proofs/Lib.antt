@@ -1,0 +1,12 @@
+mod DataRows
+mod TextRows
+pub mod Complete
+pub mod Filling
+pub mod Instance
+pub mod ItemLaws
+pub mod Nested
+pub mod TableLines
+pub mod TableRows
+pub mod TextExact
+pub mod TokenLaws
+pub mod Worked

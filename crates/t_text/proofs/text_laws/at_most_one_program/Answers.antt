@@ -1,0 +1,5 @@
+use Rattle.t_text.proofs.TextExact.{at_most_one_program}
+use Rattle.t_text.proofs.text_laws.at_most_one_program.Goals as goal
+
+pub returns : goal.returns
+returns c = at_most_one_program

@@ -1,0 +1,52 @@
+// The exports on a guest in memory of the host. Each lends the guest to a call of `guest`, and gives it back.
+ghost use types.Logic.{sem};
+ghost use Rattle.tal_c.specs.declared.guest.Guest as guests;
+ghost use Rattle.tal_c.specs.Guests.{empty, LoadTold, GuestRun};
+ghost use Rattle.tal_c.specs.Places.{room_for_guest, guest_at, some_guest_at};
+
+use crate::answer::Answer;
+use crate::guest::{Guest, clear, load_into, no_guest, run_on};
+use std::alloc::Global;
+
+/// Makes a guest with no program of room for one.
+#[unsafe(no_mangle)]
+pub unsafe extern "C" fn talc_guest_init(at: *mut u8)
+    requires* { sem 𝓛 (room_for_guest at) }
+    ensures* { sem 𝓛 (guest_at at empty) }
+{
+    let guest = at as *mut Guest;
+    guest.write(no_guest());
+}
+
+/// Lets go of the guest's program. The memory is then the host's to use again.
+#[unsafe(no_mangle)]
+pub unsafe extern "C" fn talc_guest_clear(at: *mut u8)
+    ghost old: { guests.Guest }
+    requires* { sem 𝓛 (guest_at at old) }
+    ensures* { sem 𝓛 (guest_at at empty) }
+{
+    let guest = at as *mut Guest;
+    clear(&mut *guest);
+}
+
+/// Loads the program of the text, accepted, in the place of the one that is there.
+#[unsafe(no_mangle)]
+pub unsafe extern "C" fn talc_guest_load(alloc: Global, at: *mut u8, text: &[u8]) -> Answer
+    ghost old: { guests.Guest }
+    requires* { sem 𝓛 (guest_at at old) }
+    ensures* { sem 𝓛 (some_guest_at at (λ new. LoadTold text.now new result)) }
+{
+    let guest = at as *mut Guest;
+    load_into(alloc, &mut *guest, text)
+}
+
+/// Runs the guest's program on for at most so many instructions.
+#[unsafe(no_mangle)]
+pub unsafe extern "C" fn talc_guest_run(at: *mut u8, fuel: u64) -> Answer
+    ghost old: { guests.Guest }
+    requires* { sem 𝓛 (guest_at at old) }
+    ensures* { sem 𝓛 (some_guest_at at (λ new. GuestRun fuel old new result)) }
+{
+    let guest = at as *mut Guest;
+    run_on(&mut *guest, fuel)
+}

@@ -38,5 +38,3 @@ module _ (V : ℕ → ℕ → Type 0) (B : ℕ → Type 0) (d : ℕ) where
       each_fields V B d (afields xs)
   fields_have_all xs n h all =
       tuple_has xs (subst (λ (ys : List (AType × Bool)). All FieldHas ys) (take_all n xs all) h)
-
--- an item that a loop reads, by its place

@@ -29,4 +29,3 @@ first_or (suc d) (suc i) lt = up (first_or d i (omega (arith, lt)))
     up : (i < d) ⊎ (i ≡ d) → (suc i < suc d) ⊎ (suc i ≡ suc d)
     up (inl h) = inl (omega (arith, h))
     up (inr h) = inr (ap suc h)
-

@@ -54,8 +54,12 @@ number_item c d ds b r h s =
     let n : 1 + prefix_len digit (ds ++ b ∷ r) ≡ length (d ∷ ds) =
     ap (λ n. 1 + n) (run_digits ds b r h.others s) ∙ omega arith in
     let p : piece (d ∷ (ds ++ b ∷ r)) ≡ PPlain (1 + prefix_len digit (ds ++ b ∷ r)) =
-    rw (digit_no_space d h.first, no_dashes d (ds ++ b ∷ r) (digit_no_dash d h.first), digit_no_letter d h.first,
-    h.first) refl in
+    rw (
+      digit_no_space d h.first,
+      no_dashes d (ds ++ b ∷ r) (digit_no_dash d h.first),
+      digit_no_letter d h.first,
+      h.first,
+    ) refl in
     ap (λ (x : Piece). of_piece source (d ∷ (ds ++ b ∷ r)) x) (p ∙ ap PPlain n) ∙
     (ap (λ u. Spelling (k.Plain (pos (value u))) (length (d ∷ ds))) (take-append_seam (d ∷ ds) (b ∷ r))
     ∙ ap (λ v. Spelling (k.Plain (pos v)) (length (d ∷ ds))) h.is)

@@ -1,11 +1,15 @@
-"""The machine: `talc run` beside wabt's wasm-interp on the same loops, as ratios in one run.
+"""The machine: `talc run` beside wabt's wasm-interp on the same loops, as ratios in one run, and a compiled loop.
 
 One loop makes 100000000 steps, the other allocates 10000000 small tuples. What is wanted: at most a twentieth of
-wasm-interp's time in the first, and a tenth in the second. A row that misses says so.
+wasm-interp's time in the first, and a tenth in the second. The compiled loop makes 100000000 turns, each of which
+allocates two tuples and drops them, and is wanted to hold less than 64 MB. A row that misses says so.
 """
 from measure import available, best, best_in_turn, folder, program, ratio
 
 MOST_OF_LOOP, MOST_OF_TUPLES = 0.05, 0.1
+MOST_BYTES = 64_000_000
+TURNS = 100_000_000
+COMPILED = f"(fix loop(n:int):int. if0(n, 7, loop (n - 1))) {TURNS}"
 
 LOOP = """tal 1
 L0: code[]{}.
@@ -56,6 +60,19 @@ local.get 0))
 """
 
 
+def run_compiled(talc, place):
+    """The compiled loop: its time and its peak."""
+    with open(f"{place}/p.f", "w") as file:
+        file.write(COMPILED)
+    best([talc, "compile", f"{place}/p.f", f"{place}/p.tal"], times=1)
+    ours = best([talc, "run", f"{place}/p.tal", "--fuel", str(100 * TURNS)], times=1, wanted=(0, "int 7\n"))
+    print(
+        f"a compiled loop of {TURNS} turns: {ours.seconds:.2f} s, {TURNS / ours.seconds:.2e} turns a second, "
+        f"{ours.peak / 1e6:.0f} MB (wanted: less than {MOST_BYTES // 1_000_000})"
+        f"{': large' if ours.peak >= MOST_BYTES else ''}"
+    )
+
+
 def main():
     talc, to_wasm, interp = program(), available("wat2wasm"), available("wasm-interp")
     with folder() as place:
@@ -76,6 +93,7 @@ def main():
 
         compared("a loop of 100000000 steps", LOOP, LOOP_WAT, 100000002, MOST_OF_LOOP)
         compared("10000000 tuples", TUPLES, TUPLES_WAT, 50000002, MOST_OF_TUPLES)
+        run_compiled(talc, place)
 
 
 main()

@@ -643,9 +643,27 @@ fn limits(rt: HostRuntime) -> Result<(), Fail> {
     )
 }
 
-// Only a text that begins with `tal` and a space is taken for an assembly text.
+// Only a text whose first token is the word `tal` is taken for an assembly text.
 #[test]
 fn other_texts_are_sources(rt: HostRuntime) -> Result<(), Fail> {
+    each_explained(
+        &rt,
+        rt.alloc(),
+        &[(
+            "TAL 1",
+            &[
+                "E05 unbound name: line 1, column 1 (bytes 0..3)",
+                "1 | TAL 1",
+                "  | ^^^",
+                "no `fix`, `let` or `open` around it binds this name",
+            ],
+        )],
+    )
+}
+
+// Blanks before the word and after it are of any kind.
+#[test]
+fn texts_whose_first_token_is_tal_are_assembly_texts(rt: HostRuntime) -> Result<(), Fail> {
     each_explained(
         &rt,
         rt.alloc(),
@@ -653,37 +671,28 @@ fn other_texts_are_sources(rt: HostRuntime) -> Result<(), Fail> {
             (
                 "tal",
                 &[
-                    "E05 unbound name: line 1, column 1 (bytes 0..3)",
+                    "T03 unexpected token or end: line 1, column 4 (bytes 3..3)",
                     "1 | tal",
-                    "  | ^^^",
-                    "no `fix`, `let` or `open` around it binds this name",
+                    "  |    ^",
+                    "no program goes on so here: a token is missing or too much, or the version has it not",
                 ],
             ),
             (
                 "tal\t1",
                 &[
-                    "E05 unbound name: line 1, column 1 (bytes 0..3)",
+                    "T03 unexpected token or end: line 1, column 6 (bytes 5..5)",
                     "1 | tal 1",
-                    "  | ^^^",
-                    "no `fix`, `let` or `open` around it binds this name",
+                    "  |      ^",
+                    "no program goes on so here: a token is missing or too much, or the version has it not",
                 ],
             ),
             (
                 " tal 1",
                 &[
-                    "E05 unbound name: line 1, column 2 (bytes 1..4)",
+                    "T03 unexpected token or end: line 1, column 7 (bytes 6..6)",
                     "1 |  tal 1",
-                    "  |  ^^^",
-                    "no `fix`, `let` or `open` around it binds this name",
-                ],
-            ),
-            (
-                "TAL 1",
-                &[
-                    "E05 unbound name: line 1, column 1 (bytes 0..3)",
-                    "1 | TAL 1",
-                    "  | ^^^",
-                    "no `fix`, `let` or `open` around it binds this name",
+                    "  |       ^",
+                    "no program goes on so here: a token is missing or too much, or the version has it not",
                 ],
             ),
         ],

@@ -21,8 +21,8 @@ use Rattle.idx_core.specs.declared.span.Span.{Span}
 use Rattle.t_terms.specs.declared.instr.Instr.{Instr}
 use Rattle.t_terms.specs.Read.{body}
 use Rattle.t_terms.specs.Spanned.{seq_of}
-use Rattle.assembly_rows.specs.FewNames.{FewInType, FewInFile, FewInFields, FewInTypes, FewInValue, FewInInstr, FewInSeq}
-use Rattle.assembly_rows.specs.FewNames.{steps, FewInBlocks, FewInData, FewInHeap, FewInProgram}
+use Rattle.assembly_rows.specs.FewNames.{FewInType, FewInFile, FewInFields, FewInTypes, FewInValue, FewInInstr}
+use Rattle.assembly_rows.specs.FewNames.{FewInSeq, steps, FewInBlocks, FewInData, FewInHeap, FewInProgram}
 
 -- the names that a type binds around its places, at most
 abbrev mutual

@@ -5,7 +5,5 @@
 mod excerpt;
 mod page;
 mod spot;
-#[cfg(test)]
-mod tests;
 
 pub use page::{Note, page_of};

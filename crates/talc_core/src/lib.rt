@@ -13,8 +13,6 @@ mod reply;
 mod report;
 mod source;
 mod status;
-#[cfg(test)]
-mod tests;
 mod top;
 
 pub use commands::{

@@ -40,7 +40,7 @@ pub(crate) struct Window {
 }
 
 // The words of registers that have one.
-pub(crate) fn words_of(
+fn words_of(
     alloc: Global,
     machine: &Machine,
     regs: &[(u64, TType)],

@@ -1,5 +1,5 @@
-// Pages of a line that is cut.
-use crate::{Note, page_of};
+// Pages of a line that is cut, each place by itself.
+use fault_page::{Note, page_of};
 use idx_core::Span;
 use std::alloc::{AllocFailed, Global};
 use std::process::Abort;

@@ -1,14 +1,15 @@
 // The calls on bytes: what each makes or shows of a text, and why it refuses one.
 use super::SEVEN;
-use crate::{
-    Ending, Fault, Refusal, Reply, check_text, compile_text, compile_text_within, eval_text,
-    run_text, trace_text, type_of_text, upgrade_text,
-};
 use f_terms::Code;
 use idx_core::Span;
+use std::alloc::Global;
 use std::process::Abort;
 use std::test::Fail;
 use t_terms::TCode;
+use talc_core::{
+    Ending, Fault, Refusal, Reply, check_text, compile_text, compile_text_within, eval_text,
+    explain_text, fault_line, run_text, trace_text, type_of_text, upgrade_text,
+};
 
 const FOREVER: &[u8] = b"(fix f(x:int):int. f x) 0";
 
@@ -92,4 +93,27 @@ fn texts_are_refused(rt: HostRuntime) -> Result<(), Fail> {
     assert!(rt; check_text(alloc, text).err() == Some(taking));
     assert!(rt; upgrade_text(alloc, text).err() == Some(taking));
     Ok(())
+}
+
+#[test]
+fn texts_are_explained_without_files(rt: HostRuntime) -> Result<(), Fail> {
+    let reply = explain_text(rt.alloc(), SEVEN)?;
+    assert!(rt; reply.ending == Ending::Ends);
+    assert!(rt; reply.line.as_slice() == b"no fault\n".as_slice());
+    Ok(())
+}
+
+fn has_line(rt: &impl Abort, alloc: Global, fault: Fault, wanted: &str) -> Result<(), Fail> {
+    let line = fault_line(alloc, &fault)?;
+    assert!(rt; line.as_slice() == wanted.as_bytes(), "{wanted}");
+    Ok(())
+}
+
+#[test]
+fn fault_lines_name_code_place_and_words(rt: HostRuntime) -> Result<(), Fail> {
+    let alloc = rt.alloc();
+    let large = Fault::Source(Code::E02, Span { start: 0, end: 19 });
+    has_line(&rt, alloc, large, "E02 0..19 number out of range\n")?;
+    let empty = Fault::Tal(TCode::T12, Span { start: 69, end: 81 });
+    has_line(&rt, alloc, empty, "T12 69..81 field not initialised\n")
 }

@@ -46,9 +46,9 @@ fn list<'a, T>(own: &'a Option<Vec<T>>, shared: &'a Option<Vec<T>>) -> &'a [T] {
     }
 }
 
-fn value<T: Copy>(own: &Option<T>, shared: &Option<T>, usual: T) -> T {
+fn value<'a, T: Copy>(own: &'a Option<T>, shared: &'a Option<T>, usual: T) -> T {
     match either(own, shared) {
-        Some(value) => *value,
+        Some(said) => *said,
         None => usual,
     }
 }

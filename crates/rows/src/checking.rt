@@ -36,18 +36,24 @@ struct Outputs {
     err: MemSink,
 }
 
+// A sink whose puts fail that the list names.
+fn sink(alloc: Global, failing: &[(u64, u64)]) -> Result<MemSink, AllocError> {
+    Ok(MemSink::new(alloc, Vec::from_slice(alloc, failing)?))
+}
+
 fn outputs_of(alloc: Global, fails: Option<&Fails>) -> Result<Outputs, AllocError> {
-    let (out, err) = match fails {
-        Some(fails) => (
-            Vec::from_slice(alloc, &fails.out)?,
-            Vec::from_slice(alloc, &fails.err)?,
-        ),
-        None => (Vec::new(alloc), Vec::new(alloc)),
-    };
-    Ok(Outputs {
-        out: MemSink::new(alloc, out),
-        err: MemSink::new(alloc, err),
-    })
+    match fails {
+        Some(fails) => {
+            let out = sink(alloc, &fails.out)?;
+            let err = sink(alloc, &fails.err)?;
+            Ok(Outputs { out, err })
+        }
+        None => {
+            let out = sink(alloc, &[])?;
+            let err = sink(alloc, &[])?;
+            Ok(Outputs { out, err })
+        }
+    }
 }
 
 // What is wanted on the error output.
@@ -66,21 +72,16 @@ fn is_told(alloc: Global, command: &Command, came: &[u8]) -> Result<(), Unlike> 
 fn does(
     alloc: Global,
     files: &mut MemFiles,
+    outputs: &mut Outputs,
     command: &Command,
-    outputs: Outputs,
 ) -> Result<(), Unlike> {
-    let Outputs { mut out, mut err } = outputs;
     let words = words_of(alloc, command.words)?;
-    let status = talc(alloc, &words, files, &mut out, &mut err);
+    let status = talc(alloc, &words, files, &mut outputs.out, &mut outputs.err);
     let wanted = bytes_of(alloc, command.out)?;
-    is_told(alloc, command, err.taken())?;
-    is_same(alloc, "output", &wanted, out.taken())?;
-    is_number(
-        alloc,
-        "status",
-        u64::from(command.status),
-        u64::from(status.number()),
-    )
+    is_told(alloc, command, outputs.err.taken())?;
+    is_same(alloc, "output", &wanted, outputs.out.taken())?;
+    let came = u64::from(status.number());
+    is_number(alloc, "status", u64::from(command.status), came)
 }
 
 // Does the commands before that of the row.
@@ -93,7 +94,8 @@ fn does_first(alloc: Global, files: &mut MemFiles, case: &Case) -> Result<(), Un
             err: step.err.as_ref(),
             any_err: false,
         };
-        does(alloc, files, &command, outputs_of(alloc, None)?)?;
+        let mut outputs = outputs_of(alloc, None)?;
+        does(alloc, files, &mut outputs, &command)?;
     }
     Ok(())
 }
@@ -109,7 +111,8 @@ pub fn check(alloc: Global, case: &Case) -> Result<(), Unlike> {
         err: case.err,
         any_err: case.any_err,
     };
-    does(alloc, &mut files, &command, outputs_of(alloc, case.fails)?)?;
+    let mut outputs = outputs_of(alloc, case.fails)?;
+    does(alloc, &mut files, &mut outputs, &command)?;
     are_left(alloc, &files, case)?;
     is_as_said(alloc, &files, case)
 }

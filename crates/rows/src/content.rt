@@ -19,7 +19,8 @@ fn words_in(alloc: Global, text: &[u8]) -> Result<Vec<Vec<u8>>, AllocError> {
         if is_of_word(*byte) {
             word.push(*byte)?;
         } else {
-            words.push(mem::replace(&mut word, Vec::new(alloc)))?;
+            let whole = mem::replace(&mut word, Vec::new(alloc));
+            words.push(whole)?;
         }
     }
     words.push(word)?;
@@ -46,7 +47,9 @@ fn greatest_register(words: &[Vec<u8>]) -> u64 {
     let mut greatest: u64 = 0;
     for word in words {
         if let Some(register) = register_of(word) {
-            greatest = greatest.max(register);
+            if greatest < register {
+                greatest = register;
+            }
         }
     }
     greatest
@@ -54,7 +57,8 @@ fn greatest_register(words: &[Vec<u8>]) -> u64 {
 
 fn are_counted(alloc: Global, files: &MemFiles, case: &Case) -> Result<(), Unlike> {
     for (file, word, wanted) in case.counts {
-        let words = words_in(alloc, held(alloc, files, file)?)?;
+        let content = held(alloc, files, file)?;
+        let words = words_in(alloc, content)?;
         is_number(alloc, word, *wanted, count_of(&words, word.as_bytes()))?;
     }
     Ok(())
@@ -62,13 +66,14 @@ fn are_counted(alloc: Global, files: &MemFiles, case: &Case) -> Result<(), Unlik
 
 fn have_registers(alloc: Global, files: &MemFiles, case: &Case) -> Result<(), Unlike> {
     for (file, least, most) in case.registers {
-        let words = words_in(alloc, held(alloc, files, file)?)?;
+        let content = held(alloc, files, file)?;
+        let words = words_in(alloc, content)?;
         let register = greatest_register(&words);
         if register < *least {
-            is_number(alloc, "the least greatest register", *least, register)?;
+            is_number(alloc, "greatest register, at least", *least, register)?;
         }
         if *most < register {
-            is_number(alloc, "the greatest register", *most, register)?;
+            is_number(alloc, "greatest register, at most", *most, register)?;
         }
     }
     Ok(())
@@ -110,7 +115,8 @@ fn have_parts(alloc: Global, files: &MemFiles, case: &Case) -> Result<(), Unlike
 fn are_same(alloc: Global, files: &MemFiles, case: &Case) -> Result<(), Unlike> {
     for (name, other) in case.same {
         let wanted = held(alloc, files, name)?;
-        is_same(alloc, other, wanted, held(alloc, files, other)?)?;
+        let came = held(alloc, files, other)?;
+        is_same(alloc, other, wanted, came)?;
     }
     Ok(())
 }

@@ -1,6 +1,6 @@
 // The files of a row, before its commands and after them.
 use crate::case::Case;
-use crate::text::{Text, bytes_of};
+use crate::text::Text;
 use crate::unlike::{Unlike, is_number, is_same, part_unlike};
 use io_core::MemFiles;
 use std::alloc::{AllocError, Global};
@@ -14,7 +14,9 @@ pub fn files_before(alloc: Global, case: &Case) -> Result<MemFiles, AllocError> 
     };
     let mut files = BTreeMap::new(alloc);
     if let Some(text) = case.text {
-        files.insert(String::from_str(alloc, case.file)?, text.bytes(alloc)?)?;
+        let name = String::from_str(alloc, case.file)?;
+        let content = text.bytes(alloc)?;
+        files.insert(name, content)?;
     }
     Ok(MemFiles::new(files, failing))
 }
@@ -27,35 +29,41 @@ pub fn held<'a>(alloc: Global, files: &'a MemFiles, name: &str) -> Result<&'a [u
     }
 }
 
-// The text that the row says is left of this file.
-fn left_of<'a>(case: &Case<'a>, name: &str) -> Option<&'a Text> {
-    match case.left {
-        Some(left) => left.get(name),
-        None => None,
-    }
+// The file holds this text.
+fn is_text(alloc: Global, name: &str, text: &Text, content: &[u8]) -> Result<(), Unlike> {
+    let wanted = text.bytes(alloc)?;
+    is_same(alloc, name, &wanted, content)
 }
 
-fn is_any(case: &Case, name: &str) -> bool {
-    for any in case.any {
-        if any.as_str() == name {
+fn is_one_of(names: &[String], name: &str) -> bool {
+    for one in names {
+        if one.as_str() == name {
             return true;
         }
     }
     false
 }
 
+// The text that is said to be left of this file.
+fn text_of<'a>(left: Option<&'a BTreeMap<String, Text>>, name: &str) -> Option<&'a Text> {
+    match left {
+        Some(left) => left.get(name),
+        None => None,
+    }
+}
+
 // A file that stands is one of those that the row says. The file of its text is as before where it says nothing else.
 fn is_wanted(alloc: Global, case: &Case, name: &str, content: &[u8]) -> Result<(), Unlike> {
-    if let Some(wanted) = left_of(case, name) {
-        return is_same(alloc, name, &wanted.bytes(alloc)?, content);
+    if let Some(text) = text_of(case.left, name) {
+        return is_text(alloc, name, text, content);
     }
-    if is_any(case, name) {
+    if is_one_of(case.any, name) {
         return Ok(());
     }
-    if name == case.file && case.text.is_some() {
-        return is_same(alloc, name, &bytes_of(alloc, case.text)?, content);
+    match case.text {
+        Some(text) if name == case.file => is_text(alloc, name, text, content),
+        _ => Err(part_unlike(alloc, name, b"no file", content)?),
     }
-    Err(part_unlike(alloc, name, b"no file", content)?)
 }
 
 fn are_wanted(alloc: Global, files: &MemFiles, case: &Case) -> Result<(), Unlike> {

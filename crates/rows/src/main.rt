@@ -37,13 +37,16 @@ fn put_unlike(
 ) -> Result<()> {
     println!(rt; "{}: talc {}", group.name, case.words)?;
     if let Some(text) = case.text {
-        println!(rt; "  of {}", shown(alloc, &text.bytes(alloc)?)?)?;
+        let bytes = text.bytes(alloc)?;
+        let text = shown(alloc, &bytes)?;
+        println!(rt; "  of {text}")?;
     }
     match unlike {
         Unlike::Memory => println!(rt; "  out of memory")?,
         Unlike::Part { part, wanted, came } => {
-            println!(rt; "  {part}, wanted: {}", shown(alloc, wanted)?)?;
-            println!(rt; "  {part}, came: {}", shown(alloc, came)?)?;
+            let wanted = shown(alloc, wanted)?;
+            let came = shown(alloc, came)?;
+            println!(rt; "  {part}, wanted: {wanted}\n  {part}, came: {came}")?;
         }
     }
     Ok(())

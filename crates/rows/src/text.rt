@@ -32,7 +32,10 @@ fn add_times(bytes: &mut Vec<u8>, piece: &str, times: u64) -> Result<(), AllocEr
 fn add_piece(bytes: &mut Vec<u8>, piece: &Piece) -> Result<(), AllocError> {
     match piece {
         Piece::Once(text) => add_times(bytes, text, 1),
-        Piece::Byte(byte) => Ok(bytes.push(*byte)?),
+        Piece::Byte(byte) => {
+            bytes.push(*byte)?;
+            Ok(())
+        }
         Piece::Times(text, times) => add_times(bytes, text, *times),
     }
 }
@@ -63,13 +66,16 @@ pub fn bytes_of(alloc: Global, text: Option<&Text>) -> Result<Vec<u8>, AllocErro
     }
 }
 
-/// The first bytes of a text, as far as they can be read, behind how many there are.
-pub fn shown(alloc: Global, bytes: &[u8]) -> Result<String, AllocError> {
-    let first = if bytes.len() > MOST_SHOWN {
+fn first_bytes(bytes: &[u8]) -> &[u8] {
+    if MOST_SHOWN < bytes.len() {
         &bytes[..MOST_SHOWN]
     } else {
         bytes
-    };
-    let text = String::from_utf8_lossy(alloc, first)?;
+    }
+}
+
+/// The first bytes of a text, as far as they can be read, behind how many there are.
+pub fn shown(alloc: Global, bytes: &[u8]) -> Result<String, AllocError> {
+    let text = String::from_utf8_lossy(alloc, first_bytes(bytes))?;
     format!(in alloc; "({} bytes) {text}", bytes.len())
 }

@@ -1,4 +1,5 @@
-//! Worked examples of the assembly side: types, tokens, reading, writing, checking and running. It holds tests alone.
+//! Worked examples of the assembly side: types, tokens, reading, writing, running, and programs that are kept within
+//! some registers. It holds tests alone.
 #![tactic(auto)]
 
 #[cfg(test)]

@@ -1,11 +1,10 @@
-// Assembly texts and programs.
-mod checking;
+// Assembly texts, types and programs.
+mod by_hand;
 mod data;
+mod few_names;
 mod grammar;
 mod interning;
-mod jumps;
 mod lexing;
-mod lines;
 mod programs;
 mod reading;
 mod running;

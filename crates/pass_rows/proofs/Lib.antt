@@ -1,4 +1,2 @@
 mod Cells
 mod Example
-mod FewNames
-mod Ones

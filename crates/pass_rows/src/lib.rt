@@ -1,5 +1,4 @@
-//! Worked examples of the passes and of the whole compiler, from source texts and from large terms. It holds tests
-//! alone.
+//! Worked examples of single passes, on programs that are made by hand. It holds tests alone.
 #![tactic(auto)]
 
 #[cfg(test)]

@@ -1,4 +1,4 @@
-//! Worked examples of the source side: names, types, tokens, reading, typing and evaluating. It holds tests alone.
+//! Worked examples of the source side: names, types, tokens, reading and writing. It holds tests alone.
 #![tactic(auto)]
 
 #[cfg(test)]

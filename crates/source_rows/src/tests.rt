@@ -1,10 +1,7 @@
-// Source texts, and terms that are larger than any of them.
-mod checking;
-mod evaluating;
+// Source texts, terms and types.
 mod lexing;
 mod names;
 mod parts;
 mod reading;
-mod stacks;
 mod types;
 mod writing;

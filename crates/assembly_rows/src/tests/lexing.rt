@@ -1,53 +1,10 @@
 // What texts are cut into.
-use super::programs::at;
 use idx_core::Span;
 use std::alloc::Global;
 use std::process::Abort;
 use std::test::Fail;
 use t_lexer::{Tokens, tokens};
-use t_terms::{TCode, TFault};
 use t_text::{Kind, Token};
-
-// The text has this fault, or none where it is cut.
-fn has_fault(rt: &impl Abort, alloc: Global, text: &[u8], wanted: Option<TFault>) {
-    assert_eq!(rt; tokens(alloc, text).err(), wanted);
-}
-
-// Each text with its fault, and where that starts and ends.
-fn each_refused(rt: &impl Abort, alloc: Global, rows: &[(&str, TCode, u64, u64)]) {
-    for (text, code, start, end) in rows {
-        has_fault(rt, alloc, text.as_bytes(), at(*code, *start, *end));
-    }
-}
-
-#[test]
-fn finds_the_first_fault(rt: HostRuntime) {
-    each_refused(
-        &rt,
-        rt.alloc(),
-        &[
-            ("9223372036854775808", TCode::T02, 0, 19),
-            ("~9223372036854775809 $", TCode::T02, 0, 20),
-            ("tal 1 $", TCode::T01, 6, 7),
-            ("~ 1", TCode::T01, 0, 1),
-            ("1 - 2", TCode::T01, 2, 3),
-            ("-> -- $", TCode::T01, 0, 1),
-            ("_x", TCode::T01, 0, 1),
-            ("mov r0", TCode::T02, 4, 6),
-            ("r9223372036854775808", TCode::T02, 0, 20),
-            ("r99999999999999999999 #", TCode::T02, 0, 21),
-        ],
-    );
-}
-
-#[test]
-fn the_greatest_numbers_are_cut(rt: HostRuntime) {
-    let alloc = rt.alloc();
-    has_fault(&rt, alloc, b"9223372036854775807", None);
-    has_fault(&rt, alloc, b"~9223372036854775808", None);
-    has_fault(&rt, alloc, b"r9223372036854775807", None);
-    has_fault(&rt, alloc, b"-- $ \xff", None);
-}
 
 fn are_tokens(
     rt: &impl Abort,

@@ -1,16 +1,9 @@
 // Runs of programs.
 use super::programs::loaded;
-use std::alloc::Global;
 use std::process::Abort;
 use std::test::Fail;
 use t_machine::{Machine, Ran};
 use t_terms::Shown;
-
-// The first run of a text.
-fn ran(alloc: Global, text: &str, fuel: u64) -> Result<Ran, Fail> {
-    let mut machine = loaded(alloc, text)?;
-    Ok(machine.run(fuel))
-}
 
 #[test]
 fn a_run_goes_on_where_it_stopped(rt: HostRuntime) -> Result<(), Fail> {
@@ -57,27 +50,6 @@ fn a_machine_shows_its_place_and_its_words(rt: HostRuntime) -> Result<(), Fail> 
         &machine,
         &[(1, Some(Shown::Int(1))), (2, Some(Shown::Int(-5)))],
     );
-    Ok(())
-}
-
-#[test]
-fn an_unpack_moves_the_hidden_word(rt: HostRuntime) -> Result<(), Fail> {
-    let text = "tal 1\nL0: code[]{}. mov r2, pack[int,3] as some a. int unpack[b,r1], r2 halt[int]";
-    let halted = Ran::Halted { value: 3, made: 2 };
-    assert_eq!(rt; ran(rt.alloc(), text, 2)?, halted);
-    Ok(())
-}
-
-#[test]
-fn a_million_steps(rt: HostRuntime) -> Result<(), Fail> {
-    let text = "tal 1\nL0: code[]{}. mov r1, 499999 jmp L1\n\
-        L1: code[]{r1:int}. sub r1, r1, 1 bnz r1, L1 halt[int]";
-    let halted = Ran::Halted {
-        value: 0,
-        made: 1000000,
-    };
-    assert_eq!(rt; ran(rt.alloc(), text, 1000000)?, halted);
-    assert_eq!(rt; ran(rt.alloc(), text, 999999)?, Ran::Spent);
     Ok(())
 }
 

@@ -1,5 +1,4 @@
-// A program with tuples of constants, a cell in a tuple, and a package, through the passes after the first: no source
-// has a cell.
+// A program by hand with tuples of constants, a cell in a tuple, and a package, through the passes after the first.
 ghost use Rattle.std.specs.Prelude.{◌≡◌, pos, [], ◌∷◌, IfOk, OnOk};
 ghost use Rattle.k_terms.specs.K.{TKInt, TKRef, TKSome, TKTuple, NoKTys, MoreKTys};
 ghost use Rattle.k_terms.specs.Read.{knode, ktree, ktys};

@@ -1,55 +1,9 @@
 // What texts are cut into.
 use f_lexer::{Kind, Token, tokens};
-use f_terms::{Code, FFault};
 use idx_core::Span;
 use std::alloc::Global;
 use std::process::Abort;
 use std::test::Fail;
-
-fn at(code: Code, start: u64, end: u64) -> Option<FFault> {
-    Some(FFault::Refused {
-        code,
-        span: Span { start, end },
-    })
-}
-
-// The text has this fault, or none where it is cut.
-fn has_fault(rt: &impl Abort, alloc: Global, text: &[u8], wanted: Option<FFault>) {
-    assert_eq!(rt; tokens(alloc, text).err(), wanted);
-}
-
-// Each text with its fault, and where that starts and ends.
-fn each_refused(rt: &impl Abort, alloc: Global, rows: &[(&str, Code, u64, u64)]) {
-    for (text, code, start, end) in rows {
-        has_fault(rt, alloc, text.as_bytes(), at(*code, *start, *end));
-    }
-}
-
-#[test]
-fn finds_the_first_fault(rt: HostRuntime) {
-    let alloc = rt.alloc();
-    each_refused(
-        &rt,
-        alloc,
-        &[
-            ("9223372036854775808", Code::E02, 0, 19),
-            ("~9223372036854775809 $", Code::E02, 0, 20),
-            ("1 $", Code::E01, 2, 3),
-            ("~ 1", Code::E01, 0, 1),
-            ("1 ~", Code::E01, 2, 3),
-            ("_x", Code::E01, 0, 1),
-        ],
-    );
-    has_fault(&rt, alloc, b"\xc8", at(Code::E01, 0, 1));
-}
-
-#[test]
-fn the_greatest_numbers_are_cut(rt: HostRuntime) {
-    let alloc = rt.alloc();
-    has_fault(&rt, alloc, b"9223372036854775807", None);
-    has_fault(&rt, alloc, b"~9223372036854775808", None);
-    has_fault(&rt, alloc, b"-- $ \xff", None);
-}
 
 fn are_tokens(
     rt: &impl Abort,

@@ -3,7 +3,8 @@ ghost use Rattle.std.specs.Prelude.{◌≡◌, IfOk};
 ghost use Rattle.f_terms.specs.Ty.{TVar, TArrow, TAll};
 ghost use Rattle.f_terms.specs.Read.{tree};
 
-use f_terms::{FType, depth, eq, size, type_text};
+use f_terms::{FType, depth, eq, size};
+use f_writer::type_at;
 use idx_core::{OutOfMemory, Scoped};
 use std::alloc::Global;
 use std::test::Fail;
@@ -37,7 +38,7 @@ fn a_put_captures_no_name(rt: HostRuntime) -> Result<(), Fail> {
     let wanted = twice(alloc, FType::Var(1), FType::Var(1))?;
     assert!(rt; eq(&result, &wanted));
     let whole = all(alloc, result)?;
-    let text = type_text(alloc, &whole)?;
+    let text = type_at(alloc, &whole, 0)?;
     assert!(rt; text.as_slice() == b"all t0. all t1. t0 -> t1 -> t0".as_slice());
     Ok(())
 }
@@ -66,7 +67,7 @@ fn wide_tuples_are_counted(rt: HostRuntime) -> Result<(), Fail> {
     assert_eq!(rt; size(&wide), 100001);
     assert_eq!(rt; depth(&wide), 2);
     assert!(rt; wide.below(0));
-    let text = type_text(alloc, &wide)?;
+    let text = type_at(alloc, &wide, 0)?;
     assert_eq!(rt; text.len(), 500000);
     Ok(())
 }

@@ -41,5 +41,5 @@ let digits = fix digits(l:list):int.
   let shown = fold[<int, int>]
     <l, fix each(e:<int, <int, int>>):<int, int>. <#1 (#2 e) + #1 e * #2 (#2 e), #2 (#2 e) * 10>, <0, 1>> in
   #1 shown in
-let some3 = fix some3(p:<int, int, int, list>):list. put <#1 p, put <#2 p, put <#3 p, #4 p>>> in
-digits (sort (some3 <3, 1, 4, some3 <1, 5, 9, some3 <2, 6, 5, put <3, empty>>>>))
+let three = fix three(p:<int, int, int, list>):list. put <#1 p, put <#2 p, put <#3 p, #4 p>>> in
+digits (sort (three <3, 1, 4, three <1, 5, 9, three <2, 6, 5, put <3, empty>>>>))

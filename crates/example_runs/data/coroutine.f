@@ -1,0 +1,33 @@
+-- Coroutines: a writer and a reader that hand control to each other. Each leaves in a cell what it will do when it is
+-- its turn again, the writer in the middle of a recursion, the reader between two numbers of a pair. The writer sends
+-- 1 2 1 3 1 2 1, the reader adds up 12, 13, 12 and 10: 47.
+let reader = ref (fix none(n:int):int. 0) in
+let writer = ref (fix none(u:<>):int. 0) in
+let send = fix send(p:<int, <> -> int>):int.
+  let left = writer := #2 p in
+  (!reader) (#1 p) in
+let receive = fix receive(rest:int -> int):int.
+  let left = reader := rest in
+  (!writer) <> in
+
+-- Sends what stands in a tree of so many levels, from left to right, and then goes on with the rest: at each level its
+-- number.
+let walk = fix walk(p:<int, <> -> int>):int.
+  let level = #1 p in
+  let rest = #2 p in
+  if0(level, rest <>,
+    walk <level - 1,
+      fix middle(u:<>):int. send <level,
+        fix right(u:<>):int. walk <level - 1, rest>>>) in
+-- Sends 0 for the end, and is never called again.
+let stop = fix stop(u:<>):int. send <0, fix never(u:<>):int. ~1> in
+
+-- Reads two numbers at a time; where there is no second one, it counts as 0.
+let pairs = fix pairs(sum:int):int.
+  receive (fix first(a:int):int.
+    if0(a, sum,
+      receive (fix second(b:int):int.
+        if0(b, sum + 10 * a, pairs (sum + 10 * a + b))))) in
+
+let begun = writer := (fix begin(u:<>):int. walk <3, stop>) in
+pairs 0

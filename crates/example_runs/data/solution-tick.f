@@ -1,0 +1,9 @@
+-- 5.1  Write `counter`: each call makes a counter of its own, a function that gives 1, 2, 3 and so on, call by call.
+-- case: let a = counter <> in let b = counter <> in a <> * 1000 + a <> * 100 + b <> * 10 + a <> = 1213
+-- case: counter <> <> = 1
+let counter = fix counter(u:<>):<> -> int.
+  let cell = ref 0 in
+  fix next(u:<>):int.
+    let done = cell := !cell + 1 in
+    !cell in
+let a = counter <> in let b = counter <> in a <> * 1000 + a <> * 100 + b <> * 10 + a <> -- input

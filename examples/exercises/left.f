@@ -1,0 +1,4 @@
+-- 2.1  Write a term of this type. There is one way to do it, as the type says all.
+-- type: all t0. all t1. all t2. <t0, <t1, t2>> -> <<t0, t1>, t2>
+gen a. gen b. gen c.
+  -- a function

@@ -1,0 +1,8 @@
+-- 1.1  Write `power`: `power <b, n>` is b to the power of n. To the power of 0 it is 1.
+-- case: power <2, 10> = 1024
+-- case: power <7, 0> = 1
+-- case: power <~3, 3> = ~27
+let power = fix power(p:<int, int>):int.
+  -- an expression of the type int
+  in
+power <2, 10> -- input

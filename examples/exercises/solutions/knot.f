@@ -1,0 +1,10 @@
+-- 5.3  Tie the knot: put a function into the cell that calls what the cell holds, and no other by its own name, so that
+-- the cell then holds the function from n to the Fibonacci number n.
+-- case: (!fibonacci) 10 = 55
+-- case: (!fibonacci) 0 = 0
+-- case: (!fibonacci) 1 = 1
+let fibonacci = ref (fix none(n:int):int. 0) in
+let tied =
+  fibonacci := (fix step(n:int):int.
+    if0(n, 0, if0(n - 1, 1, (!fibonacci) (n - 1) + (!fibonacci) (n - 2)))) in
+(!fibonacci) 10 -- input

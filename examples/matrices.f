@@ -1,6 +1,5 @@
--- Matrices of 2 by 2 over any ring: one product and one power for integers, and for matrices whose fields are matrices.
--- The tenth power of <1, 1, 1, 0> begins with the Fibonacci number 89, and the eleventh of four matrices 1 with a
--- matrix that begins with 2 to the tenth, 1024. It gives 891024.
+-- Matrices of 2 by 2 over any ring, as integers, or matrices of integers: one product, and one power. The tenth power
+-- of <1, 1, 1, 0> begins with 89, and the eleventh of four matrices 1 with a matrix that begins with 1024: 891024.
 let product = gen a. fix product(ring:<a -> a -> a, a -> a -> a>):
     <a, a, a, a> -> <a, a, a, a> -> <a, a, a, a>.
   let plus = #1 ring in

@@ -1,6 +1,5 @@
--- A state machine: a gate opens for two coins, lets one through, and is closed again. A state is a function, which
--- looks at what comes next and calls the state after it; the three are fields of a tuple. 2 are let through, 3 push in
--- vain, and 1 coin is too many: 231.
+-- A state machine: a gate opens for two coins and lets one through. A state is a function that looks at what comes next
+-- and calls the state after it. 2 are let through, 3 push in vain, and 1 coin is too many: 231.
 let coin = 1 in
 let push = 2 in
 let end = 0 in

@@ -1,8 +1,8 @@
--- A queue of two stacks, as a package: what comes in goes on the one, what goes out comes off the other, and where the
--- other is empty, the one is turned round onto it. 1 to 3 come in, 1 and 2 go out, 4 and 5 come in, and the rest goes
--- out: 12345. A stack is its height, and a function from places to integers.
+-- A queue of two stacks, as a package: what comes in goes onto the one, which is turned round onto the other where that
+-- is empty. 1 to 3 come in, 1 and 2 go out, 4 and 5 come in, and the rest goes out: 12345.
 open [queue, m] =
   pack[<<int, int -> int>, <int, int -> int>>,
+    -- A stack is its height, and a function from places to integers.
     let push = fix push(p:<<int, int -> int>, int>):<int, int -> int>.
       let height = #1 (#1 p) in
       let at = #2 (#1 p) in

@@ -1,6 +1,5 @@
--- Binary trees as folds: a tree is what is done with a leaf and with a node of a left tree, a number and a right tree.
--- The tree is balanced over the numbers 1 to 7. It gives its sum 28, its depth 3, and its numbers from right to left in
--- one number, as 28 * 100000000 + 3 * 10000000 + 7654321.
+-- Binary trees as folds. Of a tree over the numbers 1 to 7 the program gives the sum 28, the depth 3, and the numbers
+-- from right to left: 28 * 100000000 + 3 * 10000000 + 7654321.
 open [tree, m] =
   pack[all r. <r, <r, int, r> -> r> -> r,
     <gen r. fix fold(f:<r, <r, int, r> -> r>):r. #1 f,

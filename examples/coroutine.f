@@ -1,5 +1,5 @@
--- Coroutines: a writer and a reader each leave in a cell what they will do when it is their turn again, the one in the
--- middle of a recursion. 1 2 1 3 1 2 1 is written, and read two at a time: 12 + 13 + 12 + 10 is 47.
+-- Coroutines: a writer and a reader, each of which leaves in a cell what it will do when it is called again, the one in
+-- the middle of a recursion. 1 2 1 3 1 2 1 is written, and read two at a time: 12 + 13 + 12 + 10 is 47.
 let reader = ref (fix none(n:int):int. 0) in
 let writer = ref (fix none(u:<>):int. 0) in
 let send = fix send(p:<int, <> -> int>):int.

@@ -1,5 +1,5 @@
--- A queue of two stacks, as a package: what comes in goes onto the one, which is turned round onto the other where that
--- is empty. 1 to 3 come in, 1 and 2 go out, 4 and 5 come in, and the rest goes out: 12345.
+-- A queue of two stacks, as a package: what comes in goes onto the one, which is poured onto the other where that is
+-- empty. 1 to 3 come in, 1 and 2 go out, 4 and 5 come in, and the rest goes out: 12345.
 open [queue, m] =
   pack[<<int, int -> int>, <int, int -> int>>,
     -- A stack is its height, and a function from places to integers.
@@ -9,11 +9,11 @@ open [queue, m] =
       <height + 1, fix find(place:int):int. if0(place - height, #2 p, at place)> in
     let top = fix top(l:<int, int -> int>):int. (#2 l) (#1 l - 1) in
     let pop = fix pop(l:<int, int -> int>):<int, int -> int>. <#1 l - 1, #2 l> in
-    let turn = fix turn(q:<<int, int -> int>, <int, int -> int>>):<<int, int -> int>, <int, int -> int>>.
+    let pour = fix pour(q:<<int, int -> int>, <int, int -> int>>):<<int, int -> int>, <int, int -> int>>.
       let coming = #1 q in
-      if0(#1 coming, q, turn <pop coming, push <#2 q, top coming>>) in
+      if0(#1 coming, q, pour <pop coming, push <#2 q, top coming>>) in
     let ready = fix ready(q:<<int, int -> int>, <int, int -> int>>):<<int, int -> int>, <int, int -> int>>.
-      if0(#1 (#2 q), turn q, q) in
+      if0(#1 (#2 q), pour q, q) in
     let none = <0, fix none(place:int):int. 0> in
     <<none, none>,
      fix enter(p:<<<int, int -> int>, <int, int -> int>>, int>):<<int, int -> int>, <int, int -> int>>.

@@ -3,6 +3,7 @@
 -- case: leaves tree * 10 + deepest tree = 43
 -- case: leaves (leaf 9) * 10 + deepest (leaf 9) = 10
 -- case: leaves (pair <tree, tree>) * 10 + deepest (pair <tree, leaf 1>) = 84
+-- case: leaves (pair <leaf 1, tree>) * 10 + deepest (pair <leaf 1, tree>) = 54
 let leaf = fix leaf(n:int):all r. <int -> r, <r, r> -> r> -> r.
   gen r. fix fold(f:<int -> r, <r, r> -> r>):r. (#1 f) n in
 let pair = fix pair(p:<all r. <int -> r, <r, r> -> r> -> r, all r. <int -> r, <r, r> -> r> -> r>)

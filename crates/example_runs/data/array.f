@@ -9,11 +9,11 @@ let array = fix array(size:int):int -> ref int.
 let five = array 5 in
 let fill = fix fill(place:int):<>.
   if0(place - 5, <>, #2 <five place := place + 1, fill (place + 1)>) in
-let turn = fix turn(p:<int, int>):<>.
+let reverse = fix reverse(p:<int, int>):<>.
   let low = five (#1 p) in
   let high = five (#2 p) in
   let held = !low in
-  if0(#2 p - 2, <>, #3 <low := !high, high := held, turn <#1 p + 1, #2 p - 1>>) in
+  if0(#2 p - 2, <>, #3 <low := !high, high := held, reverse <#1 p + 1, #2 p - 1>>) in
 let digits = fix digits(p:<int, int>):int.
   if0(#1 p - 5, #2 p, digits <#1 p + 1, #2 p * 10 + !(five (#1 p))>) in
-#3 <fill 0, turn <0, 4>, digits <0, 0>>
+#3 <fill 0, reverse <0, 4>, digits <0, 0>>

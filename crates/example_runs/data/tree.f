@@ -28,7 +28,7 @@ let sum = fix sum(t:tree):int.
 let depth = fix depth(t:tree):int.
   fold[int] <t, 0, fix deeper(n:<int, int, int>):int. 1 + greater <#1 n, #3 n>> in
 let mirror = fix mirror(t:tree):tree.
-  fold[tree] <t, leaf, fix turn(n:<tree, int, tree>):tree. node <#3 n, #2 n, #1 n>> in
+  fold[tree] <t, leaf, fix swap(n:<tree, int, tree>):tree. node <#3 n, #2 n, #1 n>> in
 
 -- The numbers from left to right, behind the digits so far: each tree is what it does to these.
 let digits = fix digits(t:tree):int.

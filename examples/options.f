@@ -1,5 +1,5 @@
--- Options: what is there or is not is what it does with two answers, one for nothing and one for a number.
--- The root of 1764 is 42, and 1765 has none, for which 0 is put: 4200.
+-- Options: a number that may be absent is what it does with a value, for nothing, and a function, for a number. The
+-- root of 1764 is 42, and 1765 has none, for which 0 is put: 4200.
 let nothing = gen r. fix nothing(p:<r, int -> r>):r. #1 p in
 let just = fix just(n:int):all r. <r, int -> r> -> r. gen r. fix just(p:<r, int -> r>):r. (#2 p) n in
 let or = fix or(p:<all r. <r, int -> r> -> r, int>):int.

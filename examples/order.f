@@ -1,5 +1,5 @@
 -- Order: what is below 0 has the highest bit. The lower bits are taken away, the lowest first: where those below it are
--- gone, a bit times the power of two that makes it the highest is 0 where it is not there. The answers are 10011.
+-- gone, a bit times the power of two that makes it the highest is 0 where it is not there. It gives 10011.
 let negative = fix negative(n:int):int.
   let clear = fix clear(power:int):<int, int>.
     if0(power, <n, 1>,

@@ -10,7 +10,7 @@ let right = three <1, 4, 1, three <4, 2, 1, three <3, 5, 6, none>>> in
 let greater = fix greater(p:<int, int>):int.
   if0(#1 p, #2 p, if0(#2 p, #1 p, 1 + greater <#1 p - 1, #2 p - 1>)) in
 
--- What is known of a pair of lengths is its answer and 1, or 0 where nothing is known.
+-- What is known of a pair of lengths is 1 more than its longest, or 0 where nothing is known.
 let memo = ref (fix nothing(pair:<int, int>):int. 0) in
 let looked = ref 0 in
 let keep = fix keep(p:<int, int, int>):int.

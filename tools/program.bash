@@ -2,6 +2,7 @@
 # started.
 
 program=$top/crates/talc/out/talc
+source "$top/tools/prebuilt.bash"
 
 # A file of code, or the list of crates, that is newer than the program; nothing where there is none.
 # A newer definition or proof does not count, since it changes nothing of what the program does, nor does a newer kit.
@@ -9,11 +10,12 @@ newer_code() {
     find "$top/crates.txt" "$top"/crates/*/src \( -name '*.rt' -o -name crates.txt \) -newer "$program" -print -quit
 }
 
-# Builds the program where it is missing or older than code that it may be made of; the build says so.
+# Where the program is missing or older than code that it may be made of, takes that of prebuilt/, which says so, or
+# else builds it; the build says so.
 build_at_need() {
     if [ ! -x "$program" ] || [ -n "$(newer_code)" ]; then
         rm -f "$program"
-        "$top/tools/build"
+        take_prebuilt || "$top/tools/build"
     fi
 }
 

@@ -2,7 +2,6 @@
 # started.
 
 program=$top/crates/talc/out/talc
-source "$top/tools/prebuilt.bash"
 
 # A file of code, or the list of crates, that is newer than the program; nothing where there is none.
 # A newer definition or proof does not count, since it changes nothing of what the program does, nor does a newer kit.
@@ -15,6 +14,7 @@ newer_code() {
 build_at_need() {
     if [ ! -x "$program" ] || [ -n "$(newer_code)" ]; then
         rm -f "$program"
+        source "$top/tools/prebuilt.bash"
         take_prebuilt || "$top/tools/build"
     fi
 }

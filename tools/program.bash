@@ -9,14 +9,30 @@ newer_code() {
     find "$top/crates.txt" "$top"/crates/*/src \( -name '*.rt' -o -name crates.txt \) -newer "$program" -print -quit
 }
 
-# Where the program is missing or older than code that it may be made of, takes that of prebuilt/, which says so, or
-# else builds it; the build says so.
+# Whether the program stands and is newer than code that it may be made of.
+is_built() {
+    [ -x "$program" ] && [ -z "$(newer_code)" ]
+}
+
+# Takes the program of prebuilt/, which says so, or else builds it; the build says so.
+get_built() {
+    rm -f "$program"
+    source "$top/tools/prebuilt.bash"
+    take_prebuilt || "$top/tools/build"
+}
+
 build_at_need() {
-    if [ ! -x "$program" ] || [ -n "$(newer_code)" ]; then
-        rm -f "$program"
-        source "$top/tools/prebuilt.bash"
-        take_prebuilt || "$top/tools/build"
-    fi
+    is_built || get_built
+}
+
+# Whether a word is a command of the usage. Where it is none, shows the usage, as the program does for `--help`.
+is_command() {
+    case $1 in
+        '' | *[!a-z]*) ;;
+        *) ! grep -q "^  $1 " "$top/tools/usage" || return 0 ;;
+    esac
+    cat "$top/tools/usage" >&2
+    return 1
 }
 
 # Tells the C library how to hand out memory, where the caller has told it nothing: in large pages, where the system has

@@ -1,0 +1,35 @@
+// The tasks `talc: explain FILE`, whose output the problem matcher of package.json reads.
+'use strict';
+const vscode = require('vscode');
+
+// Shows the file, which the program does not name, and then its first fault. $0 is the program, $1 the file.
+const SCRIPT = 'printf "%s:\\n" "$1"; exec "$0" explain "$1"';
+
+function taskFor(file, scope, definition) {
+    const program = vscode.workspace.getConfiguration('talc').get('path', 'talc');
+    const run = new vscode.ProcessExecution('sh', ['-c', SCRIPT, program, file]);
+    const task = new vscode.Task(definition, scope, `explain ${file}`, 'talc', run, ['$talc']);
+    task.group = vscode.TaskGroup.Build;
+    task.presentationOptions = { reveal: vscode.TaskRevealKind.Silent };
+    return task;
+}
+
+// A task for the text that is in view, where it is one of ours.
+function provideTasks() {
+    const view = vscode.window.activeTextEditor;
+    if (!view || !['talc', 'tal'].includes(view.document.languageId)) {
+        return [];
+    }
+    const file = view.document.fileName;
+    return [taskFor(file, vscode.TaskScope.Workspace, { type: 'talc', file })];
+}
+
+// A task of a tasks.json, which names its file.
+function resolveTask(task) {
+    const { file } = task.definition;
+    return file ? taskFor(file, task.scope ?? vscode.TaskScope.Workspace, task.definition) : undefined;
+}
+
+exports.activate = (context) => {
+    context.subscriptions.push(vscode.tasks.registerTaskProvider('talc', { provideTasks, resolveTask }));
+};

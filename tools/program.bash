@@ -9,11 +9,13 @@ newer_code() {
     find "$top/crates.txt" "$top"/crates/*/src \( -name '*.rt' -o -name crates.txt \) -newer "$program" -print -quit
 }
 
-# Builds the program where it is missing or older than code that it may be made of; the build says so.
+# Where the program is missing or older than code that it may be made of, takes that of prebuilt/, which says so, or
+# else builds it; the build says so.
 build_at_need() {
     if [ ! -x "$program" ] || [ -n "$(newer_code)" ]; then
         rm -f "$program"
-        "$top/tools/build"
+        source "$top/tools/prebuilt.bash"
+        take_prebuilt || "$top/tools/build"
     fi
 }
 

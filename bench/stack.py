@@ -34,6 +34,12 @@ def arguments(n):
     return "mov r1, L1[" + "<" * (n - 1) + ">" + "^0>" * (n - 2) + "] mov r1, 1 halt[int] L1: code[a]{}. jmp L1[a]"
 
 
+def put(n):
+    deep = "<" * (n - 20) + ">" + "^0>" * (n - 21)
+    wide = "all[]{r1: " * (n - 20) + "a" + "}" * (n - 20)
+    return f"mov r1, L1[{deep}] mov r2, 1 mov r1, r2 halt[int] L1: code[a]{{r1: {wide}}}. jmp L1[a]"
+
+
 def block(body):
     return "tal 2\nL0: code[]{}. " + body + "\n"
 
@@ -49,6 +55,7 @@ TEXTS = [
     ("code types", block(codes(DEEPEST))),
     ("types of packages", block(packages(DEEPEST))),
     ("types that a value is applied to", block(arguments(DEEPEST))),
+    ("a type put into another", block(put(DEEPEST))),
     ("packages", block(packs(DEEPEST))),
     ("packages in data", data(DEEPEST)),
 ]

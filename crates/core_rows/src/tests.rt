@@ -1,6 +1,7 @@
 // What no row of a file can say of the top call: words, calls on bytes, files and outputs that find no memory.
 mod memory;
 mod pages;
+mod places;
 mod texts;
 mod whole;
 mod without_memory;

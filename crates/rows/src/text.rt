@@ -66,16 +66,17 @@ pub fn bytes_of(alloc: Global, text: Option<&Text>) -> Result<Vec<u8>, AllocErro
     }
 }
 
-fn first_bytes(bytes: &[u8]) -> &[u8] {
-    if MOST_SHOWN < bytes.len() {
-        &bytes[..MOST_SHOWN]
-    } else {
-        bytes
+fn first_bytes(alloc: Global, bytes: &[u8]) -> Result<Vec<u8>, AllocError> {
+    let mut first = Vec::new(alloc);
+    for byte in bytes.iter().take(MOST_SHOWN) {
+        first.push(*byte)?;
     }
+    Ok(first)
 }
 
 /// The first bytes of a text, as far as they can be read, behind how many there are.
 pub fn shown(alloc: Global, bytes: &[u8]) -> Result<String, AllocError> {
-    let text = String::from_utf8_lossy(alloc, first_bytes(bytes))?;
+    let first = first_bytes(alloc, bytes)?;
+    let text = String::from_utf8_lossy(alloc, &first)?;
     format!(in alloc; "({} bytes) {text}", bytes.len())
 }

@@ -18,14 +18,17 @@ MOVES = {"dup": (1, [(1, 0)]), "drop": (-1, []), "swap": (0, [(1, 0), (0, -1), (
 
 
 def words(text):
+    """The words of a program, without its comments."""
     return re.sub(r"--.*", "", text).split()
 
 
 def is_number(word):
+    """Whether a word writes an integer of 64 bits."""
     return bool(re.fullmatch(r"~?[0-9]{1,40}", word)) and -2**63 <= int(word.replace("~", "-")) < 2**63
 
 
 def block(label, depth):
+    """The header of a block that wants this many integers."""
     return f"{label}: code[]{{{', '.join(f'r{it}: int' for it in range(1, depth + 1))}}}."
 
 

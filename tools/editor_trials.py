@@ -16,6 +16,7 @@ ASKED = "for i in getqflist() | echo i.lnum . ' ' . i.col . ' ' . split(i.text, 
 
 
 def read(path):
+    """The text of a file."""
     return path.read_text(encoding="utf-8")
 
 
@@ -32,6 +33,7 @@ def tokens_of(lexer):
 
 
 def unlike_words(language):
+    """Words and signs of a language that its files do not have."""
     words, signs = tokens_of(LEXERS[language])
     vim = read(VIM / "syntax" / f"talc_{language}.vim")
     grammar = json.loads(read(VSCODE / "syntaxes" / f"talc_{language}.tmLanguage.json"))

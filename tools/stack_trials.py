@@ -14,6 +14,7 @@ PROGRAMS, WORDS, STEPS = 200, 12, 2000
 
 
 def loaded():
+    """The compiler as a module."""
     spec = importlib.util.spec_from_file_location("stackc", TOP / "examples" / "stackc.py")
     made = importlib.util.module_from_spec(spec)
     spec.loader.exec_module(made)
@@ -82,10 +83,12 @@ def evaluated(text, steps):
 
 
 def line_of(value):
+    """What `run` shows of this value."""
     return f"int {str(value).replace('-', '~')}"
 
 
 def programs():
+    """The programs of examples/stack."""
     return sorted(FOLDER.glob("*.stack"))
 
 
@@ -96,6 +99,7 @@ def texts():
 
 
 def write_texts():
+    """Writes the texts for crates/example_runs anew."""
     for name, text in texts().items():
         (DATA / name).write_bytes(text)
 
@@ -160,5 +164,6 @@ def misjudged(program):
 
 
 def shown(program, *words):
+    """What a command of the program shows."""
     run = subprocess.run([program, *words], capture_output=True, check=False, encoding="utf-8")
     return run.stdout.rstrip("\n")

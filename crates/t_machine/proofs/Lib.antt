@@ -16,6 +16,7 @@ pub mod Stepping
 pub mod Exact
 pub mod Exactly
 pub mod Asking
+pub mod Capped
 pub mod Covering
 pub mod Dropping
 pub mod Rows

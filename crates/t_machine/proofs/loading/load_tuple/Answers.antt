@@ -39,7 +39,7 @@ loop-field-preserved c =
       kept = l.invariant.kept;
       dropped = l.invariant.dropped;
       cells =
-          ap (λ (ws : List Word). map word ws) c.in_ok-push.ensures
+          ap (λ (ws : List Word). map word ws) c.in_ok-push.ensures.words
           ∙ map-append word (cells_of l.heap.cells) (w ∷ [])
           ∙ ap (λ ws. ws ++ word w ∷ []) l.invariant.cells
           ∙ append_assoc (map word (cells_of c.args.heap.now.cells))
@@ -49,7 +49,7 @@ loop-field-preserved c =
           ∙ ap (λ ws. map word (cells_of c.args.heap.now.cells) ++ ws)
           (sym (words_taken xs l.field-index c.field-item.result c.loop-field-test.true c.field-item.is));
       started = λ all. All-same (Started ss) (cells_of c.push.new.self) (cells_of l.heap.cells ++ w ∷ [])
-          c.in_ok-push.ensures (All-push (Started ss) (cells_of l.heap.cells) w (l.invariant.started all)
+          c.in_ok-push.ensures.words (All-push (Started ss) (cells_of l.heap.cells) w (l.invariant.started all)
           c.in_ok-word.ensures.started);
     }
 

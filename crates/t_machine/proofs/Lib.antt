@@ -15,6 +15,8 @@ pub mod Starting
 pub mod Stepping
 pub mod Exact
 pub mod Exactly
+pub mod FieldsShown
+pub mod Found
 pub mod Asking
 pub mod Capped
 pub mod Covering

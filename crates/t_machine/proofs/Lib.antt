@@ -21,7 +21,9 @@ pub mod Asking
 pub mod Capped
 pub mod Covering
 pub mod Dropping
+pub mod Regained
 pub mod Rows
+pub mod Stopping
 pub mod Placed
 pub mod Seldom
 pub mod Splitting

@@ -1,5 +1,5 @@
 -- A field that is shown is that of the program's state.
-use Rattle.std.proofs.Common.{◌≡◌, ℕ, ◌<◌, List, length, Option, Some, None, refl, sym, ap, ◌∙◌, subst, arith, slice_get}
+use Rattle.std.proofs.Common.{◌≡◌, ℕ, ◌<◌, List, length, Option, Some, None, refl, sym, ap, ◌∙◌, arith, slice_get}
 use Rattle.std.proofs.Common.{option_and_then}
 use Rattle.std.specs.Prelude.{slice_index, option_map}
 use Rattle.std.proofs.Math.Logic.{∥∥₁_elim}
@@ -9,8 +9,8 @@ use Rattle.std.proofs.lemmas.List.{get_or_default}
 use Rattle.std.proofs.lemmas.Option.{slice_get-map}
 use Rattle.t_terms.specs.declared.shown.Shown.{Shown}
 use Rattle.t_terms.specs.Tree.{TProg}
-use Rattle.t_rules.specs.Machine.{State, At, Place, Spot, After}
-use Rattle.t_rules.specs.Erase.{EWord, EHeap, EAt, erase}
+use Rattle.t_rules.specs.Machine.{State, Place, Spot, After}
+use Rattle.t_rules.specs.Erase.{EWord, EHeap, erase}
 use Rattle.keep_law.specs.Kept.{numbered}
 use Rattle.t_collect.specs.declared.word.Word.{Word}
 use Rattle.t_collect.specs.declared.word.Word.TheVariants.{Int, Address, Label, Empty}

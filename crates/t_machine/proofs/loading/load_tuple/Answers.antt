@@ -23,6 +23,7 @@ loop-field-init c =
       starts = c.in_ok-start_tuple.ensures.starts;
       kept = c.in_ok-start_tuple.ensures.kept;
       dropped = c.in_ok-start_tuple.ensures.dropped;
+      caps = c.start_tuple.ensures.caps;
       cells = ap (map word) cells ∙ sym (append-nil (map word (cells_of x.cells)));
       started = λ all. All-same (Started c.args.starts.now) (cells_of c.start_tuple.new.self.cells) (cells_of x.cells)
           cells all;
@@ -38,6 +39,7 @@ loop-field-preserved c =
       starts = l.invariant.starts;
       kept = l.invariant.kept;
       dropped = l.invariant.dropped;
+      caps = (l.invariant.caps.0, c.push.ensures.most ∙ l.invariant.caps.1);
       cells =
           ap (λ (ws : List Word). map word ws) c.in_ok-push.ensures.words
           ∙ map-append word (cells_of l.heap.cells) (w ∷ [])

@@ -15,10 +15,15 @@ pub mod Starting
 pub mod Stepping
 pub mod Exact
 pub mod Exactly
+pub mod FieldsShown
+pub mod Found
 pub mod Asking
+pub mod Capped
 pub mod Covering
 pub mod Dropping
+pub mod Regained
 pub mod Rows
+pub mod Stopping
 pub mod Placed
 pub mod Seldom
 pub mod Splitting

@@ -1,12 +1,13 @@
 -- What a run of the machine tells of the program that it runs.
-use Rattle.std.specs.Prelude.{◌≡◌, ℕ, ◌+◌, ◌<◌, ◌≤◌, ℤ, Option, option_map}
+use Rattle.std.specs.Prelude.{◌≡◌, ℕ, ◌+◌, ◌<◌, ◌≤◌, ℤ, Option, Some, None, option_map, option_and_then, slice_get}
+use Rattle.std.specs.List.{Contains}
 use Rattle.t_terms.specs.declared.shown.Shown.{Shown}
 use Rattle.t_terms.specs.Tree.{TProg}
 use Rattle.t_terms.specs.Whole.{Whole}
 use Rattle.t_rules.specs.Rules.{Accepted}
 use Rattle.t_rules.specs.Machine.{State, Place, Spot, After, HaltedAfter, HaltsWithin, GoesOnAfter, BeforeMalloc}
 use Rattle.t_rules.specs.LawsSound.{regs_of}
-use Rattle.t_rules.specs.Erase.{ERegs, erase_regs}
+use Rattle.t_rules.specs.Erase.{EWord, EInt, EAddress, ELabel, EEmpty, EHeap, ERegs, EState, EAt, erase, erase_regs}
 use Rattle.t_machine.specs.Words.{shown_word, regs_of as held_in}
 use Rattle.t_machine.specs.State.{Shows}
 use Rattle.keep_law.specs.Kept.{numbered}
@@ -30,6 +31,30 @@ IsPlaceAfter P m block index = (s : State) (p : Place) → After P m s p → p �
 -- the word of a register in that state, without types, if it has one
 abbrev pub IsRegAfter : TProg → ℕ → ℕ → Option Shown → Type 0
 IsRegAfter P m r word = (s : State) (p : Place) → After P m s p → option_map shown_word word ≡ erase_regs (regs_of s) r
+
+-- one of the tuples that the machine keeps has this number
+abbrev pub IsKept : Machine → ℕ → Type 0
+IsKept x a = Contains (numbers x.heap) a
+
+-- the tuples of an erased state
+abbrev pub tuples_of : EState → EHeap
+tuples_of (EAt h r c) = h
+
+-- the word of a field, where there is such a field and it is not empty
+abbrev pub filled : EWord → Option EWord
+filled EEmpty = None
+filled (EInt i) = Some (EInt i)
+filled (EAddress a) = Some (EAddress a)
+filled (ELabel l) = Some (ELabel l)
+
+abbrev pub field_in : EHeap → ℕ → ℕ → Option EWord
+field_in h a i = option_and_then filled (option_and_then (λ t. slice_get t i) (slice_get h a))
+
+-- the word of the field i of the tuple a in P's state after m steps, without types, if there is such a field and it is
+-- not empty
+abbrev pub IsFieldAfter : TProg → ℕ → ℕ → ℕ → Option Shown → Type 0
+IsFieldAfter P m a i word =
+    (s : State) (p : Place) → After P m s p → option_map shown_word word ≡ field_in (tuples_of (erase s)) a i
 
 -- how many steps were made by a run that was allowed n
 abbrev pub steps_made : ℕ → Ran → ℕ

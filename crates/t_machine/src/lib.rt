@@ -5,6 +5,7 @@
 mod code;
 mod collecting;
 mod executing;
+mod finding;
 mod heap;
 mod laws;
 mod loading;

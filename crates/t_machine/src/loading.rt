@@ -15,6 +15,7 @@ ghost use Rattle.t_machine.specs.Action.{action, data_word, moved_data};
 ghost use Rattle.t_machine.specs.Code.{IsBase, IsNumber, IsTarget, IsInstr, IsEnd, IsCode, all_moved};
 ghost use Rattle.t_machine.specs.Laid.{size, begins, Adds, InBase, InInstr, InBlock, IsLaid, IsNamed};
 ghost use Rattle.t_machine.specs.Lowering.{IsFilled};
+ghost use Rattle.t_machine.specs.Room.{most_tuples, most_fields, SameCaps, IsUncapped};
 ghost use Rattle.t_machine.specs.Runs.{Stands};
 
 use crate::code::{Code, Instruction, Number, Operand, Target};
@@ -34,9 +35,10 @@ use t_types::TType;
 /// no other, and the data and the code; a run takes memory at a `malloc` alone. Its code is the blocks one after the
 /// other, so that a place in it tells the block and the instruction (`places_are_read_back`). Answers want of memory
 /// also where the program names more than 2^32 registers, or its code has more places than an index can tell, and where
-/// its data have more than 2^32 - 1 tuples or fields.
+/// its data have more than 2^32 - 1 tuples or fields. What the machine may keep has no other cap (`within`).
 pub fn load(alloc: Global, program: &Checked) -> Result<Machine, OutOfMemory>
     ensures stands { IfOk result (Stands (program_of (checked_program program.now)) 0) }
+    ensures uncapped { IfOk result (λ x. (most_tuples x ≡ 4294967295) × (most_fields x ≡ 4294967295)) }
     ensures laid { IfOk result (λ x. IsLaid x.code (erase_blocks (program_of (checked_program program.now)))) }
     ensures named { IfOk result (λ x. IsNamed x.code (erase_blocks (program_of (checked_program program.now)))) }
 {
@@ -62,6 +64,7 @@ fn load_heap(alloc: Global, tuples: &[Data], starts: &[u32]) -> Result<Heap, Out
     ensures heap { IfOk result (λ x. IsHeap x (map (map erase_datum) (data_of tuples.now))) }
     ensures started { IfOk result (λ x. AllStarted starts.now (cells_of x.cells)) }
     ensures fresh { IfOk result IsFresh }
+    ensures caps { IfOk result IsUncapped }
 {
     let mut heap = Heap::new(alloc);
     for tuple in tuples {
@@ -83,6 +86,7 @@ fn load_tuple(
         AllStarted starts.now (cells_of heap.new.cells)) }
     ensures kept { OnOk result (heap.new.kept.items ≡ heap.old.kept.items) }
     ensures dropped { OnOk result (heap.new.dropped ≡ heap.old.dropped) }
+    ensures caps { OnOk result (SameCaps heap.old heap.new) }
 {
     heap.start_tuple()?;
     for field in fields {

@@ -20,6 +20,7 @@ loop-tuple-init c =
       heap = (ap (map word) c.new-heap.ensures.cells, c.new-heap.ensures.starts);
       kept = c.new-heap.ensures.kept;
       dropped = c.new-heap.ensures.dropped;
+      caps = c.new-heap.ensures.caps;
       started = All-same (Started c.args.starts.now) (cells_of c.new-heap.result.cells) [] c.new-heap.ensures.cells
           (All-nil (Started c.args.starts.now));
     }
@@ -38,6 +39,10 @@ loop-tuple-preserved c =
           (c.in_ok-load_tuple.ensures.heap (map (map erase_datum) (data_of (take i xs))) inv.heap);
       kept = c.in_ok-load_tuple.ensures.kept ∙ inv.kept;
       dropped = c.in_ok-load_tuple.ensures.dropped ∙ inv.dropped;
+      caps = (
+        c.in_ok-load_tuple.ensures.caps.0 ∙ inv.caps.0,
+        c.in_ok-load_tuple.ensures.caps.1 ∙ inv.caps.1,
+      );
       started = c.in_ok-load_tuple.ensures.started inv.started;
     }
 

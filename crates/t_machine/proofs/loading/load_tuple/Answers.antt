@@ -23,6 +23,7 @@ loop-field-init c =
       starts = c.in_ok-start_tuple.ensures.starts;
       kept = c.in_ok-start_tuple.ensures.kept;
       dropped = c.in_ok-start_tuple.ensures.dropped;
+      caps = c.start_tuple.ensures.caps;
       cells = ap (map word) cells ∙ sym (append-nil (map word (cells_of x.cells)));
       started = λ all. All-same (Started c.args.starts.now) (cells_of c.start_tuple.new.self.cells) (cells_of x.cells)
           cells all;
@@ -38,8 +39,9 @@ loop-field-preserved c =
       starts = l.invariant.starts;
       kept = l.invariant.kept;
       dropped = l.invariant.dropped;
+      caps = (l.invariant.caps.0, c.push.ensures.most ∙ l.invariant.caps.1);
       cells =
-          ap (λ (ws : List Word). map word ws) c.in_ok-push.ensures
+          ap (λ (ws : List Word). map word ws) c.in_ok-push.ensures.words
           ∙ map-append word (cells_of l.heap.cells) (w ∷ [])
           ∙ ap (λ ws. ws ++ word w ∷ []) l.invariant.cells
           ∙ append_assoc (map word (cells_of c.args.heap.now.cells))
@@ -49,7 +51,7 @@ loop-field-preserved c =
           ∙ ap (λ ws. map word (cells_of c.args.heap.now.cells) ++ ws)
           (sym (words_taken xs l.field-index c.field-item.result c.loop-field-test.true c.field-item.is));
       started = λ all. All-same (Started ss) (cells_of c.push.new.self) (cells_of l.heap.cells ++ w ∷ [])
-          c.in_ok-push.ensures (All-push (Started ss) (cells_of l.heap.cells) w (l.invariant.started all)
+          c.in_ok-push.ensures.words (All-push (Started ss) (cells_of l.heap.cells) w (l.invariant.started all)
           c.in_ok-word.ensures.started);
     }
 

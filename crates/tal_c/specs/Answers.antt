@@ -1,7 +1,6 @@
 -- What is told a host: numbers for the codes and the statuses.
 use Rattle.std.specs.Prelude.{ℕ, ℤ, pos, Option, Some, None, Result, Ok, Err}
 use Rattle.idx_core.specs.declared.memory.OutOfMemory.{OutOfMemory}
-use Rattle.idx_core.specs.declared.span.Span.{Span}
 use Rattle.t_terms.specs.declared.shown.Shown.{Shown}
 use Rattle.t_terms.specs.declared.shown.Shown.TheVariants as shown
 use Rattle.t_terms.specs.declared.fault.TCode.{TCode}

@@ -17,14 +17,15 @@ typedef struct {
 
 static const char *name; /* of the file */
 
-/* The room is never NULL, also where the file is empty. */
+/* The bytes of a file; they are never at NULL, also where there are none. */
 static text content(const char *path) {
-    text it = {malloc(1), 0};
+    size_t room = 4096, got;
+    text it = {malloc(room), 0};
     FILE *file = fopen(path, "rb");
     if (file == NULL) exit(5);
-    for (size_t got = 1; got > 0; it.length += got) {
-        it.bytes = realloc(it.bytes, it.length + 4096);
-        got = fread(it.bytes + it.length, 1, 4096, file);
+    while ((got = fread(it.bytes + it.length, 1, room - it.length, file)) > 0) {
+        it.length += got;
+        if (it.length == room) it.bytes = realloc(it.bytes, room *= 2);
     }
     fclose(file);
     return it;

@@ -1,17 +1,22 @@
 -- What is known of a guest by the calls on it.
-use Rattle.std.proofs.Common.{◌≡◌, ℕ, ◌+◌, List, Option, Some, None, refl, sym, ap, ◌∙◌, subst, inl, inr}
+use Rattle.std.proofs.Common.{◌≡◌, ℕ, ◌+◌, ◌≤◌, List, Some, None, Result, OnOk}
+use Rattle.std.proofs.Common.{sym, ap, ◌∙◌, subst, inl, inr}
 use Rattle.std.proofs.lemmas.Option.{none-some, same_Some}
 use Rattle.t_terms.specs.Tree.{TProg}
 use Rattle.t_terms.specs.Whole.{Whole}
 use Rattle.t_rules.specs.Rules.{Accepted}
 use Rattle.t_machine.specs.declared.machine.Machine.{Machine}
 use Rattle.t_machine.specs.declared.machine.Ran.{Ran}
+use Rattle.idx_core.specs.declared.memory.OutOfMemory.{OutOfMemory}
 use Rattle.t_machine.specs.Runs.{Stands, RanFrom, steps_made}
+use Rattle.t_machine.specs.Room.{spare_tuples, spare_fields, Lowers, LowersAlong, WantsUncovered}
+use Rattle.t_machine.specs.Reachable.{KeepsReached}
 use Rattle.tal_c.specs.declared.answer.Answer.{Answer}
 use Rattle.tal_c.specs.declared.guest.Guest.{Guest}
-use Rattle.tal_c.specs.Answers.{bare, done, usage, of_run}
+use Rattle.tal_c.specs.Answers.{bare, done, usage, of_run, of_taken}
 use Rattle.tal_c.specs.Texts.{IsLoaded, FaultTold}
-use Rattle.tal_c.specs.Guests.{empty, IsAt, LoadTold, RunsOn, GuestRun}
+use Rattle.tal_c.specs.Guests.{empty, Has, IsAt, LoadTold, RunsOn, GuestRun, NotRun, Stays}
+use Rattle.tal_c.specs.Guests.{GuestReserve, GuestCollect}
 
 -- a guest with a machine is not the empty one
 not_empty : (guest : Guest) (machine : Machine) → guest.machine ≡ Some machine → guest ≡ empty → ⊥
@@ -36,33 +41,112 @@ pub not_loaded : (text : List ℕ) (new : Guest) (answer : Answer) → FaultTold
     LoadTold text new answer
 not_loaded text new answer told is = inr (told, is)
 
+-- the machine of a guest is one
+one : (guest : Guest) (x y : Machine) → Has guest x → Has guest y → x ≡ y
+one guest x y is was = same_Some x y (sym is ∙ was)
+
+-- of a guest with a machine nothing is said of the empty one
+had_one : {B : Type 0} (old : Guest) (x : Machine) → Has old x → old ≡ empty → B
+had_one old x has e = absurd (not_empty old x has e)
+
+-- nor of a machine of the empty one
+has_none : {B : Type 0} (old : Guest) (x : Machine) → old.machine ≡ None → Has old x → B
+has_none old x none has = absurd (none-some x (sym none ∙ has))
+
 -- from the machine before the run to the one after it
 module _ (fuel : ℕ) (old new : Guest) (before after : Machine) (ran : Ran) (answer : Answer)
-    (had : old.machine ≡ Some before) (has : new.machine ≡ Some after) (is : answer ≡ of_run fuel ran)
+    (had : Has old before) (has : Has new after) (is : answer ≡ of_run fuel ran)
     (stands : (P : TProg) → Whole P → Accepted P → (m : ℕ) → Stands P m before →
     Stands P (m + steps_made fuel ran) after)
-    (runs : (P : TProg) → Whole P → Accepted P → (m : ℕ) → Stands P m before → RanFrom P m fuel ran) where
-  ran_on : (P : TProg) (n : ℕ) → IsAt P n old → RunsOn P n fuel new answer
-  ran_on P n x =
-      let same : x.machine ≡ before = same_Some x.machine before (sym x.has ∙ had) in
-      let at : Stands P n before = subst (Stands P n) same x.stands in
+    (runs : (P : TProg) → Whole P → Accepted P → (m : ℕ) → Stands P m before → RanFrom P m fuel ran)
+    (lowers : (P : TProg) → Whole P → Accepted P → (m : ℕ) → Stands P m before →
+    LowersAlong P m (steps_made fuel ran) before after)
+    (wants : (P : TProg) → Whole P → Accepted P → (m : ℕ) → Stands P m before →
+    WantsUncovered P m before ran) where
+  ran_on : (P : TProg) (n : ℕ) → IsAt P n old → RunsOn P n fuel old new answer
+  ran_on P n a =
+      let same : a.machine ≡ before = one old a.machine before a.has had in
+      let at : Stands P n before = subst (Stands P n) same a.stands in
       record {
         ran = ran;
-        run = runs P x.whole x.accepted n at;
+        run = runs P a.whole a.accepted n at;
         stands = record {
           machine = after;
           has = has;
-          whole = x.whole;
-          accepted = x.accepted;
-          stands = stands P x.whole x.accepted n at;
+          whole = a.whole;
+          accepted = a.accepted;
+          stands = stands P a.whole a.accepted n at;
         };
+        spare = λ x y is_x is_y. subst (λ (z : Machine). LowersAlong P n (steps_made fuel ran) z y)
+            (one old before x had is_x) (subst (LowersAlong P n (steps_made fuel ran) before)
+            (one new after y has is_y) (lowers P a.whole a.accepted n at));
+        covered = λ x is_x. subst (λ (z : Machine). WantsUncovered P n z ran) (one old before x had is_x)
+            (wants P a.whole a.accepted n at);
         is = is;
       }
 
   pub guest_run : GuestRun fuel old new answer
-  guest_run = ((λ e. absurd (not_empty old before had e)), ran_on)
+  guest_run = (had_one old before had, ran_on)
+
+not_run : (old new : Guest) (answer : Answer) → new ≡ old → answer ≡ bare usage → NotRun old new answer
+not_run old new answer same is e = (same ∙ e, is)
 
 pub empty_run : (fuel : ℕ) (old new : Guest) (answer : Answer) → old.machine ≡ None → new ≡ old →
     answer ≡ bare usage → GuestRun fuel old new answer
-empty_run fuel old new answer had same is =
-    ((λ e. (same ∙ e, is)), (λ P n x. absurd (none-some x.machine (sym had ∙ x.has))))
+empty_run fuel old new answer none same is =
+    (not_run old new answer same is, (λ P n a. has_none old a.machine none a.has))
+
+-- from the machine before to one that stands for the same states
+module _ (old new : Guest) (before after : Machine) (taken : Result (Unit {0}) OutOfMemory) (answer : Answer)
+    (had : Has old before) (has : Has new after) (is : answer ≡ of_taken taken)
+    (stands : (P : TProg) (m : ℕ) → Stands P m before → Stands P m after) (kept : Lowers 0 0 before after) where
+  stays : Stays old new
+  stays P n a = record {
+    machine = after;
+    has = has;
+    whole = a.whole;
+    accepted = a.accepted;
+    stands = stands P n (subst (Stands P n) (one old a.machine before a.has had) a.stands);
+  }
+
+  lowered : (x : Machine) → Has old x → Lowers 0 0 x after
+  lowered x is_x = subst (λ (z : Machine). Lowers 0 0 z after) (one old before x had is_x) kept
+
+  pub guest_reserve : (tuples fields : ℕ) →
+      OnOk taken ((tuples ≤ spare_tuples after) × (fields ≤ spare_fields after)) →
+      GuestReserve tuples fields old new answer
+  guest_reserve tuples fields spare = (
+    had_one old before had,
+    (λ x is_x. record {
+      after = after;
+      taken = taken;
+      has = has;
+      stays = stays;
+      kept = lowered x is_x;
+      spare = spare;
+      is = is;
+    }),
+  )
+
+  pub guest_collect : OnOk taken (KeepsReached before after) → GuestCollect old new answer
+  guest_collect exactly = (
+    had_one old before had,
+    (λ x is_x. record {
+      after = after;
+      taken = taken;
+      has = has;
+      stays = stays;
+      kept = lowered x is_x;
+      exactly = subst (λ (z : Machine). OnOk taken (KeepsReached z after)) (one old before x had is_x) exactly;
+      is = is;
+    }),
+  )
+
+pub empty_reserve : (tuples fields : ℕ) (old new : Guest) (answer : Answer) → old.machine ≡ None → new ≡ old →
+    answer ≡ bare usage → GuestReserve tuples fields old new answer
+empty_reserve tuples fields old new answer none same is =
+    (not_run old new answer same is, (λ x has. has_none old x none has))
+
+pub empty_collect : (old new : Guest) (answer : Answer) → old.machine ≡ None → new ≡ old →
+    answer ≡ bare usage → GuestCollect old new answer
+empty_collect old new answer none same is = (not_run old new answer same is, (λ x has. has_none old x none has))

@@ -1,6 +1,5 @@
 -- How a guest in memory of the host is lent for a call, and given back.
-use Rattle.std.proofs.Common.{ℕ, [], ◌∷◌, MutBor}
-use base.Fraction.{full_share}
+use Rattle.std.proofs.Common.{ℕ, MutBor}
 use base.Fml.{GName}
 use Rattle.tal_c.specs.declared.guest.Guest.{Guest}
 

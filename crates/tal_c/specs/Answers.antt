@@ -1,6 +1,8 @@
 -- What is told a host: numbers for the codes and the statuses.
-use Rattle.std.specs.Prelude.{ℕ, ℤ, pos}
-use Rattle.idx_core.specs.declared.span.Span.{Span}
+use Rattle.std.specs.Prelude.{ℕ, ℤ, pos, Option, Some, None, Result, Ok, Err}
+use Rattle.idx_core.specs.declared.memory.OutOfMemory.{OutOfMemory}
+use Rattle.t_terms.specs.declared.shown.Shown.{Shown}
+use Rattle.t_terms.specs.declared.shown.Shown.TheVariants as shown
 use Rattle.t_terms.specs.declared.fault.TCode.{TCode}
 use Rattle.t_terms.specs.declared.fault.TCode.TheVariants.{T01, T02, T03, T04, T05, T06, T07, T08, T09, T10}
 use Rattle.t_terms.specs.declared.fault.TCode.TheVariants.{T11, T12, T13, T14, T15, T16, T17, T18, T19, T20, M1}
@@ -9,6 +11,8 @@ use Rattle.t_terms.specs.declared.fault.TFault.TheVariants.{Memory, Refused}
 use Rattle.t_machine.specs.declared.machine.Ran.{Ran}
 use Rattle.t_machine.specs.declared.machine.Ran.TheVariants.{Halted, Spent, NoMemory}
 use Rattle.tal_c.specs.declared.answer.Answer.{Answer}
+use Rattle.tal_c.specs.declared.answer.RegisterWord.{RegisterWord}
+use Rattle.tal_c.specs.declared.answer.Position.{Position}
 
 -- the statuses of the program; `usage` is that of a call on an empty guest
 abbrev pub done : ℕ
@@ -83,3 +87,30 @@ abbrev pub of_run : ℕ → Ran → Answer
 of_run fuel (Halted value made) = ran done value made
 of_run fuel Spent = ran budget (pos 0) fuel
 of_run fuel (NoMemory made) = ran memory (pos 0) made
+
+-- memory that was to be taken: had, or wanted
+abbrev pub of_taken : Result (Unit {0}) OutOfMemory → Answer
+of_taken (Ok x) = bare done
+of_taken (Err e) = bare memory
+
+-- ---- registers and places
+
+abbrev pub told_word : ℕ → ℕ → ℤ → RegisterWord
+told_word kind number value = record { kind = kind; number = number; value = value }
+
+abbrev pub no_word : RegisterWord
+no_word = told_word 0 0 (pos 0)
+
+-- the word of a register: none, an integer, a tuple by its number, or a block by its number
+abbrev pub word_of : Option Shown → RegisterWord
+word_of None = no_word
+word_of (Some (shown.Int i)) = told_word 1 0 i
+word_of (Some (shown.Tuple a)) = told_word 2 a (pos 0)
+word_of (Some (shown.Label l)) = told_word 3 l (pos 0)
+
+-- the place of a guest: of none, and of one that has a program
+abbrev pub no_place : Position
+no_place = record { status = usage; block = 0; index = 0 }
+
+abbrev pub place_at : ℕ → ℕ → Position
+place_at block index = record { status = done; block = block; index = index }

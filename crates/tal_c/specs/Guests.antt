@@ -1,15 +1,22 @@
 -- What the calls on a guest do.
-use Rattle.std.specs.Prelude.{◌≡◌, ◌⊎◌, ◌+◌, ℕ, List, Some, None}
+use Rattle.std.specs.Prelude.{◌≡◌, ◌⊎◌, ◌+◌, ◌≤◌, ℕ, List, Option, Some, None, option_map, Result, OnOk}
+use Rattle.idx_core.specs.declared.memory.OutOfMemory.{OutOfMemory}
+use Rattle.t_terms.specs.declared.shown.Shown.{Shown}
 use Rattle.t_terms.specs.Tree.{TProg}
 use Rattle.t_terms.specs.Spanned.{SProg, plain_program}
 use Rattle.t_terms.specs.Whole.{Whole}
 use Rattle.t_rules.specs.Rules.{Accepted}
 use Rattle.t_machine.specs.declared.machine.Machine.{Machine}
 use Rattle.t_machine.specs.declared.machine.Ran.{Ran}
-use Rattle.t_machine.specs.Runs.{Stands, RanFrom, steps_made}
+use Rattle.t_machine.specs.Runs.{Stands, RanFrom, steps_made, words_in, IsRegAfter, IsPlaceAfter}
+use Rattle.t_machine.specs.Words.{shown_word}
+use Rattle.t_machine.specs.Room.{spare_tuples, spare_fields, Lowers, LowersAlong, WantsUncovered}
+use Rattle.t_machine.specs.Reachable.{KeepsReached}
 use Rattle.tal_c.specs.declared.answer.Answer.{Answer}
+use Rattle.tal_c.specs.declared.answer.RegisterWord.{RegisterWord}
+use Rattle.tal_c.specs.declared.answer.Position.{Position}
 use Rattle.tal_c.specs.declared.guest.Guest.{Guest}
-use Rattle.tal_c.specs.Answers.{bare, done, usage, of_run}
+use Rattle.tal_c.specs.Answers.{bare, done, usage, of_run, of_taken, no_word, word_of, no_place, place_at}
 use Rattle.tal_c.specs.Texts.{IsAcceptedText, FaultTold}
 
 -- a guest with no program
@@ -35,11 +42,18 @@ pub record LoadedTold (text : List ℕ) (new : Guest) (answer : Answer) : Type 0
 abbrev pub LoadTold : List ℕ → Guest → Answer → Type 0
 LoadTold text new answer = LoadedTold text new answer ⊎ (FaultTold text answer × (new ≡ empty))
 
--- after n instructions of P the guest ran so, and stands after those that it made
-pub record RunsOn (P : TProg) (n fuel : ℕ) (new : Guest) (answer : Answer) : Type 0 where
+-- the guest has this machine
+abbrev pub Has : Guest → Machine → Type 0
+Has guest machine = guest.machine ≡ Some machine
+
+-- After n instructions of P the guest ran so, and stands after those that it made. What was spare goes down by at most
+-- what these allocate, and memory is wanted only where what was spare did not cover them and one more.
+pub record RunsOn (P : TProg) (n fuel : ℕ) (old new : Guest) (answer : Answer) : Type 0 where
   pub ran : Ran
   pub run : RanFrom P n fuel ran
   pub stands : IsAt P (n + steps_made fuel ran) new
+  pub spare : (x y : Machine) → Has old x → Has new y → LowersAlong P n (steps_made fuel ran) x y
+  pub covered : (x : Machine) → Has old x → WantsUncovered P n x ran
   pub is : answer ≡ of_run fuel ran
 
 -- of a guest that was empty
@@ -48,8 +62,65 @@ NotRun old new answer = old ≡ empty → (new ≡ empty) × (answer ≡ bare us
 
 -- of a guest that had a program
 abbrev pub Runs : ℕ → Guest → Guest → Answer → Type 0
-Runs fuel old new answer = (P : TProg) (n : ℕ) → IsAt P n old → RunsOn P n fuel new answer
+Runs fuel old new answer = (P : TProg) (n : ℕ) → IsAt P n old → RunsOn P n fuel old new answer
 
 -- what a run of a guest does
 abbrev pub GuestRun : ℕ → Guest → Guest → Answer → Type 0
 GuestRun fuel old new answer = NotRun old new answer × Runs fuel old new answer
+
+-- whatever the guest stood at, it stands at
+abbrev pub Stays : Guest → Guest → Type 0
+Stays old new = (P : TProg) (n : ℕ) → IsAt P n old → IsAt P n new
+
+-- Memory was taken in advance: the guest stands where it stood, no less is spare, and where the answer is `done`, so
+-- many tuples are, and so many fields of all of them together.
+pub record Reserves (tuples fields : ℕ) (x : Machine) (old new : Guest) (answer : Answer) : Type 0 where
+  pub after : Machine
+  pub taken : Result (Unit {0}) OutOfMemory
+  pub has : Has new after
+  pub stays : Stays old new
+  pub kept : Lowers 0 0 x after
+  pub spare : OnOk taken ((tuples ≤ spare_tuples after) × (fields ≤ spare_fields after))
+  pub is : answer ≡ of_taken taken
+
+abbrev pub GuestReserve : (tuples fields : ℕ) → Guest → Guest → Answer → Type 0
+GuestReserve tuples fields old new answer =
+    NotRun old new answer × ((x : Machine) → Has old x → Reserves tuples fields x old new answer)
+
+-- Tuples were dropped: the guest stands where it stood, no less is spare, and where the answer is `done`, the tuples
+-- that can be reached are kept, and no others.
+pub record Collects (x : Machine) (old new : Guest) (answer : Answer) : Type 0 where
+  pub after : Machine
+  pub taken : Result (Unit {0}) OutOfMemory
+  pub has : Has new after
+  pub stays : Stays old new
+  pub kept : Lowers 0 0 x after
+  pub exactly : OnOk taken (KeepsReached x after)
+  pub is : answer ≡ of_taken taken
+
+abbrev pub GuestCollect : Guest → Guest → Answer → Type 0
+GuestCollect old new answer = NotRun old new answer × ((x : Machine) → Has old x → Collects x old new answer)
+
+-- the word of register r of the machine, which is that of the program's state
+pub record ShowsReg (r : ℕ) (x : Machine) (word : RegisterWord) : Type 0 where
+  pub shown : Option Shown
+  pub held : option_map shown_word shown ≡ words_in x r
+  pub meaning : (P : TProg) (m : ℕ) → Stands P m x → IsRegAfter P m r shown
+  pub is : word ≡ word_of shown
+
+-- the word of register r of a guest, which stays as it is
+abbrev pub GuestReg : ℕ → Guest → Guest → RegisterWord → Type 0
+GuestReg r old new word =
+    (new ≡ old) × (old ≡ empty → word ≡ no_word) × ((x : Machine) → Has old x → ShowsReg r x word)
+
+-- the block and the instruction at which P's state stands after m instructions
+pub record ShowsPlace (x : Machine) (place : Position) : Type 0 where
+  pub block : ℕ
+  pub index : ℕ
+  pub meaning : (P : TProg) (m : ℕ) → Stands P m x → IsPlaceAfter P m block index
+  pub is : place ≡ place_at block index
+
+-- the place of a guest, which stays as it is
+abbrev pub GuestPlace : Guest → Guest → Position → Type 0
+GuestPlace old new place =
+    (new ≡ old) × (old ≡ empty → place ≡ no_place) × ((x : Machine) → Has old x → ShowsPlace x place)

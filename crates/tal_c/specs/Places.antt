@@ -1,6 +1,8 @@
 -- Guests in memory of the host.
 use Rattle.std.specs.Prelude.{ℕ}
 use Rattle.std.specs.Ptr.{Ptr, lies_at, room_at}
+use prog.Memory.{size, align}
+use denote.Memory.{lone}
 use base.Fraction.{full_share}
 use base.Fml.{Fml, ftrue, fsep, fex}
 use Rattle.tal_c.specs.declared.guest.Guest.{Guest}
@@ -17,3 +19,10 @@ guest_at p guest = lies_at the_row full_share p guest
 -- a guest of which this holds lies there
 abbrev pub some_guest_at : Ptr → (Guest → Type 0) → Fml
 some_guest_at p Says = fex Guest (λ guest. fsep (guest_at p guest) (fex (Says guest) (λ _. ftrue)))
+
+-- how many bytes a guest takes, and at a multiple of which address it stands
+abbrev pub guest_size : ℕ
+guest_size = size (lone the_row.mir)
+
+abbrev pub guest_align : ℕ
+guest_align = align (lone the_row.mir)

@@ -1,9 +1,11 @@
 // What is told a host.
 ghost use Rattle.std.specs.Prelude.{◌≡◌};
-ghost use Rattle.tal_c.specs.Answers.{bare, ran, of_fault, of_run, code_number, code_status};
+ghost use Rattle.tal_c.specs.Answers.{bare, ran, of_fault, of_run, of_taken, code_number, code_status};
+ghost use Rattle.tal_c.specs.Answers.{no_word, told_word, word_of, no_place, place_at};
 
+use idx_core::OutOfMemory;
 use t_machine::Ran;
-use t_terms::{TCode, TFault};
+use t_terms::{Shown, TCode, TFault};
 
 /// What is told a host, in C `talc_answer`: how a call ended, and what else there is to tell. What there is not is 0.
 #[repr(C)]
@@ -22,6 +24,30 @@ pub struct Answer {
     pub value: i64,
     /// How many instructions the call made.
     pub made: u64,
+}
+
+/// The word of a register, in C `talc_word`.
+#[repr(C)]
+#[derive(Clone, Copy, Drop)]
+pub struct RegisterWord {
+    /// What it is: 0 none, 1 an integer, 2 a tuple, 3 a block.
+    pub kind: u32,
+    /// The number of the tuple or of the block, else 0.
+    pub number: u64,
+    /// The integer, else 0.
+    pub value: i64,
+}
+
+/// The place at which a guest stands, in C `talc_place`.
+#[repr(C)]
+#[derive(Clone, Copy, Drop)]
+pub struct Position {
+    /// 0; or 2 of an empty guest.
+    pub status: u32,
+    /// The block of the program, from 0.
+    pub block: u64,
+    /// The instruction of the block, from 0, or its end.
+    pub index: u64,
 }
 
 /// The status of a text that is accepted, and of a program that halted.
@@ -62,6 +88,67 @@ pub(crate) fn of_run(fuel: u64, run: Ran) -> Answer
         Ran::Halted { value, made } => ran(DONE, value, made),
         Ran::Spent => ran(BUDGET, 0, fuel),
         Ran::NoMemory { made } => ran(MEMORY, 0, made),
+    }
+}
+
+/// What is told where memory was to be taken.
+pub(crate) fn of_taken(taken: Result<(), OutOfMemory>) -> Answer
+    ensures { result ≡ of_taken taken }
+{
+    match taken {
+        Ok(()) => bare(DONE),
+        Err(_) => bare(MEMORY),
+    }
+}
+
+/// The word of a register that has none, or of an empty guest.
+pub(crate) fn no_word() -> RegisterWord
+    ensures { result ≡ no_word }
+{
+    told_word(0, 0, 0)
+}
+
+fn told_word(kind: u32, number: u64, value: i64) -> RegisterWord
+    ensures { result ≡ told_word kind number value }
+{
+    RegisterWord {
+        kind,
+        number,
+        value,
+    }
+}
+
+/// The word of a register, if it has one.
+pub(crate) fn word_of(shown: Option<Shown>) -> RegisterWord
+    ensures { result ≡ word_of shown }
+{
+    match shown {
+        None => no_word(),
+        Some(Shown::Int(value)) => told_word(1, 0, value),
+        Some(Shown::Tuple(number)) => told_word(2, number, 0),
+        Some(Shown::Label(number)) => told_word(3, number, 0),
+    }
+}
+
+/// The place of an empty guest.
+pub(crate) fn no_place() -> Position
+    ensures { result ≡ no_place }
+{
+    Position {
+        status: USAGE,
+        block: 0,
+        index: 0,
+    }
+}
+
+/// The place of a guest that has a program.
+pub(crate) fn place_at(block: u64, index: u64) -> Position
+    ensures { result ≡ place_at block index }
+{
+    Position {
+        status: DONE,
+        block,
+        index,
     }
 }
 

@@ -1,8 +1,11 @@
 // A guest: a program that is loaded once and run a slice at a time.
 ghost use Rattle.std.specs.Prelude.{◌≡◌};
-ghost use Rattle.tal_c.specs.Guests.{empty, LoadTold, GuestRun};
+ghost use Rattle.tal_c.specs.Guests.{empty, LoadTold, GuestRun, GuestReserve, GuestCollect, GuestReg, GuestPlace};
 
-use crate::answer::{Answer, DONE, USAGE, bare, of_fault, of_run};
+use crate::answer::{
+    Answer, DONE, Position, RegisterWord, USAGE, bare, no_place, no_word, of_fault, of_run,
+    of_taken, place_at, word_of,
+};
 use crate::texts::load_text;
 use std::alloc::Global;
 use t_machine::Machine;
@@ -48,5 +51,48 @@ pub(crate) fn run_on(guest: &mut Guest, fuel: u64) -> Answer
     match &mut guest.machine {
         Some(machine) => of_run(fuel, machine.run(fuel)),
         None => bare(USAGE),
+    }
+}
+
+/// Takes memory in advance: for so many tuples, and for so many fields of all of them together.
+pub(crate) fn reserve_in(guest: &mut Guest, tuples: u64, fields: u64) -> Answer
+    ensures { GuestReserve tuples fields guest.old guest.new result }
+{
+    match &mut guest.machine {
+        Some(machine) => of_taken(machine.reserve(tuples, fields)),
+        None => bare(USAGE),
+    }
+}
+
+/// Drops the tuples of the guest that it cannot reach any more.
+pub(crate) fn collect_in(guest: &mut Guest) -> Answer
+    ensures { GuestCollect guest.old guest.new result }
+{
+    match &mut guest.machine {
+        Some(machine) => of_taken(machine.collect()),
+        None => bare(USAGE),
+    }
+}
+
+/// The word of a register of the guest. (It is lent whole, as for the other calls, and stays as it is.)
+pub(crate) fn reg_in(guest: &mut Guest, register: u64) -> RegisterWord
+    ensures { GuestReg register guest.old guest.new result }
+{
+    match &guest.machine {
+        Some(machine) => word_of(machine.reg(register)),
+        None => no_word(),
+    }
+}
+
+/// The place at which the guest stands.
+pub(crate) fn place_in(guest: &mut Guest) -> Position
+    ensures { GuestPlace guest.old guest.new result }
+{
+    match &guest.machine {
+        Some(machine) => {
+            let (block, index) = machine.place();
+            place_at(block, index)
+        }
+        None => no_place(),
     }
 }

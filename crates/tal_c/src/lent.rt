@@ -1,11 +1,13 @@
 // The exports on a guest in memory of the host. Each lends the guest to a call of `guest`, and gives it back.
 ghost use types.Logic.{sem};
 ghost use Rattle.tal_c.specs.declared.guest.Guest as guests;
-ghost use Rattle.tal_c.specs.Guests.{empty, LoadTold, GuestRun};
+ghost use Rattle.tal_c.specs.Guests.{empty, LoadTold, GuestRun, GuestReserve, GuestCollect, GuestReg, GuestPlace};
 ghost use Rattle.tal_c.specs.Places.{room_for_guest, guest_at, some_guest_at};
 
-use crate::answer::Answer;
-use crate::guest::{Guest, clear, load_into, no_guest, run_on};
+use crate::answer::{Answer, Position, RegisterWord};
+use crate::guest::{
+    Guest, clear, collect_in, load_into, no_guest, place_in, reg_in, reserve_in, run_on,
+};
 use std::alloc::Global;
 
 /// Makes a guest with no program of room for one.
@@ -49,4 +51,48 @@ pub unsafe extern "C" fn talc_guest_run(at: *mut u8, fuel: u64) -> Answer
 {
     let guest = at as *mut Guest;
     run_on(&mut *guest, fuel)
+}
+
+/// Takes memory in advance: for so many tuples, and for so many fields of all of them together.
+#[unsafe(no_mangle)]
+pub unsafe extern "C" fn talc_guest_reserve(at: *mut u8, tuples: u64, fields: u64) -> Answer
+    ghost old: { guests.Guest }
+    requires* { sem 𝓛 (guest_at at old) }
+    ensures* { sem 𝓛 (some_guest_at at (λ new. GuestReserve tuples fields old new result)) }
+{
+    let guest = at as *mut Guest;
+    reserve_in(&mut *guest, tuples, fields)
+}
+
+/// Drops the tuples of the guest that it cannot reach any more.
+#[unsafe(no_mangle)]
+pub unsafe extern "C" fn talc_guest_collect(at: *mut u8) -> Answer
+    ghost old: { guests.Guest }
+    requires* { sem 𝓛 (guest_at at old) }
+    ensures* { sem 𝓛 (some_guest_at at (λ new. GuestCollect old new result)) }
+{
+    let guest = at as *mut Guest;
+    collect_in(&mut *guest)
+}
+
+/// The word of a register of the guest.
+#[unsafe(no_mangle)]
+pub unsafe extern "C" fn talc_guest_reg(at: *mut u8, register: u64) -> RegisterWord
+    ghost old: { guests.Guest }
+    requires* { sem 𝓛 (guest_at at old) }
+    ensures* { sem 𝓛 (some_guest_at at (λ new. GuestReg register old new result)) }
+{
+    let guest = at as *mut Guest;
+    reg_in(&mut *guest, register)
+}
+
+/// The place at which the guest stands.
+#[unsafe(no_mangle)]
+pub unsafe extern "C" fn talc_guest_place(at: *mut u8) -> Position
+    ghost old: { guests.Guest }
+    requires* { sem 𝓛 (guest_at at old) }
+    ensures* { sem 𝓛 (some_guest_at at (λ new. GuestPlace old new result)) }
+{
+    let guest = at as *mut Guest;
+    place_in(&mut *guest)
 }

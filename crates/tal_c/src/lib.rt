@@ -2,6 +2,7 @@
 //! and guests, which are loaded once and run a slice at a time. `talc.h` declares the exports.
 #![tactic(auto)]
 
+mod about;
 mod answer;
 mod guest;
 mod lent;

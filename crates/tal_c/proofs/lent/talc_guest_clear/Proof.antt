@@ -1,5 +1,5 @@
 -- The guest is lent for a lifetime that is made for the call, and comes back once it is ended.
-use Rattle.std.proofs.Common.{◌≡◌, ℕ, List, [], ◌∷◌, ◌++◌, refl, ap}
+use Rattle.std.proofs.Common.{◌≡◌, ℕ, [], ◌∷◌, refl, ap}
 use Rattle.std.proofs.raw_atomic.Walks.{proved}
 use base.Fraction.{full_share}
 use base.Logic.{id⊢}
@@ -9,7 +9,7 @@ use mir.Val.{vunit, vptr}
 use prog.Wp.{WpFn}
 use contract.Monad.{fact}
 use contract.Running.{tables}
-use types.Kit.{‵, raw, ◌⊛◌, some, later, prop, ◌$◌, ◌∵◌, !, qed, done, move, keep, drop, use1, use3, split, join, fsplit, fjoin, feq_i, feq_l, pick, await, regoal, rewrite, suffices, group}
+use types.Kit.{‵, raw, ◌⊛◌, some, later, prop, ◌$◌, ◌∵◌, !, qed, done, move, keep, drop, use1, use3, split, join, fsplit, feq_i, feq_l, pick, await, regoal, rewrite, suffices, group}
 use types.Run.{enter, of_opd, addr, stop, unit_lit, no_more, and_then, returns}
 use types.ByLocal.{alloc_all, pass_all, free_all, look_at, get, through, sets, lands_as}
 use types.SemTy.{Body}
@@ -18,7 +18,7 @@ use denote.Builtin.{unit}
 use denote.Exit.{yes}
 use denote.Lend.{lends_ref, ref_back}
 use denote.Memory.{mem, part_at}
-use denote.RawPtr.{Ptr, RawPtr, block_ptr, lies_at, in_a_block, rawptr_vals, rawptr_Tells}
+use denote.RawPtr.{Ptr, RawPtr, block_ptr, in_a_block, rawptr_vals, rawptr_Tells}
 use denote.Ref.{MutRef}
 use denote.Signature.{plain}
 use denote.Steps.{nothing, heard, only}

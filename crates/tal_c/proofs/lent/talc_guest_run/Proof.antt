@@ -1,5 +1,5 @@
 -- The guest is lent for a lifetime that is made for the call, and comes back once it is ended.
-use Rattle.std.proofs.Common.{◌≡◌, ℕ, List, [], ◌∷◌, ◌++◌, refl, w64, MutBor}
+use Rattle.std.proofs.Common.{ℕ, [], ◌∷◌, ◌++◌, refl, w64}
 use Rattle.std.proofs.raw_atomic.Walks.{proved}
 use base.Fraction.{full_share}
 use base.Logic.{id⊢}
@@ -20,7 +20,7 @@ use denote.Laws.{Is, shows}
 use denote.Lend.{lends_ref, ref_back}
 use denote.Memory.{mem, part_at}
 use denote.Plain.{uint_Makes, uint_vals, uint_Tells}
-use denote.RawPtr.{Ptr, RawPtr, block_ptr, lies_at, in_a_block, rawptr_vals, rawptr_Tells}
+use denote.RawPtr.{Ptr, RawPtr, block_ptr, in_a_block, rawptr_vals, rawptr_Tells}
 use denote.Ref.{MutRef}
 use denote.Signature.{plain}
 use denote.Steps.{nothing, owned, peeks, heard}

@@ -113,7 +113,7 @@ talc_answer talc_run(const uint8_t *text, size_t length, uint64_t fuel);
 
 /* A guest: a program that is checked and loaded once, and run a slice at a time. The host keeps it where it likes, on
  * the stack or the heap, and may move it by memcpy between calls. What is in it is of no use to the host. */
-#define TALC_GUEST_WORDS 32 /* proved to be enough */
+#define TALC_GUEST_WORDS 64 /* proved to be enough */
 typedef struct talc_guest {
     uint64_t opaque[TALC_GUEST_WORDS];
 } talc_guest;

@@ -38,7 +38,7 @@ mod talc {
         pub length: u64,
     }
 
-    pub type Room = [u64; 32];
+    pub type Room = [u64; 64];
 
     unsafe extern "C" {
         pub fn talc_version() -> u32;
@@ -119,7 +119,7 @@ struct Guest(Box<talc::Room>);
 
 impl Guest {
     fn new() -> Guest {
-        let mut room = Box::new([0; 32]);
+        let mut room = Box::new([0; 64]);
         unsafe { talc::talc_guest_init(&mut *room) };
         Guest(room)
     }

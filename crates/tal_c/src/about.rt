@@ -9,7 +9,7 @@ use std::mem::{align_of, size_of};
 const VERSION: u32 = 1;
 
 // What `talc.h` gives a guest.
-const _: () = prove!(size_of::<Guest>() <= 256);
+const _: () = prove!(size_of::<Guest>() <= 512);
 
 const _: () = prove!(align_of::<Guest>() <= 8);
 

@@ -25,6 +25,7 @@ static uint32_t once(const char *call, size_t n) {
     if (!strcmp(call, "check")) return talc_check(text, n).status;
     if (!strcmp(call, "run")) return talc_run(text, n, 1000).status;
     if (!strcmp(call, "slice")) return talc_guest_run(&guest, 1).status & ~4u;
+    if (!strcmp(call, "field")) return talc_guest_field(&guest, 0, 0).kind == TALC_NONE;
     if (!strcmp(call, "typeof")) return talc_typeof(text, n, room, sizeof room).status;
     if (!strcmp(call, "eval")) return talc_eval(text, n, 1000, room, sizeof room).status;
     if (!strcmp(call, "compile")) return talc_compile(text, n, 0, room, sizeof room).status;
@@ -37,7 +38,8 @@ int main(int count, char **words) {
     long calls = count > 3 ? atol(words[3]) : 1;
     double best = 1e9;
     talc_guest_init(&guest);
-    if (!strcmp(words[1], "slice") && talc_guest_load(&guest, text, n).status) return 1;
+    int of_guest = !strcmp(words[1], "slice") || !strcmp(words[1], "field");
+    if (of_guest && talc_guest_load(&guest, text, n).status) return 1;
     for (int round = 0; round < 7; round++) {
         struct timespec a, b;
         clock_gettime(CLOCK_PROCESS_CPUTIME_ID, &a);
@@ -58,6 +60,7 @@ CALLS = [
     ("check", ["check", "IN"], "factorial.tal", 2000),
     ("run", ["run", "IN", "--fuel", "1000"], "factorial.tal", 2000),
     ("slice", None, "factorial.tal", 100000),
+    ("field", None, "data.tal", 100000),
     ("typeof", ["typeof", "IN"], "factorial.f", 500),
     ("eval", ["eval", "IN", "--turns", "1000"], "factorial.f", 500),
     ("compile", ["compile", "IN", "OUT"], "factorial.f", 200),
@@ -71,7 +74,7 @@ def built(place):
     with open(f"{place}/calls.c", "w", encoding="utf-8") as file:
         file.write(CODE)
     if subprocess.run([f"{ROOT}/host/libraries", f"{place}/lib"], check=False).returncode:
-        sys.exit("the libraries are missing: `rt lib` in crates/tal_c and crates/talc_c makes them")
+        sys.exit("the libraries are missing: tools/build --library tal_c, and talc_c, makes them")
     libraries = [f"{place}/lib/libtalc_c.a", f"{place}/lib/libtal_c.a"]
     words = ["cc", "-O2", f"-I{ROOT}/host", "-o", f"{place}/calls", f"{place}/calls.c", *libraries]
     subprocess.run(words, check=True)

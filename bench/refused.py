@@ -1,5 +1,7 @@
 """Refused memory: over two dozen inputs, every allocation of a command is refused once, in a run of its own; of one
-that allocates more than two thousand times, as `gen` does, some two thousand, the last ones among them.
+that allocates more than two thousand times, as `gen` does, some two thousand, the last ones among them. Of programs
+that make millions of tuples, whose heap grows and is collected on the way, each allocation is refused once, and in
+another run it and all after it.
 
 What is wanted: all as with ample memory, or status 7 with nothing on the output, the line `out of memory` or nothing on
 the error output, and no file changed, but that `gen` may have written its source. It prints how many refusals it tried,
@@ -20,10 +22,15 @@ SHIM = r"""
 #include <string.h>
 #include <unistd.h>
 #include <fcntl.h>
-static long made, refused = -2;
+static long made, refused = -2, last;
 static int refuses(void) {
-    if (refused == -2) { const char *at = getenv("REFUSED"); refused = at ? atol(at) : -1; }
-    return made++ == refused;
+    if (refused == -2) {
+        const char *at = getenv("REFUSED");
+        refused = at ? atol(at) : -1;
+        last = getenv("REFUSED_ON") ? 1L << 40 : refused;
+    }
+    long now = made++;
+    return refused >= 0 && refused <= now && now <= last;
 }
 static void *(*real_malloc)(size_t), *(*real_realloc)(void *, size_t), *(*real_calloc)(size_t, size_t);
 static void *(*real_aligned)(size_t, size_t);
@@ -90,6 +97,17 @@ DATA = (
     "L0: code[]{}.\nmov r2, D0\nld r3, r2[1]\nld r1, r3[0]\nhalt[int]\n"
 )
 
+# Three million pairs that are dropped at once, and one and a half that are kept in a list, beside as many that are not.
+DROPPED = (
+    "tal 1\nL0: code[]{}.\nmov r1, 3000000\njmp L1\nL1: code[]{r1:int}.\nmalloc r2[int, int]\nst r2[0], r1\n"
+    "sub r1, r1, 1\nbnz r1, L1\nhalt[int]\n"
+)
+KEPT = (
+    "tal 1\nL0: code[]{}.\nmov r1, 1500000\nmalloc r2[]\njmp L1[<>]\nL1: code[a]{r1:int, r2:a}.\nmalloc r3[int, a]\n"
+    "malloc r4[int, int]\nst r3[0], r1\nst r3[1], r2\nmov r2, r3\nsub r1, r1, 1\nbnz r1, L1[<int^1, a^1>]\n"
+    "halt[int]\n"
+)
+
 # Of a command that allocates more often than this, some allocations are left out.
 MOST = 2000
 
@@ -112,6 +130,9 @@ CASES = [
     ("gen --seed 0 OUT", ""),
 ]
 
+# The same, of programs whose heap is collected.
+COLLECTED = [("run IN --fuel 100000000", DROPPED), ("run IN --fuel 100000000", KEPT)]
+
 
 def before(words, text):
     """The files before a run, by name: IN has its text, and OUT something else."""
@@ -122,7 +143,7 @@ def before(words, text):
 class Outcome:
     """The status of a run, what stands on its two outputs, and the files of its folder."""
 
-    def __init__(self, talc, shim, place, words, text, refused=None):
+    def __init__(self, talc, shim, place, words, text, refused=None, goes_on=False):
         for name in os.listdir(place):
             os.remove(f"{place}/{name}")
         for name, content in before(words, text).items():
@@ -131,6 +152,8 @@ class Outcome:
         env = {"LD_PRELOAD": shim, "COUNTED": f"{place}.count"}
         if refused is not None:
             env["REFUSED"] = str(refused)
+        if goes_on:
+            env["REFUSED_ON"] = "1"
         run = subprocess.run([talc, *words.split()], cwd=place, env=env, capture_output=True, timeout=60)
         self.status, self.out, self.err = run.returncode, run.stdout, run.stderr
         self.files = {name: open(f"{place}/{name}", "rb").read() for name in sorted(os.listdir(place))}
@@ -153,37 +176,38 @@ def chosen(count):
     return [*range(0, last, last // MOST + 1), *range(last, count)]
 
 
+def tried(talc, shim, place, words, text, goes_on):
+    """Refuses allocations of a command in turn: how many, those that were answered by want of memory, and wrongly."""
+    ample = Outcome(talc, shim, f"{place}/run", words, text)
+    with open(f"{place}/run.count", encoding="ascii") as file:
+        count = int(file.read())
+    wants = wrong = 0
+    for at in chosen(count):
+        got = Outcome(talc, shim, f"{place}/run", words, text, at, goes_on)
+        if got.is_want(words, text, ample):
+            wants += 1
+        elif not got.is_as(ample):
+            wrong += 1
+            print(f"{words} on {text[:40]!r}, allocation {at} refused: status {got.status}, {got.out!r}, {got.err!r}")
+    print(
+        f"{words}, status {ample.status}: {count} allocations, {len(chosen(count))} refused"
+        f"{' with all after them' if goes_on else ''}, {wants} answered by status 7"
+    )
+    return len(chosen(count)), wants, wrong
+
+
 def main():
     talc, compiler = program(), available("cc")
-    tried = wants = wrong = 0
     with folder() as place:
         shim = f"{place}/shim.so"
         with open(f"{place}/shim.c", "w", encoding="ascii") as file:
             file.write(SHIM)
         subprocess.run([compiler, "-O1", "-shared", "-fPIC", "-o", shim, f"{place}/shim.c", "-ldl"], check=True)
         os.mkdir(f"{place}/run")
-        for words, text in CASES:
-            ample = Outcome(talc, shim, f"{place}/run", words, text)
-            with open(f"{place}/run.count", encoding="ascii") as file:
-                count = int(file.read())
-            here, places = 0, chosen(count)
-            for at in places:
-                got = Outcome(talc, shim, f"{place}/run", words, text, at)
-                tried += 1
-                if got.is_want(words, text, ample):
-                    here += 1
-                elif not got.is_as(ample):
-                    wrong += 1
-                    print(
-                        f"{words} on {text[:40]!r}, allocation {at} refused: "
-                        f"status {got.status}, {got.out!r}, {got.err!r}"
-                    )
-            wants += here
-            print(
-                f"{words}, status {ample.status}: {count} allocations, {len(places)} refused, "
-                f"{here} answered by status 7"
-            )
-    print(f"{tried} refusals tried, {wants} answered by status 7, {wrong} answered wrongly")
+        cases = [(*it, False) for it in CASES + COLLECTED] + [(*it, True) for it in COLLECTED]
+        found = [tried(talc, shim, place, *it) for it in cases]
+    refusals, wants, wrong = (sum(it) for it in zip(*found))
+    print(f"{refusals} refusals tried, {wants} answered by status 7, {wrong} answered wrongly")
     sys.exit(1 if wrong else 0)
 
 

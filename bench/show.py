@@ -1,11 +1,12 @@
-"""Showing: `talc show` on sources of up to 100000 nodes, the limit, in each of the six forms.
+"""Showing: `talc show` on sources of up to 100000 nodes, the limit, in each of the six forms, and `talc listing` on what
+`compile` makes of them.
 
-For each shape and form: processor seconds less those of the text `7`, bytes of the text shown a node of the source, the
-time as a multiple of that of the half (wanted: at most 2.2), and as a multiple of that of `compile` (wanted: at most 1.5
-for the forms on the way to the assembly text). A text is shown as often as it takes to come to 0.05 seconds. A row that
-misses says so.
+For each shape and form, and for the listing: processor seconds less those of the text `7`, bytes of the text shown a
+node of the source, the time as a multiple of that of the half (wanted: at most 2.2), and as a multiple of that of
+`compile` (wanted: at most 1.5 for the forms on the way to the assembly text), or for the listing of that of `check`
+(wanted: at most 5). A text is shown as often as it takes to come to 0.05 seconds. A row that misses says so.
 """
-from measure import Spent, best, folder, program, ratio
+from measure import Spent, best, checked, folder, program, ratio
 from shapes import branches, called_lets, calls, cells, functions, lets, ones, opens
 
 SHAPES = [
@@ -19,7 +20,7 @@ SHAPES = [
     ("assignments in a row", cells),
 ]
 FORMS = ["source", "cps", "closed", "hoisted", "allocated", "assembly"]
-NODES, MOST_TIMES, MOST_OF_COMPILING = 99000, 2.2, 1.5
+NODES, MOST_TIMES, MOST_OF_COMPILING, MOST_OF_CHECKING = 99000, 2.2, 1.5, 5
 
 
 def main():
@@ -43,6 +44,23 @@ def main():
                     f"{shape}, {form}: {runs[0].seconds:.3f} s, {size / NODES:.1f} bytes a node, times the half: "
                     f"{ratio(*runs, MOST_TIMES)}, times compiling: {ratio(runs[0], compiling, MOST_OF_COMPILING)}"
                 )
+            list_compiled(talc, shape, seven, [whole, half])
+
+
+def list_compiled(talc, shape, seven, sources):
+    """The row of a shape for `listing` on the texts that `compile` makes of the sources, the whole one and the half."""
+    def made(name):
+        checked([talc, "compile", name, f"{name}.tal"])
+        return f"{name}.tal"
+
+    small, texts = made(seven), [made(name) for name in sources]
+    checking = Spent([talc, "check", texts[0]], best([talc, "check", small], times=20))
+    base = best([talc, "listing", small], times=20)
+    runs = [Spent([talc, "listing", text], base) for text in texts]
+    print(
+        f"{shape}, listing: {runs[0].seconds:.3f} s, {len(runs[0].run.text) / NODES:.1f} bytes a node, times the half: "
+        f"{ratio(*runs, MOST_TIMES)}, times checking: {ratio(runs[0], checking, MOST_OF_CHECKING)}"
+    )
 
 
 main()

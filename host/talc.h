@@ -142,9 +142,20 @@ talc_answer talc_guest_reserve(talc_guest *guest, uint64_t tuples, uint64_t fiel
  * where there are many. TALC_DONE, TALC_EMPTY, or TALC_MEMORY, where the guest is as before. */
 talc_answer talc_guest_collect(talc_guest *guest);
 
-/* The word of a register, where it has one. */
+/* Sets what the guest may keep from now on: never more than so many tuples, nor more than so many fields of all of them
+ * together, with the data of its program; or no more than it keeps now, where that is more. An instruction for which
+ * more would be kept, after all is dropped that cannot be reached, ends its run with TALC_MEMORY, whatever memory there
+ * is; under a larger cap the guest goes on. Without a cap it may keep 2^32 - 1 of each, and a load sets none. Takes no
+ * memory. TALC_DONE or TALC_EMPTY. */
+talc_answer talc_guest_within(talc_guest *guest, uint64_t tuples, uint64_t fields);
+
+/* How many tuples the guest keeps, with the data of its program: 0 of an empty one. Some of them it may not reach any
+ * more, but none such after TALC_MEMORY of a run, nor after talc_guest_collect. */
+uint64_t talc_guest_kept(talc_guest *guest);
+
+/* The word of a register, or of a field of a tuple, where it has one. */
 enum {
-    TALC_NONE = 0,  /* it has none, or the guest is empty */
+    TALC_NONE = 0,  /* it has none, there is no such tuple or field, or the guest is empty */
     TALC_INT = 1,   /* an integer: value */
     TALC_TUPLE = 2, /* a tuple: number */
     TALC_BLOCK = 3  /* a block: number, in the order of the text, from 0 */
@@ -155,6 +166,10 @@ typedef struct talc_word {
     int64_t value;   /* of an integer */
 } talc_word;
 talc_word talc_guest_reg(talc_guest *guest, uint64_t number);
+
+/* The word of a field, from 0, of the tuple of this number, which a register or another field shows. The numbers stay as
+ * the guest runs on; but a tuple that it cannot reach any more may be dropped, and has then no fields. */
+talc_word talc_guest_field(talc_guest *guest, uint64_t tuple, uint64_t field);
 
 /* Where the guest stands. */
 typedef struct talc_place {

@@ -109,7 +109,9 @@ class Talc:
             ("talc_guest_init", None, _AT), ("talc_guest_clear", None, _AT),
             ("talc_guest_load", _Answer, _AT, _TEXT, _SIZE), ("talc_guest_run", _Answer, _AT, _U64),
             ("talc_guest_reserve", _Answer, _AT, _U64, _U64), ("talc_guest_collect", _Answer, _AT),
-            ("talc_guest_reg", _Word, _AT, _U64), ("talc_guest_place", _Place, _AT),
+            ("talc_guest_within", _Answer, _AT, _U64, _U64), ("talc_guest_kept", _U64, _AT),
+            ("talc_guest_reg", _Word, _AT, _U64), ("talc_guest_field", _Word, _AT, _U64, _U64),
+            ("talc_guest_place", _Place, _AT),
             ("talc_heap_bound", None, _SIZE), ("talc_heap_held", _SIZE), ("talc_heap_most", _SIZE),
         ):
             self._declare(self._machine, name, result, *given)
@@ -222,10 +224,29 @@ class Guest:
         """Drops the tuples that the guest cannot reach any more."""
         self._has(self._machine.talc_guest_collect(self._at))
 
+    def within(self, tuples: int, fields: int) -> None:
+        """From now on never more than so many tuples are kept, nor more fields of all of them together: where a run would
+        keep more, it raises OutOfMemory, and goes on under a larger cap."""
+        self._has(self._machine.talc_guest_within(self._at, tuples, fields))
+
+    def kept(self) -> int:
+        """How many tuples are kept."""
+        return self._machine.talc_guest_kept(self._at)
+
     def reg(self, number: int) -> "tuple[str, int]":
         """The kind of a register's word, and the integer, or the number of the tuple or block."""
-        word = self._machine.talc_guest_reg(self._at, number)
-        return (NONE, INT, TUPLE, BLOCK)[word.kind], word.value if word.kind == 1 else word.number
+        return self._shown(self._machine.talc_guest_reg(self._at, number))
+
+    def field(self, tuple_number: int, field: int) -> "tuple[str, int]":
+        """The same of a field, from 0, of the tuple of this number."""
+        return self._shown(self._machine.talc_guest_field(self._at, tuple_number, field))
+
+    def fields(self, tuple_number: int) -> "list[tuple[str, int]]":
+        """The words of the tuple's fields, up to the first that has none."""
+        words = []
+        while (word := self.field(tuple_number, len(words)))[0] != NONE:
+            words.append(word)
+        return words
 
     def place(self) -> "tuple[int, int]":
         """The block and the instruction in it, from 0."""
@@ -236,6 +257,10 @@ class Guest:
     def clear(self) -> None:
         """Gives back what the guest holds. It is then empty."""
         self._machine.talc_guest_clear(self._at)
+
+    @staticmethod
+    def _shown(word):
+        return (NONE, INT, TUPLE, BLOCK)[word.kind], word.value if word.kind == 1 else word.number
 
     @staticmethod
     def _has(answer):

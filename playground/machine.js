@@ -4,27 +4,29 @@ import { cut, spansOf } from './text.js';
 
 // So many states are fetched at a time; so many of them stand before the one that is asked for.
 const WINDOW = 400, BEFORE = 50;
-// Of a longer text instructions have no place.
-const MOST_PLACED = 4000000;
+// Where a block or datum begins, but for what a comment says.
+const DEFINITION = /--[^\n]*|(\w+)(?:\s|--[^\n]*\n)*:(?:\s|--[^\n]*\n)*(code|data)\b/g;
 
-// Where each instruction stands: for each block its label, and of each instruction the start and the end.
-function placesOf(text) {
-    const found = cut(text, 'tal', MOST_PLACED).filter((it) => it.kind !== '' && it.kind !== 'comment');
-    const blocks = [];
-    let current = null;
-    found.forEach((it, index) => {
-        if (it.kind === 'label' && found[index + 1]?.text === ':') {
-            current = null;
-        } else if (it.text === 'code' && it.kind === 'keyword') {
-            blocks.push({ label: found[index - 2].text, places: [] });
-        } else if (it.kind === 'instruction') {
-            current = [it.start, it.end];
-            blocks.at(-1)?.places.push(current);
-        } else if (current) {
-            current[1] = it.end;
+// The blocks of a text in order: the label of each, and its start and end.
+function blocksOf(text) {
+    const found = [...text.matchAll(DEFINITION)].filter((it) => it[1]);
+    const all = found.map((it, index) => (
+        { label: it[1], isCode: it[2] === 'code', start: it.index, end: found[index + 1]?.index ?? text.length }));
+    return all.filter((it) => it.isCode);
+}
+
+// Where each instruction of a block stands: its start and its end.
+function placesOf(text, block) {
+    const found = cut(text.slice(block.start, block.end), 'tal', new Set(), block.start);
+    const places = [];
+    for (const it of found.filter(({ kind }) => kind !== '' && kind !== 'comment')) {
+        if (it.kind === 'instruction') {
+            places.push([it.start, it.end]);
+        } else if (places.length) {
+            places.at(-1)[1] = it.end;
         }
-    });
-    return blocks;
+    }
+    return places;
 }
 
 // A line of `trace`: the number of steps, the block, the instruction, and the registers with words and types.
@@ -68,7 +70,7 @@ export class Machine {
     load(text, pane, last, ends, signal) {
         this.pause();
         Object.assign(this, { text, pane, last, ends, signal, states: [] });
-        this.places = placesOf(text);
+        this.blocks = blocksOf(text);
         this.parts.slider.max = this.parts.jump.max = last;
         this.parts.of.textContent = `of ${last.toLocaleString('en')}${ends ? '' : '+'}`;
         return this.go(Math.min(this.at, last));
@@ -77,7 +79,7 @@ export class Machine {
     // Where nothing is accepted there is nothing to show.
     clear(why) {
         this.pause();
-        this.pane?.setMark('now', []);
+        this.pane?.mark('now');
         this.pane = null;
         this.parts.registers.replaceChildren();
         this.parts.says.textContent = why;
@@ -113,12 +115,13 @@ export class Machine {
     }
 
     draw(state, before) {
-        const { label, places } = this.places[state.block] ?? {};
-        const [start, end] = places?.[state.at] ?? [0, 0];
+        const block = this.blocks[state.block] ?? {};
+        const places = block.places ??= 'start' in block ? placesOf(this.text, block) : [];
+        const [start, end] = places[state.at] ?? [];
         this.pane.mark('now', start, end);
         this.pane.reveal('now');
         this.parts.says.textContent = this.ends && state.step === this.last ? `halted: ${this.result}`
-            : `${label ?? `b${state.block}`}, instruction ${state.at + 1} of ${places?.length ?? '?'}`;
+            : `${block.label ?? `b${state.block}`}, instruction ${state.at + 1} of ${places.length || '?'}`;
         const known = new Map((before ?? state).registers.map((it) => [it.name, it]));
         this.parts.registers.replaceChildren(...state.registers.map((it) => this.rowOf(it, known.get(it.name))));
     }
@@ -130,7 +133,7 @@ export class Machine {
         cells[0].textContent = register.name;
         cells[1].textContent = register.word;
         const block = /^L(\d+)$/.exec(register.word);
-        const label = block && this.places[block[1]]?.label;
+        const label = block && this.blocks[block[1]]?.label;
         if (label && label !== register.word) {
             cells[1].append(Object.assign(document.createElement('small'), { textContent: ` ${label}` }));
         }

@@ -15,9 +15,13 @@ const MOST_EAGER = 30000;
 // A longer text is put into no address.
 const MOST_LINKED = 200000;
 
+// The first line of `explain`, and that of `check` or `typeof`: what may stand before the fault's number, and the bytes
+// that it is at.
+const FAULT = /^(?:.*?:?\d+:\d+: )?([A-Z]\d+) (?:.*\(bytes )?(\d+)\.\.(\d+)/;
+
 // For each language its text's name and the view in sight; the mode is the language in sight.
 const names = { source: '', tal: '' }, views = { source: 'cps', tal: 'machine' };
-let mode = 'source', most = 0, examples = [];
+let mode = 'source', most = 0, examples = [], commands = new Set();
 // What is asked of the text in sight: how to give it up, and the forms that are fetched.
 let turn = { aborter: new AbortController() };
 const editors = {}, panes = {}, articles = {};
@@ -72,20 +76,20 @@ function commandOf(found) {
     return found.words.replace('IN', $('name').textContent).replace('OUT', 'made.tal');
 }
 
-// Shows the first fault, if there is one, by the text of `explain`; by that of `check` or `typeof` where the text is of
-// the other language. E15, that a term has another type than int, is a fault of the whole, and is not marked.
+// Shows the first fault, if there is one, by the text of `explain`, without the name of its file; by that of `check` or
+// `typeof` where the text is of the other language. E15, that a term has another type than int, is a fault of the whole,
+// and is not marked.
 function showFault(known, explained) {
     const found = explained.said === 'no fault' ? known : explained;
-    const [, code, start, end] = /^([A-Z]\d+) (?:.*\(bytes )?(\d+)\.\.(\d+)/.exec(found.said) ?? [];
+    const [, code, start, end] = FAULT.exec(found.said) ?? [];
     const isFault = found.status !== 0 || code !== undefined;
     $('fault').hidden = !isFault;
-    const lines = found.said.split('\n').map((it) => ({ text: `${it}\n`, kind: /^ *\d* \|/.test(it) ? 'line' : '' }));
+    const said = found.said.replace(/^IN(?=:\d)/, () => $('name').textContent).split('\n');
+    const lines = said.map((it) => ({ text: `${it}\n`, kind: /^ *\d* \|/.test(it) ? 'line' : '' }));
     $('explained').replaceChildren(...spansOf(lines));
     const editor = editors[mode];
-    editor.setMark('fault', []);
-    if (code && code !== 'E15') {
-        editor.mark('fault', ...[start, end].map((it) => placeOf(editor.text, Number(it))));
-    }
+    const isMarked = code && code !== 'E15';
+    editor.mark('fault', ...(isMarked ? [start, end].map((it) => placeOf(editor.text, Number(it))) : []));
     document.body.classList.toggle('refused', isFault);
     return isFault;
 }
@@ -159,8 +163,7 @@ function fill(form, found) {
     return text ? size : found.said;
 }
 
-// Runs an assembly text, and readies the machine. The program does not tell after how many instructions one halts, so
-// that is searched for: by `run` down to few, and among these by the last state of `trace`.
+// Runs an assembly text, and readies the machine.
 async function showRun(text, pane, signal) {
     const fuel = $('fuel').value;
     const found = await ask('run', { fuel }, text, signal);
@@ -170,16 +173,28 @@ async function showRun(text, pane, signal) {
     } else if (found.status !== 0) {
         return machine.clear(found.said);
     }
-    let [from, to] = [0, Number(fuel)];
+    const last = await (commands.has('cost') ? toldSteps : searchedSteps)(text, Number(fuel), signal);
+    say('run', found, `${found.said} after ${counted(last, 'instruction')}`);
+    return machine.load(text, pane, last, true, signal);
+}
+
+// After how many instructions a text halts, which does so within `fuel`: by the first line of `cost`.
+async function toldSteps(text, fuel, signal) {
+    const found = await ask('cost', { fuel }, text, signal);
+    const told = /^instructions (\d+)$/m.exec(found.said);
+    return told ? Number(told[1]) : searchedSteps(text, fuel, signal);
+}
+
+// The same of a program that does not tell it: by `run` down to few, and among these by the last state of `trace`.
+async function searchedSteps(text, fuel, signal) {
+    let [from, to] = [0, fuel];
     while (to - from > 300) {
         const middle = Math.floor((from + to) / 2);
         const half = await ask('run', { fuel: middle }, text, signal);
         [from, to] = half.status === 4 ? [middle, to] : [from, middle];
     }
     const traced = await ask('trace', { from, to }, text, signal);
-    const last = Number(/^\d+/.exec(traced.said.split('\n').at(-2)));
-    say('run', found, `${found.said} after ${counted(last, 'instruction')}`);
-    return machine.load(text, pane, last, true, signal);
+    return Number(/^\d+/.exec(traced.said.split('\n').at(-2)));
 }
 
 // Views and modes
@@ -351,7 +366,7 @@ function begin({ text, name, fault }) {
 await attempt(async () => {
     const found = await post('start', '');
     learn(found.words);
-    [examples, most] = [found.examples, found.most];
+    [examples, most, commands] = [found.examples, found.most, new Set(found.commands)];
     build();
     begin((await linked()) ?? found.file ?? found);
 });

@@ -59,9 +59,9 @@ def unlike_words(language):
 
 
 def places(run):
-    """The file, the code, the line and the column of each fault that `explain` shows."""
+    """The file, the line, the column, the code and the words of each fault that `explain` shows."""
     for command, lines in run:
-        found = re.fullmatch(r"(\w+) (.*): line (\d+), column (\d+) \(.*\)", lines[0]) if lines else None
+        found = re.fullmatch(r"(.+):(\d+):(\d+): (\w+) (.+) \(bytes .*\)", lines[0]) if lines else None
         if command.startswith("talc explain ") and found:
             yield command.split()[2], lines[0], found.groups()
 
@@ -77,12 +77,12 @@ def unlike_extension(run, changes):
             yield f"editors/vscode/package.json: no {path}"
     if f"\n## {package['version']}\n" not in changes:
         yield "editors/vscode/package.json: CHANGELOG.md has no such version"
-    first, second = given["problemMatchers"][0]["pattern"]
-    for file, line, wanted in places(run):
-        found = re.fullmatch(second["regexp"], line)
-        if not re.fullmatch(first["regexp"], f"{file}:") or not found:
+    (pattern,) = given["problemMatchers"][0]["pattern"]
+    for _, line, wanted in places(run):
+        found = re.fullmatch(pattern["regexp"], line)
+        if not found:
             yield f"editors/vscode/package.json: the problem matcher does not find `{line}`"
-        elif tuple(found[second[it]] for it in ("code", "message", "line", "column")) != wanted:
+        elif tuple(found[pattern[it]] for it in ("file", "line", "column", "code", "message")) != wanted:
             yield f"editors/vscode/package.json: the problem matcher finds another place in `{line}`"
 
 
@@ -103,7 +103,7 @@ def found_by_vim(program, name, words):
 
 def misplaced(program, run):
     """Faults of which Vim, where it is there, finds another place, by `explain` or by what shows the place in bytes."""
-    for name, _, (code, about, line, column) in places(run) if shutil.which("vim") else []:
+    for name, _, (_, line, column, code, about) in places(run) if shutil.which("vim") else []:
         if not (DATA / name).exists():
             continue
         in_bytes = "check" if name.endswith(".tal") else "typeof"

@@ -1,11 +1,17 @@
 #!/usr/bin/env python3
-"""For tools/build, where the kit's `rt ci` keeps nothing of what it has proved.
+"""For tools/build. Where the kit's `rt ci` keeps nothing of what it has proved:
 
 keeping.py STORE: does `rt ci` in this folder, but takes from STORE the crates that an earlier call proved, and puts
 there those that this call proves. Of a static library it also makes the archive, which `rt ci` does not.
 keeping.py STORE --take FILE NAME..: puts into STORE what an `rt ci` in this folder has built of these crates, where it
 is newer than FILE, which was written just before. (`rt ci` puts back the libraries that it found.)
 keeping.py STORE --lacking: shows which crates of this folder's list STORE does not have.
+
+Where the kit keeps what it has proved:
+
+keeping.py STORE --lend NAME: puts there the libraries below NAME that an `rt ci` has kept of the same files, and shows
+which crates these lack.
+keeping.py STORE --archive NAME: proves the static library NAME over these, and makes the archive.
 
 A crate is kept by a sum of the kit, HANDLES, the crate's line in crates.txt, each of its files in src, specs and
 proofs, and the sums of the crates below it. What is kept is packed, since `rt ci` refuses a checkout in which code lies
@@ -125,7 +131,35 @@ def forget(store, crates):
             os.remove(f"{store}/{file}")
 
 
+def lend(crate, every):
+    """Gives the crates below this one the libraries that the kit keeps, and returns the names of those that lack one."""
+    kept, lacking = rt.Kept(every), []
+    for it in crate.below():
+        # (where files stand in the way, the kit takes what it keeps for damaged, and drops it)
+        shutil.rmtree(f"{it.folder}/out/rlib", ignore_errors=True)
+        if not kept.give(it, False, kept.key(it)):
+            lacking.append(it.name)
+        kept.is_built(it)
+    return lacking
+
+
+def over_kept(call, name):
+    """Does what --lend and --archive say."""
+    # (its first call sets a signal's handler, which only the main thread may)
+    rtlib.guarded()
+    rt.Crate.allowed = rt.handles_of(os.getcwd())
+    every = rt.crates_of(os.getcwd())
+    crate = next(it for it in every if it.name == name)
+    if call == "--archive":
+        os.makedirs(f"{crate.folder}/out", exist_ok=True)
+        return archive(crate, ["--jobs", str(min(2, rt.processors()))])
+    print(*lend(crate, every))
+    return 0
+
+
 def main(store, *words):
+    if words[:1] in (("--lend",), ("--archive",)):
+        return over_kept(*words)
     os.makedirs(store, exist_ok=True)
     crates = rtlib.crates_below(os.getcwd())
     if words[:1] == ("--take",):

@@ -2,12 +2,9 @@
 'use strict';
 const vscode = require('vscode');
 
-// Shows the file, which the program does not name, and then its first fault. $0 is the program, $1 the file.
-const SCRIPT = 'printf "%s:\\n" "$1"; exec "$0" explain "$1"';
-
 function taskFor(file, scope, definition) {
     const program = vscode.workspace.getConfiguration('talc').get('path', 'talc');
-    const run = new vscode.ProcessExecution('sh', ['-c', SCRIPT, program, file]);
+    const run = new vscode.ProcessExecution(program, ['explain', file]);
     const task = new vscode.Task(definition, scope, `explain ${file}`, 'talc', run, ['$talc']);
     task.group = vscode.TaskGroup.Build;
     task.presentationOptions = { reveal: vscode.TaskRevealKind.Silent };

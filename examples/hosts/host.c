@@ -1,6 +1,6 @@
-/* host.c: takes texts of others. Assembly texts are checked and run, at once, by a guest in slices, and within a bound
- * on memory; source texts are typed, evaluated, compiled, run and explained. Say which by the ends of the names:
- * host FILE.tal FILE.f .. */
+/* host.c: takes texts of others. Assembly texts are checked and run, at once, by a guest in slices, with a cap on what
+ * it keeps, and within a bound on memory; source texts are typed, evaluated, compiled, run and explained. Say which by
+ * the ends of the names: host FILE.tal FILE.f .. */
 #include <inttypes.h>
 #include <stdio.h>
 #include <stdlib.h>
@@ -8,7 +8,7 @@
 #include "talc.h"
 #include "talc_heap.h"
 
-enum { FUEL = 1000, SLICE = 7, LONG = 1000000, BYTES = 100000, TURNS = 1000 };
+enum { FUEL = 1000, SLICE = 7, LONG = 1000000, BYTES = 100000, TUPLES = 100, TURNS = 1000, DEPTH = 2 };
 
 typedef struct {
     uint8_t *bytes;
@@ -50,13 +50,34 @@ static void say(const char *what, talc_answer a, uint64_t made) {
     else say_status(a.status);
 }
 
+/* Tells a word, and of a tuple its fields, so many deep. */
+static void say_word(talc_guest *guest, talc_word word, int depth) {
+    talc_word field;
+    uint64_t i = 0;
+    if (word.kind == TALC_NONE) printf("none");
+    else if (word.kind == TALC_INT) printf("%" PRId64, word.value);
+    else if (word.kind == TALC_BLOCK) printf("block %" PRIu64, word.number);
+    else if (depth == 0) printf("tuple");
+    else {
+        printf("<");
+        for (; (field = talc_guest_field(guest, word.number, i)).kind != TALC_NONE; i++) {
+            printf(i ? ", " : "");
+            say_word(guest, field, depth - 1);
+        }
+        printf(">");
+    }
+}
+
 static void say_state(talc_guest *guest) {
     talc_place place = talc_guest_place(guest);
-    talc_word word = talc_guest_reg(guest, 1);
     printf("%s: at %" PRIu64 ".%" PRIu64 ", r1: ", name, place.block, place.index);
-    if (word.kind == TALC_INT) printf("int %" PRId64 "\n", word.value);
-    else printf("%s %" PRIu64 "\n", word.kind == TALC_TUPLE ? "tuple" : word.kind ? "block" : "none", word.number);
+    say_word(guest, talc_guest_reg(guest, 1), DEPTH);
+    printf(", r2: ");
+    say_word(guest, talc_guest_reg(guest, 2), DEPTH);
+    puts("");
 }
+
+static void say_kept(talc_guest *guest) { printf("%s: kept: %" PRIu64 "\n", name, talc_guest_kept(guest)); }
 
 static void in_slices(talc_guest *guest) {
     talc_answer a;
@@ -68,6 +89,26 @@ static void in_slices(talc_guest *guest) {
     say("slices", a, made);
     say_state(guest);
     say("collect", talc_guest_collect(guest), 0);
+    say_kept(guest);
+}
+
+/* Runs with a cap, and where that stops the guest, goes on with a larger one. */
+static void with_cap(talc_guest *guest) {
+    talc_guest_within(guest, TUPLES, LONG);
+    talc_answer a = talc_guest_run(guest, FUEL);
+    say("with 100 tuples", a, a.made);
+    if (a.status != TALC_MEMORY) return;
+    say_kept(guest);
+    talc_guest_within(guest, LONG, LONG);
+    a = talc_guest_run(guest, FUEL);
+    say("with 1000000 tuples", a, a.made);
+}
+
+static void take_cleared(talc_guest *guest) {
+    talc_guest_clear(guest);
+    say("cleared", talc_guest_run(guest, 1), 0);
+    say("cap of none", talc_guest_within(guest, TUPLES, TUPLES), 0);
+    if (talc_guest_kept(guest) != 0 || talc_guest_field(guest, 0, 0).kind != TALC_NONE) exit(1);
 }
 
 static void take_assembly(text it) {
@@ -79,13 +120,14 @@ static void take_assembly(text it) {
     talc_guest_init(&guest);
     a = talc_guest_load(&guest, it.bytes, it.length);
     if (a.status == TALC_DONE) in_slices(&guest);
+    a = talc_guest_load(&guest, it.bytes, it.length);
+    if (a.status == TALC_DONE) with_cap(&guest);
     talc_heap_bound(BYTES);
     a = talc_guest_load(&guest, it.bytes, it.length);
     if (a.status == TALC_DONE) a = talc_guest_run(&guest, LONG);
     say("within 100000 bytes", a, a.made);
     talc_heap_bound(SIZE_MAX);
-    talc_guest_clear(&guest);
-    say("cleared", talc_guest_run(&guest, 1), 0);
+    take_cleared(&guest);
 }
 
 typedef enum { TYPEOF, EVAL, COMPILE, SHOW, EXPLAIN } call;

@@ -11,8 +11,9 @@
 
 namespace {
 
-constexpr uint64_t fuel = 1000, slice = 7, many = 1000000, turns = 1000;
+constexpr uint64_t fuel = 1000, slice = 7, many = 1000000, tuples = 100, turns = 1000;
 constexpr size_t bytes = 100000;
+constexpr int depth = 2;
 
 const uint8_t *at(const std::string &text) { return reinterpret_cast<const uint8_t *>(text.data()); }
 uint8_t *at(std::string &text) { return reinterpret_cast<uint8_t *>(&text[0]); }
@@ -30,6 +31,9 @@ public:
     talc_answer collect() { return talc_guest_collect(&guest_); }
     talc_place place() { return talc_guest_place(&guest_); }
     talc_word reg(uint64_t number) { return talc_guest_reg(&guest_, number); }
+    talc_word field(uint64_t tuple, uint64_t number) { return talc_guest_field(&guest_, tuple, number); }
+    talc_answer within(uint64_t most, uint64_t fields) { return talc_guest_within(&guest_, most, fields); }
+    uint64_t kept() { return talc_guest_kept(&guest_); }
     void clear() { talc_guest_clear(&guest_); }
 
 private:
@@ -67,8 +71,23 @@ private:
     std::string name_;
 };
 
+// A word, and of a tuple its fields, so many deep.
+std::string shown(Guest &guest, const talc_word &word, int deep) {
+    if (word.kind == TALC_NONE) return "none";
+    if (word.kind == TALC_INT) return std::to_string(word.value);
+    if (word.kind == TALC_BLOCK) return "block " + std::to_string(word.number);
+    if (deep == 0) return "tuple";
+    std::string fields;
+    for (uint64_t i = 0;; i++) {
+        const talc_word field = guest.field(word.number, i);
+        if (field.kind == TALC_NONE) return "<" + fields + ">";
+        fields += (i ? ", " : "") + shown(guest, field, deep - 1);
+    }
+}
+
+void say_kept(Guest &guest, const Teller &say) { say.line("kept: " + std::to_string(guest.kept())); }
+
 void in_slices(Guest &guest, const Teller &say) {
-    static const char *const kinds[] = {"none", "int", "tuple", "block"};
     talc_answer a;
     uint64_t made = 0;
     do {
@@ -77,10 +96,22 @@ void in_slices(Guest &guest, const Teller &say) {
     } while (a.status == TALC_BUDGET && made < fuel);
     say.answer("slices", a, made);
     const talc_place place = guest.place();
-    const talc_word word = guest.reg(1);
-    say.line("at " + std::to_string(place.block) + "." + std::to_string(place.index) + ", r1: " + kinds[word.kind] + " "
-             + (word.kind == TALC_INT ? std::to_string(word.value) : std::to_string(word.number)));
+    say.line("at " + std::to_string(place.block) + "." + std::to_string(place.index) + ", r1: "
+             + shown(guest, guest.reg(1), depth) + ", r2: " + shown(guest, guest.reg(2), depth));
     say.answer("collect", guest.collect(), 0);
+    say_kept(guest, say);
+}
+
+// Runs with a cap, and where that stops the guest, goes on with a larger one.
+void with_cap(Guest &guest, const Teller &say) {
+    guest.within(tuples, many);
+    talc_answer a = guest.run(fuel);
+    say.answer("with 100 tuples", a, a.made);
+    if (a.status != TALC_MEMORY) return;
+    say_kept(guest, say);
+    guest.within(many, many);
+    a = guest.run(fuel);
+    say.answer("with 1000000 tuples", a, a.made);
 }
 
 void take_assembly(const std::string &text, const Teller &say) {
@@ -89,6 +120,7 @@ void take_assembly(const std::string &text, const Teller &say) {
     talc_answer a = talc_run(at(text), text.size(), fuel);
     say.answer("run", a, a.made);
     if (guest.load(text).status == TALC_DONE) in_slices(guest, say);
+    if (guest.load(text).status == TALC_DONE) with_cap(guest, say);
     talc_heap_bound(bytes);
     a = guest.load(text);
     if (a.status == TALC_DONE) a = guest.run(many);
@@ -96,6 +128,7 @@ void take_assembly(const std::string &text, const Teller &say) {
     talc_heap_bound(SIZE_MAX);
     guest.clear();
     say.answer("cleared", guest.run(1), 0);
+    say.answer("cap of none", guest.within(tuples, tuples), 0);
 }
 
 using Call = std::function<talc_made(uint8_t *, size_t)>;

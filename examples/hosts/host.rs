@@ -50,7 +50,10 @@ mod talc {
         pub fn talc_guest_load(guest: *mut Room, text: *const u8, length: usize) -> Answer;
         pub fn talc_guest_run(guest: *mut Room, fuel: u64) -> Answer;
         pub fn talc_guest_collect(guest: *mut Room) -> Answer;
+        pub fn talc_guest_within(guest: *mut Room, tuples: u64, fields: u64) -> Answer;
+        pub fn talc_guest_kept(guest: *mut Room) -> u64;
         pub fn talc_guest_reg(guest: *mut Room, number: u64) -> Word;
+        pub fn talc_guest_field(guest: *mut Room, tuple: u64, field: u64) -> Word;
         pub fn talc_guest_place(guest: *mut Room) -> Place;
         pub fn talc_guest_clear(guest: *mut Room);
         pub fn talc_typeof(text: *const u8, length: usize, room: *mut u8, size: usize) -> Made;
@@ -68,6 +71,8 @@ const FUEL: u64 = 1000;
 const SLICE: u64 = 7;
 const LONG: u64 = 1_000_000;
 const BYTES: usize = 100_000;
+const TUPLES: u64 = 100;
+const DEPTH: u64 = 2;
 const TURNS: u64 = 1000;
 
 /// Why a call gave nothing.
@@ -136,12 +141,43 @@ impl Guest {
         unsafe { talc::talc_guest_clear(&mut *self.0) }
     }
 
+    fn within(&mut self, tuples: u64, fields: u64) -> Result<(), Why> {
+        taken(unsafe { talc::talc_guest_within(&mut *self.0, tuples, fields) }).map(|_| ())
+    }
+
+    fn kept(&mut self) -> u64 {
+        unsafe { talc::talc_guest_kept(&mut *self.0) }
+    }
+
+    fn reg(&mut self, number: u64) -> talc::Word {
+        unsafe { talc::talc_guest_reg(&mut *self.0, number) }
+    }
+
+    /// A field of a tuple, where it has a word.
+    fn field(&mut self, tuple: u64, number: u64) -> Option<talc::Word> {
+        Some(unsafe { talc::talc_guest_field(&mut *self.0, tuple, number) }).filter(|word| word.kind != 0)
+    }
+
+    /// A word, and of a tuple its fields, so many deep.
+    fn shown(&mut self, word: talc::Word, depth: u64) -> String {
+        match word.kind {
+            0 => "none".into(),
+            1 => word.value.to_string(),
+            2 if depth == 0 => "tuple".into(),
+            2 => {
+                let fields: Vec<talc::Word> = (0..).map_while(|i| self.field(word.number, i)).collect();
+                let shown: Vec<String> = fields.into_iter().map(|it| self.shown(it, depth - 1)).collect();
+                format!("<{}>", shown.join(", "))
+            }
+            _ => format!("block {}", word.number),
+        }
+    }
+
     fn state(&mut self) -> String {
-        let (place, word) =
-            unsafe { (talc::talc_guest_place(&mut *self.0), talc::talc_guest_reg(&mut *self.0, 1)) };
-        let kind = ["none", "int", "tuple", "block"][word.kind as usize];
-        let number = if word.kind == 1 { word.value } else { word.number as i64 };
-        format!("at {}.{}, r1: {kind} {number}", place.block, place.index)
+        let place = unsafe { talc::talc_guest_place(&mut *self.0) };
+        let (first, second) = (self.reg(1), self.reg(2));
+        let (first, second) = (self.shown(first, DEPTH), self.shown(second, DEPTH));
+        format!("at {}.{}, r1: {first}, r2: {second}", place.block, place.index)
     }
 }
 
@@ -162,6 +198,20 @@ fn in_slices(guest: &mut Guest) -> Result<String, Why> {
     }
 }
 
+/// Runs with a cap, and where that stops the guest, goes on with a larger one.
+fn with_cap(name: &str, guest: &mut Guest) -> Result<(), Why> {
+    guest.within(TUPLES, LONG)?;
+    let run = guest.run(FUEL);
+    let is_stopped = matches!(run, Err(Why::OutOfMemory));
+    println!("{name}: with 100 tuples: {}", said(run, |a| ran(*a, a.made)));
+    if is_stopped {
+        println!("{name}: kept: {}", guest.kept());
+        guest.within(LONG, LONG)?;
+        println!("{name}: with 1000000 tuples: {}", said(guest.run(FUEL), |a| ran(*a, a.made)));
+    }
+    Ok(())
+}
+
 fn take_assembly(name: &str, text: &[u8]) {
     let mut guest = Guest::new();
     let run = |fuel| taken(unsafe { talc::talc_run(text.as_ptr(), text.len(), fuel) });
@@ -173,13 +223,16 @@ fn take_assembly(name: &str, text: &[u8]) {
         println!("{name}: {}", guest.state());
         let collected = taken(unsafe { talc::talc_guest_collect(&mut *guest.0) });
         println!("{name}: collect: {}", said(collected, |_| "done".into()));
+        println!("{name}: kept: {}", guest.kept());
     }
+    let _ = guest.load(text).and_then(|()| with_cap(name, &mut guest));
     unsafe { talc::talc_heap_bound(BYTES) };
     let bounded = guest.load(text).and_then(|()| guest.run(LONG));
     println!("{name}: within 100000 bytes: {}", said(bounded, |a| ran(*a, a.made)));
     unsafe { talc::talc_heap_bound(usize::MAX) };
     guest.clear();
     println!("{name}: cleared: {}", said(guest.run(1), |a| ran(*a, a.made)));
+    println!("{name}: cap of none: {}", said(guest.within(TUPLES, TUPLES), |()| "done".into()));
 }
 
 /// Asks into a small room first, and then into one that is large enough.

@@ -8,6 +8,7 @@ use Rattle.a_terms.specs.NodeTrees.{a_values, a_decl, a_build, a_onto, is_decl, 
 use Rattle.a_terms.specs.Row.{top, others, IsOne, IsSome}
 use Rattle.a_terms.specs.Arity.{AArity, ARow, a_kids}
 use Rattle.term_core.specs.Ends.{lift}
+use Rattle.term_core.proofs.Lifts.{lift_add}
 use Rattle.a_terms.specs.declared.nodes.AForm.{AForm}
 use Rattle.a_terms.specs.declared.nodes.AForm.TheVariants.{Value, Proj, Arith, Unpack, Malloc, Init, Call, If0, Halt}
 use Rattle.a_terms.specs.declared.nodes.ANode.{ANode}
@@ -16,7 +17,7 @@ use Rattle.a_terms.specs.declared.nodes.AWrap.TheVariants.{Apply, Pack}
 use Rattle.gen_law.specs.Gen.{uses, uses_any, uses_decl, used}
 use Rattle.a_uses.specs.Uses.{both_used, has, Holds, Leads, newest, back, AllHold, Tells, Told}
 use Rattle.a_uses.specs.declared.used.Used.{Used}
-use Rattle.a_uses.specs.declared.ahead.Ahead.{Ahead}
+use Rattle.a_uses.specs.declared.told.Ahead.{Ahead}
 use Rattle.a_uses.specs.declared.ahead.Rest.{Rest}
 use Rattle.a_uses.proofs.Sets.{or_none}
 
@@ -163,6 +164,55 @@ row_at [] k i x lt is h = absurd (omega arith)
 row_at (n ∷ ns) zero i x lt is h = absurd h
 row_at (n ∷ ns) (suc k) zero x lt is h = subst (λ (y : ANode). AArity y.form (a_values y.values.items)) (sym is) h.0
 row_at (n ∷ ns) (suc k) (suc i) x lt is h = row_at ns (lift (a_kids n.form) k) i x (omega arith) is h.1
+
+-- what is left of a row is one
+row_rest : (ns : List ANode) (k i : ℕ) → ARow ns k → (m : ℕ) × ARow (drop i ns) m
+row_rest ns k zero h = (k, h)
+row_rest [] k (suc i) h = (k, h)
+row_rest (n ∷ ns) zero (suc i) h = absurd h
+row_rest (n ∷ ns) (suc k) (suc i) h = row_rest ns (lift (a_kids n.form) k) i h.1
+
+-- the nodes of a row tell how many terms it has
+row_count : (ns : List ANode) (k m : ℕ) → ARow ns k → ARow ns m → k ≡ m
+row_count [] k m h g = h ∙ sym g
+row_count (n ∷ ns) zero m h g = absurd h
+row_count (n ∷ ns) (suc k) zero h g = absurd g
+row_count (n ∷ ns) (suc k) (suc m) h g =
+    let kids = a_kids n.form in
+    let same = row_count ns (lift kids k) (lift kids m) h.1 g.1 in
+    omega (arith, same, lift_add kids k, lift_add kids m)
+
+-- of the terms that the nodes from `left` on make, the node before takes its own, and makes one
+row_before : (ns : List ANode) (j left : ℕ) (x : ANode) (n : ℕ) → left ≡ suc j → j < length ns → x ≡ get_or ns j x →
+    ARow ns 1 → ARow (drop left ns) n → (m : ℕ) × (n ≡ a_kids x.form + m) × ARow (drop j ns) (suc m)
+row_before ns j left x n l lt is row h =
+    let rest = drop (j + 1) ns in
+    let from : left ≡ j + 1 = omega arith in
+    let here : drop j ns ≡ x ∷ rest = drop_more ns j x lt ∙ ap (λ y. y ∷ rest) (sym is) in
+    let all = row_rest ns 1 j row in
+    some here (subst (λ k. ARow (drop k ns) n) from h) all.0 (subst (λ xs. ARow xs all.0) here all.1)
+  where
+    some : {rest : List ANode} → drop j ns ≡ x ∷ rest → ARow rest n → (k : ℕ) → ARow (x ∷ rest) k →
+        (m : ℕ) × (n ≡ a_kids x.form + m) × ARow (drop j ns) (suc m)
+    some here h zero g = absurd g
+    some {rest} here h (suc m) g = (
+      m,
+      row_count rest n (lift (a_kids x.form) m) h g.1 ∙ lift_add (a_kids x.form) m,
+      subst (λ xs. ARow xs (suc m)) (sym here) g,
+    )
+
+pub row_kids : (ns : List ANode) (j left : ℕ) (x : ANode) (n : ℕ) → left ≡ suc j → j < length ns →
+    x ≡ get_or ns j x → ARow ns 1 → ARow (drop left ns) n → a_kids x.form ≤ n
+row_kids ns j left x n l lt is row h = let b = row_before ns j left x n l lt is row h in omega (arith, b.1)
+
+pub row_next : (ns : List ANode) (j left : ℕ) (x : ANode) (n new : ℕ) → left ≡ suc j → j < length ns →
+    x ≡ get_or ns j x → ARow ns 1 → ARow (drop left ns) n → a_kids x.form + new ≡ suc n → ARow (drop j ns) new
+row_next ns j left x n new l lt is row h e =
+    let b = row_before ns j left x n l lt is row h in
+    subst (ARow (drop j ns)) (omega (arith, b.1, e)) b.2
+
+pub row_whole : (ns : List ANode) (left n : ℕ) → left ≡ 0 → ARow ns 1 → ARow (drop left ns) n → n ≡ 1
+row_whole ns left n l row h = row_count ns n 1 (subst (λ k. ARow (drop k ns) n) l h) row
 
 -- what is told of the next node
 pub next_told : (ns rest : List ANode) (made left : List Ahead) (i : ℕ) (x : ANode) (w : Ahead) →

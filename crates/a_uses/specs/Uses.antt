@@ -13,8 +13,8 @@ use Rattle.a_terms.specs.declared.nodes.ANode.{ANode}
 use Rattle.gen_law.specs.Gen.{used, uses, uses_decl, wanted, arguments}
 pub use Rattle.t_emit.specs.Code.{Listed, both_used, both_names}
 use Rattle.a_uses.specs.declared.used.Used.{Used}
-use Rattle.a_uses.specs.declared.wants.Wants.{Wants}
-use Rattle.a_uses.specs.declared.ahead.Ahead.{Ahead}
+use Rattle.a_uses.specs.declared.told.Wants.{Wants}
+use Rattle.a_uses.specs.declared.told.Ahead.{Ahead}
 use Rattle.a_uses.specs.declared.ahead.Rest.{Rest}
 
 -- whether n is in the set

@@ -1,36 +1,23 @@
 // What code generation asks of the terms that are still to come.
-ghost use Rattle.std.specs.Prelude.{◌≡◌, ◌≤◌, [], ◌∷◌, ◌||◌, ◌&&◌, not, List, ℕ, true, length, IfOk, OnOk};
+ghost use Rattle.std.specs.Prelude.{◌≡◌, ◌≤◌, ◌+◌, [], ◌∷◌, ◌||◌, ◌&&◌, not, List, ℕ, suc, true, length, IfOk, OnOk};
 ghost use Rattle.a_terms.specs.Tree.{ATm};
 ghost use Rattle.a_terms.specs.NodeTrees.{a_value, a_values, a_decl, a_let, a_build, a_onto, a_tree, is_decl};
 ghost use Rattle.a_terms.specs.NodeTrees.{no_value, no_term};
 ghost use Rattle.a_terms.specs.Tree.{Call, If0, Halt};
-ghost use Rattle.a_terms.specs.Arity.{AArity, ARow};
+ghost use Rattle.a_terms.specs.Arity.{AArity, ARow, a_kids};
 ghost use Rattle.a_terms.specs.Row.{IsOne, IsSome, top, others};
 ghost use Rattle.gen_law.specs.Gen.{used, uses, uses_any};
 ghost use Rattle.a_uses.specs.Uses.{has, mem, Ending, both_used, both_names, newest, AllHold, Holds, Leads, Listed};
 ghost use Rattle.a_uses.specs.Uses.{Tells};
 ghost use Rattle.a_uses.specs.Uses.{Told, back};
 
+use crate::told::{Ahead, Wants};
 use crate::used::{Used, add_all, has_number, list, missing, missing_of, none, note_all, outside};
-use crate::wants::{Wants, last_wanted, leave, of_call, of_halt};
+use crate::wants::{last_wanted, leave, of_call, of_halt};
 use a_terms::walks::sum;
 use a_terms::{ABase, AForm, ANode, AValue};
 use idx_core::OutOfMemory;
 use std::alloc::Global;
-
-/// Of a declaration: whether the rest uses a variable by both of its names, whether it uses the new name, which
-/// variables the declaration uses and the rest does not, the register in which the end of the rest wants the new one,
-/// or 0, and how many arguments that end has. Of a choice: which variables its value or its third part uses and its
-/// second part does not, and those that its third part uses, in ascending order.
-#[derive(Drop)]
-pub struct Ahead {
-    pub both: bool,
-    pub new: bool,
-    pub gone: Vec<u64>,
-    pub wanted: u64,
-    pub arguments: u64,
-    pub third: Vec<u64>,
-}
 
 /// Of a term: the variables that it uses, and where its end wants them.
 #[derive(Drop)]
@@ -103,12 +90,14 @@ fn before_let(
 ) -> Result<Ahead, OutOfMemory>
     requires form { is_decl form.now ≡ true }
     requires arity { AArity form.now (a_values values.now) }
-    ensures { IfOk result (λ w. (ts : List ATm) → AllHold (newest sets.old.items) ts
+    requires some { 1 ≤ length sets.old.items }
+    ensures told { IfOk result (λ w. (ts : List ATm) → AllHold (newest sets.old.items) ts
         → Ending (a_decl form.now (a_values values.now)) (top no_term ts) w
         × AllHold (newest sets.new.items) (a_let (a_decl form.now (a_values values.now)) ts)) }
+    ensures count { OnOk result (length sets.new.items ≡ length sets.old.items) }
 {
     let Some(rest) = sets.pop() else {
-        return Err(OutOfMemory);
+        unreachable!()
     };
     let Rest {
         mut used,
@@ -141,8 +130,9 @@ fn before_end(
     values: &[AValue],
     wants: Wants,
 ) -> Result<Ahead, OutOfMemory>
-    ensures { OnOk result ((ts : List ATm) (e : ATm) → ((n : ℕ) → used e n ≡ uses_any (a_values values.now) n)
+    ensures told { OnOk result ((ts : List ATm) (e : ATm) → ((n : ℕ) → used e n ≡ uses_any (a_values values.now) n)
         → Leads wants e → AllHold (newest sets.old.items) ts → AllHold (newest sets.new.items) (e ∷ ts)) }
+    ensures count { OnOk result (length sets.new.items ≡ suc (length sets.old.items)) }
 {
     let mut own = none(alloc);
     note_all(&mut own, values)?;
@@ -160,19 +150,21 @@ fn before_end(
 // Of a choice.
 fn before_if(alloc: Global, sets: &mut Vec<Rest>, values: &[AValue]) -> Result<Ahead, OutOfMemory>
     requires arity { IsOne (a_values values.now) }
-    ensures { IfOk result (λ w. (ts : List ATm) → AllHold (newest sets.old.items) ts
+    requires two { 2 ≤ length sets.old.items }
+    ensures told { IfOk result (λ w. (ts : List ATm) → AllHold (newest sets.old.items) ts
         → (Listed (used (top no_term (others ts))) 0 w.third.items
         × ((i : ℕ) → mem w.gone.items i ≡ ((uses (top no_value (a_values values.now)) i
         || used (top no_term (others ts)) i) && not (used (top no_term ts) i))))
         × AllHold (newest sets.new.items) (If0 (top no_value (a_values values.now)) (top no_term ts)
         (top no_term (others ts)) ∷ others (others ts))) }
+    ensures count { OnOk result (suc (length sets.new.items) ≡ length sets.old.items) }
 {
     let Some(second) = sets.pop() else {
-        return Err(OutOfMemory);
+        unreachable!()
     };
     let Rest { mut used, wants } = second;
     let Some(other) = sets.pop() else {
-        return Err(OutOfMemory);
+        unreachable!()
     };
     let third = list(alloc, other.used)?;
     let mut gone = Vec::new(alloc);
@@ -210,10 +202,12 @@ fn declares(form: &AForm) -> bool
 
 // Of a node.
 fn before(alloc: Global, sets: &mut Vec<Rest>, node: &ANode) -> Result<Ahead, OutOfMemory>
-    requires { AArity node.now.form (a_values node.now.values.items) }
-    ensures { IfOk result (λ w. (ts : List ATm) → AllHold (newest sets.old.items) ts
+    requires arity { AArity node.now.form (a_values node.now.values.items) }
+    requires kids { a_kids node.now.form ≤ length sets.old.items }
+    ensures told { IfOk result (λ w. (ts : List ATm) → AllHold (newest sets.old.items) ts
         → Tells node.now.form (a_values node.now.values.items) ts w
         × AllHold (newest sets.new.items) (a_build node.now.form (a_values node.now.values.items) ts)) }
+    ensures count { OnOk result (a_kids node.now.form + length sets.new.items ≡ suc (length sets.old.items)) }
 {
     let values = node.values.as_slice();
     if declares(&node.form) {
@@ -249,6 +243,7 @@ fn look_back(
     requires none { sets.old.items ≡ [] }
     ensures told { IfOk result (λ r. Told nodes.now (back r.items)) }
     ensures sets { OnOk result (AllHold (newest sets.new.items) (a_onto nodes.now [])) }
+    ensures one { OnOk result (length sets.new.items ≡ 1) }
 {
     let mut made = Vec::new(alloc);
     let mut left = nodes.len();
@@ -269,7 +264,7 @@ pub fn look_ahead(alloc: Global, nodes: &[ANode]) -> Result<Aheads, OutOfMemory>
     let mut sets = Vec::new(alloc);
     let each = look_back(alloc, nodes, &mut sets)?;
     let Some(whole) = sets.pop() else {
-        return Err(OutOfMemory);
+        unreachable!()
     };
     let first = list(alloc, whole.used)?;
     Ok(Aheads { each, first })

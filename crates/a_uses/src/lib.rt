@@ -2,9 +2,10 @@
 #![tactic(auto)]
 
 mod ahead;
+mod told;
 mod used;
 mod wants;
 
-pub use ahead::{Ahead, Aheads, Rest, look_ahead};
+pub use ahead::{Aheads, Rest, look_ahead};
+pub use told::{Ahead, Wants};
 pub use used::Used;
-pub use wants::Wants;

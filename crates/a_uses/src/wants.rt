@@ -8,21 +8,13 @@ ghost use Rattle.a_terms.specs.Row.{IsSome, top, others};
 ghost use Rattle.gen_law.specs.Gen.{names};
 ghost use Rattle.a_uses.specs.Uses.{or_zero, place_of, Leads};
 
+use crate::told::Wants;
 use a_terms::AValue;
 use a_terms::walks::sum;
 use idx_core::OutOfMemory;
 use std::alloc::Global;
 use std::collections::BTreeMap;
 use t_emit::decls::bare_variable;
-
-/// In which registers the end of a term wants variables, each by its number with `offset` added, and how many arguments
-/// that end has. So each number is one less where `offset` is one more.
-#[derive(Drop)]
-pub struct Wants {
-    pub registers: BTreeMap<u64, u64>,
-    pub offset: u64,
-    pub arguments: u64,
-}
 
 // A value is wanted in register r, if it is a variable.
 fn want(registers: &mut BTreeMap<u64, u64>, v: &AValue, r: u64) -> Result<(), OutOfMemory>

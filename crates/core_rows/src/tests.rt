@@ -1,4 +1,5 @@
 // What no row of a file can say of the top call: words, calls on bytes, files and outputs that find no memory.
+mod calls;
 mod memory;
 mod pages;
 mod places;

@@ -1,26 +1,28 @@
 //! A host program that runs assembly texts of others: it puts two blocks of its own in front of each text, checks the
-//! whole, and runs it with so many instructions and so much of the heap taken in advance.
+//! whole, and runs it with so many instructions, and with so much of the heap, taken in advance, and no more.
 #![tactic(auto)]
 
 use io_core::{DiskFiles, Files, OutSink, Sink};
 use std::alloc::{AllocError, Global};
 use std::process::ExitCode;
 use t_check::check;
-use t_machine::{Ran, load};
+use t_machine::{Machine, Ran, load};
 use t_reader::read;
-use t_terms::{TCode, TFault};
+use t_terms::{Shown, TCode, TFault};
 
 // The host's blocks. The first has the words that a guest is given, and enters it: 20 in r1, and in r2 where to go back
-// to. The second is where a guest goes back to, with its answer in r1.
+// to. The second is where a guest goes back to, with its answer in r1, and in r3, where it has more to say, a pair.
 const HOST: &str = "tal 2
 host: code[]{}. mov r1, 20 mov r2, back jmp guest
 back: code[]{r1: int}. halt[int]
 ";
 
-const GUESTS: [&str; 7] = [
+const GUESTS: [&str; 9] = [
     "doubles.tal",
+    "pairs.tal",
     "endless.tal",
     "greedy.tal",
+    "hoards.tal",
     "garbled.tal",
     "forged.tal",
     "unset.tal",
@@ -35,15 +37,18 @@ const SLICES: u64 = 10;
 
 const SLICE: u64 = 100;
 
-// What a guest may do: each of its 1000 instructions may be a `malloc`, and none here has more than two fields.
-const TUPLES: u64 = 1_000;
+// What a guest may keep: so many tuples, with its data, and so many fields of all of them together.
+const TUPLES: u64 = 100;
 
-const FIELDS: u64 = 2_000;
+const FIELDS: u64 = 200;
 
 // What came of a guest.
 enum Outcome {
-    Answered(i64),
+    // With an integer, and the pair that it hands out beside it.
+    Answered(i64, Option<(i64, i64)>),
     StillRunning,
+    // It would keep more than it may; so many tuples are kept.
+    AtCap(u64),
     TooLong,
     Refused { code: TCode, start: u64, end: u64 },
     OutOfMemory,
@@ -57,6 +62,17 @@ fn joined(alloc: Global, guest: &[u8]) -> Result<Vec<u8>, AllocError> {
     Ok(text)
 }
 
+// The two integers of the tuple in a register, where there is such a tuple.
+fn pair_in(machine: &Machine, register: u64) -> Option<(i64, i64)> {
+    let Some(Shown::Tuple(number)) = machine.reg(register) else {
+        return None;
+    };
+    match (machine.field(number, 0), machine.field(number, 1)) {
+        (Some(Shown::Int(first)), Some(Shown::Int(second))) => Some((first, second)),
+        _ => None,
+    }
+}
+
 // Reads, checks, loads and runs a text. An error is a fault of the text, or want of memory.
 fn run_text(alloc: Global, text: &[u8]) -> Result<Outcome, TFault> {
     let program = read(alloc, text)?;
@@ -66,10 +82,11 @@ fn run_text(alloc: Global, text: &[u8]) -> Result<Outcome, TFault> {
     };
     let mut machine = load(alloc, &checked)?;
     machine.reserve(TUPLES, FIELDS)?;
+    machine.within(TUPLES, FIELDS);
     for _ in 0..SLICES {
         match machine.run(SLICE) {
-            Ran::Halted { value, .. } => return Ok(Outcome::Answered(value)),
-            Ran::NoMemory { .. } => return Ok(Outcome::OutOfMemory),
+            Ran::Halted { value, .. } => return Ok(Outcome::Answered(value, pair_in(&machine, 3))),
+            Ran::NoMemory { .. } => return Ok(Outcome::AtCap(machine.kept())),
             Ran::Spent => (),
         }
     }
@@ -97,8 +114,12 @@ fn what_comes_of(alloc: Global, guest: &[u8]) -> Outcome {
 // A line on a guest.
 fn line(alloc: Global, name: &str, outcome: Outcome) -> Result<String, AllocError> {
     match outcome {
-        Outcome::Answered(value) => format!(in alloc; "{name}: answered {value}\n"),
+        Outcome::Answered(value, None) => format!(in alloc; "{name}: answered {value}\n"),
+        Outcome::Answered(value, Some((first, second))) => {
+            format!(in alloc; "{name}: answered {value}, with {first} and {second}\n")
+        }
         Outcome::StillRunning => format!(in alloc; "{name}: still running\n"),
+        Outcome::AtCap(kept) => format!(in alloc; "{name}: stopped with {kept} tuples\n"),
         Outcome::TooLong => format!(in alloc; "{name}: too long\n"),
         Outcome::Refused { code, start, end } => {
             format!(in alloc; "{name}: refused by {code:?} at {start}..{end}\n")

@@ -1,6 +1,7 @@
 -- The page that explains a fault of a text. All of it is our own choice.
 use Rattle.std.specs.Prelude.{ℕ, ◌+◌, ◌-◌, ◌==◌, nat_lt, min, max, Bool, ◌&&◌, List, [], ◌∷◌, ◌++◌}
-use Rattle.std.specs.Prelude.{take, drop, length, map, replicate, if◌then◌else◌, codes, decimal}
+use Rattle.std.specs.Prelude.{take, drop, length, map, replicate, if◌then◌else◌, codes, decimal, Option, Some, None}
+use Rattle.idx_core.specs.declared.span.Span.{Span}
 use Rattle.fault_page.specs.Spot.{line_number, line_at, offset, column, lines_over}
 
 -- ---- what is wrong, and where
@@ -12,16 +13,24 @@ over_text count = if count == 1 then [] else codes ", over " ++ (decimal count +
 abbrev pub bytes_text : (start end : ℕ) → List ℕ
 bytes_text start end = codes " (bytes " ++ decimal start ++ codes ".." ++ decimal end ++ codes ")"
 
--- a place by its line, its column, how many lines it stands on, and its bytes
-abbrev pub place_text : (line column count start end : ℕ) → List ℕ
-place_text line column count start end =
-    codes "line " ++ decimal line ++ codes ", column " ++ decimal column ++ over_text count ++ bytes_text start end
+-- the name of the text, where it has one
+abbrev pub name_text : List ℕ → List ℕ
+name_text [] = []
+name_text (byte ∷ bytes) = byte ∷ bytes ++ codes ":"
 
--- the code, the words and the place
-abbrev pub heading : (text code words : List ℕ) (start end : ℕ) → List ℕ
-heading text code words start end =
-    code ++ codes " " ++ words ++ codes ": "
-    ++ place_text (line_number text start) (column text start) (lines_over text start end) start end ++ codes "\n"
+-- a place by the name of its text, its line and its column, as editors read it
+abbrev pub place_text : (name : List ℕ) (line column : ℕ) → List ℕ
+place_text name line column = name_text name ++ decimal line ++ codes ":" ++ decimal column ++ codes ": "
+
+-- the code and the words, over how many lines the place goes, and its bytes
+abbrev pub fault_text : (code words : List ℕ) (count start end : ℕ) → List ℕ
+fault_text code words count start end = code ++ codes " " ++ words ++ over_text count ++ bytes_text start end
+
+-- where, and what is wrong
+abbrev pub heading : (name text code words : List ℕ) (start end : ℕ) → List ℕ
+heading name text code words start end =
+    place_text name (line_number text start) (column text start)
+    ++ fault_text code words (lines_over text start end) start end ++ codes "\n"
 
 -- ---- the line of the place
 
@@ -88,12 +97,19 @@ excerpt text start end =
 
 -- ---- the whole
 
--- the line on the types that are at odds, where there are any
-abbrev pub types_row : List ℕ → List ℕ
-types_row [] = []
-types_row (byte ∷ bytes) = byte ∷ bytes ++ codes "\n"
+-- what is at odds or was wanted, in one line or more without the last line end, where there is anything
+abbrev pub odds_rows : List ℕ → List ℕ
+odds_rows [] = []
+odds_rows (byte ∷ bytes) = byte ∷ bytes ++ codes "\n"
 
--- What is wrong and where, the line of the place with the place marked, the types that are at odds, and the hint.
-abbrev pub page : (text code words : List ℕ) (start end : ℕ) (types hint : List ℕ) → List ℕ
-page text code words start end types hint =
-    heading text code words start end ++ excerpt text start end ++ types_row types ++ hint ++ codes "\n"
+-- the line of a second place, where there is one: that of the value that the whole has
+abbrev pub value_rows : (text : List ℕ) → Option Span → List ℕ
+value_rows text None = []
+value_rows text (Some place) = codes "its value is that of:\n" ++ excerpt text place.start place.end
+
+-- What is wrong and where; the line of the place, with the place marked; the line of the second place; what is at odds;
+-- and the hint.
+abbrev pub page : (name text code words : List ℕ) (start end : ℕ) (value : Option Span) (odds hint : List ℕ) → List ℕ
+page name text code words start end value odds hint =
+    heading name text code words start end ++ excerpt text start end ++ value_rows text value ++ odds_rows odds
+    ++ hint ++ codes "\n"

@@ -1,10 +1,11 @@
 -- What the calls of files and of a sink do.
-use Rattle.std.specs.Prelude.{◌≡◌, ◌≢◌, ◌⊎◌, ℕ, ◌<◌, ◌≤◌, List, ◌++◌, Option, Some, None, IfSome, refl}
+use Rattle.std.specs.Prelude.{◌≡◌, ◌≢◌, ◌⊎◌, ℕ, ◌<◌, ◌≤◌, List, [], ◌∷◌, ◌++◌, Option, Some, None, IfSome, refl}
+use Rattle.std.proofs.Common.{inl, inr}
 use Rattle.std.specs.Prelude.{Result, Ok, Err, Vec}
 use Rattle.std.specs.Option.{option_map}
 use Rattle.std.specs.Ordering.{nat_cmp}
 use Rattle.std.specs.Cmp.Lexicographic.{slice_cmp}
-use Rattle.std.specs.Coded.{Coded, code_by, coded×, coded_ℕ, coded_list, coded_option}
+use Rattle.std.specs.Coded.{Coded, code_by, coded×, coded⊎, coded_ℕ, coded_list, coded_option}
 use Rattle.std.specs.FinMap as map
 use Rattle.std.specs.FinMap.{FinMap, get, insert}
 use Rattle.std.specs.declared.alloc.Global.{Global}
@@ -15,11 +16,18 @@ use Rattle.io_core.specs.declared.outside.Stop.TheVariants.{Memory, Failed}
 abbrev pub FileMap : Type 0
 FileMap = FinMap (slice_cmp nat_cmp) (List ℕ)
 
--- the map, where it is told, and how often a read and a write have failed
+-- a call of files: the content of a name was asked for, or the name was to be set to these bytes
+pub data Call : Type 0 where
+  Reading : (name : List ℕ) → Call
+  Writing : (name bytes : List ℕ) → Call
+
+-- the map, where it is told; how often a read and a write have failed; and the calls made so far, the first one first,
+-- where they are told: all but those that wanted memory
 pub record FilesState : Type 0 where
   pub told : Option FileMap
   pub reads : ℕ
   pub writes : ℕ
+  pub calls : Option (List Call)
 
 -- the bytes taken, where they are told, and how often a put has failed
 pub record SinkState : Type 0 where
@@ -30,10 +38,29 @@ pub record SinkState : Type 0 where
 abbrev pub file_map_code : Coded FileMap
 file_map_code = map.code (coded_list coded_ℕ) (coded_list coded_ℕ)
 
+abbrev pub call_parts : Call → List ℕ ⊎ (List ℕ × List ℕ)
+call_parts (Reading name) = inl name
+call_parts (Writing name bytes) = inr (name, bytes)
+
+abbrev pub call_of_parts : List ℕ ⊎ (List ℕ × List ℕ) → Call
+call_of_parts (inl name) = Reading name
+call_of_parts (inr both) = Writing both.0 both.1
+
+abbrev pub call_again : (c : Call) → call_of_parts (call_parts c) ≡ c
+call_again (Reading name) = refl
+call_again (Writing name bytes) = refl
+
+abbrev pub call_code : Coded Call
+call_code =
+    code_by (List ℕ ⊎ (List ℕ × List ℕ))
+    (coded⊎ (coded_list coded_ℕ) (coded× (coded_list coded_ℕ) (coded_list coded_ℕ))) call_parts call_of_parts call_again
+
 abbrev pub files_code : Coded FilesState
 files_code =
-    code_by (Option FileMap × (ℕ × ℕ)) (coded× (coded_option file_map_code) (coded× coded_ℕ coded_ℕ))
-    (λ s. (s.told, (s.reads, s.writes))) (λ p. record { told = p.0; reads = p.1.0; writes = p.1.1 }) (λ _. refl)
+    code_by (Option FileMap × (ℕ × (ℕ × Option (List Call))))
+    (coded× (coded_option file_map_code) (coded× coded_ℕ (coded× coded_ℕ (coded_option (coded_list call_code)))))
+    (λ s. (s.told, (s.reads, (s.writes, s.calls))))
+    (λ p. record { told = p.0; reads = p.1.0; writes = p.1.1.0; calls = p.1.1.1 }) (λ _. refl)
 
 -- the last value of a counter of 64 bits
 abbrev pub last_count : ℕ
@@ -56,6 +83,10 @@ Holds told name bytes = IfSome told (λ files. get files name ≡ Some bytes)
 abbrev pub with_file : Option FileMap → List ℕ → List ℕ → Option FileMap
 with_file told name bytes = option_map (λ files. insert files name bytes) told
 
+-- one call more, where they are told
+abbrev pub with_call : Option (List Call) → Call → Option (List Call)
+with_call calls call = option_map (λ before. before ++ (call ∷ [])) calls
+
 -- both maps are told, or none, and every other name is as before
 abbrev pub SameBut : List ℕ → Option FileMap → Option FileMap → Type 0
 SameBut name None new = new ≡ None
@@ -63,24 +94,28 @@ SameBut name (Some files) new =
     (changed : FileMap) × (new ≡ Some changed)
     × ((other : List ℕ) → other ≢ name → get changed other ≡ get files other)
 
--- a read gives the whole content, or fails by a counted fault or since the name is absent, or wants memory and changes
--- nothing
+-- a read gives the whole content, or fails by a counted fault or since the name is absent, and is one call more; or it
+-- wants memory and changes nothing
 abbrev pub IsRead : FilesState → FilesState → List ℕ → Result (Vec ℕ Global) Stop → Type 0
 IsRead old new name (Ok bytes) =
     Holds old.told name bytes.items × (new.told ≡ old.told) × (old.reads ≤ new.reads) × (new.writes ≡ old.writes)
+    × (new.calls ≡ with_call old.calls (Reading name))
 IsRead old new name (Err Failed) =
     (Faulted old.reads new.reads ⊎ IsAbsent old.told name)
     × (new.told ≡ old.told) × (old.reads ≤ new.reads) × (new.writes ≡ old.writes)
+    × (new.calls ≡ with_call old.calls (Reading name))
 IsRead old new name (Err Memory) = new ≡ old
 
--- a write sets that name alone, or fails by a counted fault and leaves every other name, or wants memory and changes
--- nothing
+-- a write sets that name alone, or fails by a counted fault and leaves every other name, and is one call more; or it
+-- wants memory and changes nothing
 abbrev pub IsWrite : FilesState → FilesState → List ℕ → List ℕ → Result (Unit {0}) Stop → Type 0
 IsWrite old new name bytes (Ok done) =
     (new.told ≡ with_file old.told name bytes) × (old.writes ≤ new.writes) × (new.reads ≡ old.reads)
+    × (new.calls ≡ with_call old.calls (Writing name bytes))
 IsWrite old new name bytes (Err Failed) =
     Faulted old.writes new.writes × SameBut name old.told new.told
     × (old.writes ≤ new.writes) × (new.reads ≡ old.reads)
+    × (new.calls ≡ with_call old.calls (Writing name bytes))
 IsWrite old new name bytes (Err Memory) = new ≡ old
 
 -- these bytes went onto what was told

@@ -11,8 +11,8 @@ use std::rt::Files as HostFiles;
 // How many read calls a file may take.
 const MOST_READS: u64 = 4294967296;
 
-/// Files of the disk, by way of the system's (own choice). They tell no content. Each fault of the system is
-/// counted, an absent name's too, up to `u64::MAX`.
+/// Files of the disk, by way of the system's (own choice). They tell no content and no calls. Each fault of the
+/// system is counted, an absent name's too, up to `u64::MAX`.
 #[derive(Drop)]
 pub struct DiskFiles<R> {
     host: R,
@@ -28,7 +28,7 @@ impl<R> Model for DiskFiles<R> {
 
     ghost coded = { files_code };
 
-    ghost view = { λ d. record { told = None; reads = d.reads; writes = d.writes } };
+    ghost view = { λ d. record { told = None; reads = d.reads; writes = d.writes; calls = None } };
 }
 
 // Reads to the end of a file. A read call that a signal interrupts is made again, and counts.
@@ -52,7 +52,7 @@ fn read_file<R: HostFiles>(host: &R, alloc: Global, name: &str) -> Result<Vec<u8
 impl<R> DiskFiles<R> {
     /// The files that the system hands out.
     pub fn new(host: R) -> DiskFiles<R>
-        ensures { result ≡ record { told = None; reads = 0; writes = 0 } }
+        ensures { result ≡ record { told = None; reads = 0; writes = 0; calls = None } }
     {
         DiskFiles {
             host,

@@ -1,10 +1,11 @@
 // Files in memory, with calls that fail where a list says so.
-ghost use Rattle.std.specs.Prelude.{◌≡◌, [], OnOk, OnErr};
+ghost use Rattle.std.specs.Prelude.{◌≡◌, [], map, OnOk, OnErr};
 ghost use Rattle.std.specs.Option.{option_copied};
 ghost use Rattle.std.specs.FinMap.{get, insert};
 ghost use Rattle.io_core.specs.Outside.{IsRead, IsWrite};
-ghost use Rattle.io_core.specs.MemFiles.{file_map, files_state, fresh_files, MemReads, MemWrites};
+ghost use Rattle.io_core.specs.MemFiles.{file_map, files_state, fresh_files, noted_call, MemReads, MemWrites};
 
+use crate::calls::{MadeCall, note_read, note_write};
 use crate::failing::{failing_at, first_bytes};
 use crate::outside::{Files, Stop};
 use std::alloc::{AllocError, Global};
@@ -14,7 +15,7 @@ use std::marker::Model;
 /// Files in memory (own choice). Each call that does not answer `Memory` has a number, whatever its kind, from 0 up to
 /// `u64::MAX`, where it stays. A call fails by the first pair of the list that begins with its number, and is counted;
 /// a failing write leaves the first bytes of what it was to write: the pair says how many, and a shorter content is
-/// left whole.
+/// left whole. The calls that have a number are kept, with what they were given.
 #[derive(Drop)]
 pub struct MemFiles {
     files: BTreeMap<String, Vec<u8>>,
@@ -22,10 +23,12 @@ pub struct MemFiles {
     next: u64,
     reads: u64,
     writes: u64,
+    calls: Vec<MadeCall>,
 }
 
 impl Model for MemFiles {
-    ghost use Rattle.io_core.specs.MemFiles.{MemFilesState, mem_files_code, file_map};
+    ghost use Rattle.std.specs.Prelude.{map};
+    ghost use Rattle.io_core.specs.MemFiles.{MemFilesState, mem_files_code, file_map, noted_call};
 
     ghost Value = { MemFilesState };
 
@@ -37,6 +40,7 @@ impl Model for MemFiles {
       next = m.next;
       reads = m.reads;
       writes = m.writes;
+      calls = map noted_call m.calls.items;
     } };
 }
 
@@ -72,12 +76,14 @@ impl MemFiles {
     pub fn new(files: BTreeMap<String, Vec<u8>>, failing: Vec<(u64, u64)>) -> MemFiles
         ensures { result ≡ fresh_files (file_map files) failing.items }
     {
+        let calls = Vec::new(*failing.allocator());
         MemFiles {
             files,
             failing,
             next: 0,
             reads: 0,
             writes: 0,
+            calls,
         }
     }
 
@@ -94,6 +100,13 @@ impl MemFiles {
     {
         (self.reads, self.writes)
     }
+
+    /// The calls that have a number, the first one first.
+    pub fn calls(&self) -> &[MadeCall]
+        ensures { map noted_call result.now ≡ self.now.calls }
+    {
+        &self.calls
+    }
 }
 
 impl Files for MemFiles {
@@ -104,15 +117,18 @@ impl Files for MemFiles {
         ensures rules { MemReads self.old self.new name.now result }
     {
         if failing_at(&self.failing, self.next).is_some() {
+            note_read(alloc, &mut self.calls, name)?;
             self.next = self.next.saturating_add(1);
             self.reads = self.reads.saturating_add(1);
             return Err(Stop::Failed);
         }
         let Some(content) = content(&self.files, name) else {
+            note_read(alloc, &mut self.calls, name)?;
             self.next = self.next.saturating_add(1);
             return Err(Stop::Failed);
         };
         let copy = Vec::from_slice(alloc, content)?;
+        note_read(alloc, &mut self.calls, name)?;
         self.next = self.next.saturating_add(1);
         Ok(copy)
     }
@@ -121,18 +137,23 @@ impl Files for MemFiles {
         ensures written { IsWrite (files_state self.old) (files_state self.new) name.now bytes.now result }
         ensures rules { MemWrites self.old self.new name.now bytes.now result }
     {
-        match failing_at(&self.failing, self.next) {
-            Some(most) => {
-                set_file(alloc, &mut self.files, name, first_bytes(bytes, most))?;
-                self.next = self.next.saturating_add(1);
+        note_write(alloc, &mut self.calls, name, bytes)?;
+        let failing = failing_at(&self.failing, self.next);
+        let kept = match failing {
+            Some(most) => first_bytes(bytes, most),
+            None => bytes,
+        };
+        if set_file(alloc, &mut self.files, name, kept).is_err() {
+            self.calls.pop();
+            return Err(Stop::Memory);
+        }
+        self.next = self.next.saturating_add(1);
+        match failing {
+            Some(_) => {
                 self.writes = self.writes.saturating_add(1);
                 Err(Stop::Failed)
             }
-            None => {
-                set_file(alloc, &mut self.files, name, bytes)?;
-                self.next = self.next.saturating_add(1);
-                Ok(())
-            }
+            None => Ok(()),
         }
     }
 }

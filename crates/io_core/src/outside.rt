@@ -40,10 +40,10 @@ impl From<AllocError> for Stop {
     }
 }
 
-/// Files (own choice). Contracts see what each name holds, where an implementation tells it, and how many reads and how
-/// many writes have failed so far; a read leaves the number of writes alone, and a write that of reads, and neither
-/// number ever falls. `Failed` is answered only where the number of the call's kind went up or can go no higher, or
-/// where a file to read is not there.
+/// Files (own choice). Contracts see what each name holds and which calls were made, where an implementation tells
+/// it, and how many reads and how many writes have failed so far; a read leaves the number of writes alone, and a write
+/// that of reads, and neither number ever falls. `Failed` is answered only where the number of the call's kind went up
+/// or can go no higher, or where a file to read is not there. A call that wants memory is none of those that were made.
 pub trait Files {
     ghost state: { Self → FilesState };
 

@@ -2,7 +2,11 @@
 #![tactic(auto)]
 
 mod assembly;
+mod form;
 mod source;
+mod value;
 
 pub use assembly::assembly_line;
+pub use form::{form_of, found_form};
 pub use source::{not_int_line, source_line};
+pub use value::value_place;

@@ -10,11 +10,13 @@ use Rattle.spill_law.specs.Bounded.{Spills}
 use Rattle.spill_law.specs.Laws.{SpilledRunSeldom}
 use Rattle.pipeline.specs.Meaning.{SameMeaning, RunsSeldom, EntersSeldom}
 use Rattle.pipeline.specs.Compilation.{IsCompilation, IsCompilationWithin}
+use Rattle.pipeline.specs.Work.{WorkByBound}
 use Rattle.pipeline.proofs.Chain.{soon}
 
 module _ (k : ℕ) (e : Term) (P Q : TProg) (from : Place → Place) (within : RunsWithinTimes) (seldom : SpilledRunSeldom)
     (made : IsCompilation e P) (entered : EntersSeldom e P) (spills : Spills k P Q from)
-    (stays : RegistersUpTo k P → Q ≡ P) (framed : (RegistersUpTo k P → ⊥) → Q ≡ spilled k P) where
+    (stays : RegistersUpTo k P → Q ≡ P) (framed : (RegistersUpTo k P → ⊥) → Q ≡ spilled k P)
+    (work : WorkByBound k e P Q) where
   means : SameMeaning e Q
   means = record {
     forth = λ n i ev. spills.alike.forth i (made.meaning.forth n i ev);
@@ -38,4 +40,5 @@ module _ (k : ℕ) (e : Term) (P Q : TProg) (from : Place → Place) (within : R
     few = spills.few;
     stays = stays;
     framed = framed;
+    work = work;
   }

@@ -1,5 +1,5 @@
 -- A compiled program weighs what the term weighs, and has as many blocks as the term says.
-use Rattle.std.proofs.Common.{ℕ, ◌≡◌, ◌+◌, false, [], length, ap, inl, inr, arith}
+use Rattle.std.proofs.Common.{ℕ, ◌≡◌, ◌+◌, false, [], length, ap, arith}
 use Rattle.f_terms.specs.Tm.{Term}
 use Rattle.k_terms.specs.K.{KTm}
 use Rattle.k_terms.specs.Size.{codes_t}
@@ -20,7 +20,7 @@ use Rattle.gen_law.specs.Gen.{generated}
 use Rattle.gen_law.specs.Layout.{LaidOut}
 use Rattle.spill_law.specs.Spill.{spilled}
 use Rattle.pipeline.specs.Weights.{Weights, term_weight, blocks_weight}
-use Rattle.pipeline.specs.Work.{only_choices, choices, HasBlocks, SameWeights, WorkWithin}
+use Rattle.pipeline.specs.Work.{only_choices, choices, HasBlocks, SameWeights, FramedWork}
 use Rattle.pipeline.proofs.WeightsConverted.{k_t, converted_weight}
 use Rattle.pipeline.proofs.WeightsClosed.{c_t, closed_weight}
 use Rattle.pipeline.proofs.WeightsHoisted.{h_t, h_all, hoisted_weight}
@@ -89,19 +89,16 @@ module _ (e : Term) (k : KTm) (c : CTm) (ks : HBlks) (t : HTm) (p : AProg) (main
       let b = (laid p main).count in
       omega (arith, a, b, thirds_are, codes_are, codes)
 
--- a program that stays within the bound, and one that gets frames
-pub stays : (e : Term) (P : TProg) → HasBlocks e P → SameWeights e P → WorkWithin e P
-stays e P work weights = inl (work, weights)
-
-pub framed : (k : ℕ) (e : Term) (P Q : TProg) → Q ≡ spilled k P → HasBlocks e P → SameWeights e P → WorkWithin e Q
+-- a program that gets frames
+pub framed : (k : ℕ) (e : Term) (P Q : TProg) → Q ≡ spilled k P → HasBlocks e P → SameWeights e P → FramedWork e Q
 framed k e P Q is work weights =
     let same = ap (λ (x : TProg). length x.blocks) is in
     let more = one_more k P in
-    inr (record {
+    record {
       blocks = omega (arith, same, more, work);
       weights = λ w.
           let a = ap (λ (x : TProg). blocks_weight w x.blocks) is in
           let b = spilled_weight w k P in
           let d = weights w in
           omega (arith, a, b, d);
-    })
+    }

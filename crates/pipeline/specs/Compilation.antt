@@ -17,6 +17,7 @@ use Rattle.spill_law.specs.Bound.{RegistersUpTo}
 use Rattle.spill_law.specs.Spill.{spilled}
 use Rattle.pipeline.specs.Made.{IsMade}
 use Rattle.pipeline.specs.Meaning.{SameMeaning, RunsSeldom, HaltsSoon}
+use Rattle.pipeline.specs.Work.{WorkByBound}
 
 -- the program is a translation of the term by the rules of the passes in turn: conversion to continuation-passing
 -- style, closure conversion, hoisting, allocation, code generation. The hoisted program gives the closed term when
@@ -63,3 +64,4 @@ pub record IsCompilationWithin (k : ℕ) (e : Term) (P : TProg) : Type 0 where
   pub few : RegistersUpTo k P
   pub stays : RegistersUpTo k translated → P ≡ translated
   pub framed : (RegistersUpTo k translated → ⊥) → P ≡ spilled k translated
+  pub work : WorkByBound k e translated P

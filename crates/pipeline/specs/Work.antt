@@ -3,6 +3,7 @@
 use Rattle.std.specs.Prelude.{◌≡◌, ◌⊎◌, ℕ, ◌+◌, false, length}
 use Rattle.f_terms.specs.Tm.{Term}
 use Rattle.k_laws.specs.Sites.{sites}
+use Rattle.spill_law.specs.Bound.{RegistersUpTo}
 use Rattle.t_terms.specs.Tree.{TProg}
 use Rattle.pipeline.specs.Weights.{Weights, term_weight, blocks_weight}
 
@@ -32,3 +33,8 @@ pub record FramedWork (e : Term) (P : TProg) : Type 0 where
 -- a program within a bound on registers stays as it is, or gets frames
 abbrev pub WorkWithin : Term → TProg → Type 0
 WorkWithin e P = (HasBlocks e P × SameWeights e P) ⊎ FramedWork e P
+
+-- which of both it is, by the program that is made without a bound: it stays as it is where that has no register above k
+pub record WorkByBound (k : ℕ) (e : Term) (unbounded P : TProg) : Type 0 where
+  pub stays : RegistersUpTo k unbounded → HasBlocks e P × SameWeights e P
+  pub framed : (RegistersUpTo k unbounded → ⊥) → FramedWork e P

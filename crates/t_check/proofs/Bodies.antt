@@ -5,7 +5,7 @@ use Rattle.std.proofs.lemmas.List.{drop_more, drop_all}
 use Rattle.idx_core.specs.declared.span.Span.{Span}
 use Rattle.t_types.specs.Fits.{RegTypes, lookup}
 use Rattle.t_types.specs.WellFormed.{max_names}
-use Rattle.t_types.specs.Tree.{NoRegs, BelowFile}
+use Rattle.t_types.specs.Tree.{Ty, NoRegs, BelowFile}
 use Rattle.t_types.specs.Read.{file}
 use Rattle.t_terms.specs.Tree.{TEnd, TProg, names_after}
 use Rattle.t_terms.specs.Spanned.{seq_of, plain_datum, plain_fields}
@@ -104,14 +104,15 @@ pub block_end : (P : TProg) (b : Block) (m : ℕ) (g : RegTypes) (i : ℕ) → l
     BelowFile b.owes (file b.regs.regs.items) →
     IsLeft P (end_of b.«end») b.end_span b.owes m (lookup (file b.regs.regs.items)) g b.body.items
     (drop i b.body.items) →
-    (r : Result (Unit {0}) Refusal) → IsEnd P m g b.end_span (end_of b.«end») r → IsBlock P (spanned b) r
-block_end P b m g i le small left (Ok u) e = (
+    (us : List Ty) (r : Result (Unit {0}) Refusal) → IsEnd P us m g b.end_span (end_of b.«end») r →
+    IsBlock P us (spanned b) r
+block_end P b m g i le small left us (Ok u) e = (
   small,
   end_accepted P (end_of b.«end») b.end_span b.owes m (lookup (file b.regs.regs.items)) g b.body.items i le
       left e,
 )
-block_end P b m g i le small left (Err f) e =
-    says_map f _ (BlockFaultWith P (spanned b))
+block_end P b m g i le small left us (Err f) e =
+    says_map us f _ (BlockFaultWith P (spanned b))
     (end_fault P (end_of b.«end») b.end_span b.owes m (lookup (file b.regs.regs.items)) g b.body.items i le left) e
 
 -- a program of which the blocks `left` are still to be checked
@@ -217,15 +218,16 @@ first_fault p b some is taken = inl (at p.blocks.items some is)
     )
 
 module _ (p : TProgram) (first : FirstTakesNothing (blocks_of p.blocks.items)) where
-  pub heap_fault : (f : Refusal) → SaysWith f (HeapFaultWith (program p) (spanned_heap p.heap.items)) →
-      SaysWith f (ProgramNoted (spanned_program p))
-  heap_fault f h =
-      says_map f (HeapFaultWith (program p) (spanned_heap p.heap.items)) (ProgramNoted (spanned_program p))
+  pub heap_fault : (us : List Ty) (f : Refusal) →
+      SaysWith us f (HeapFaultWith (program p) (spanned_heap p.heap.items)) →
+      SaysWith us f (ProgramNoted (spanned_program p))
+  heap_fault us f h =
+      says_map us f (HeapFaultWith (program p) (spanned_heap p.heap.items)) (ProgramNoted (spanned_program p))
       (λ c s k. inr (first, inl k)) h
 
-  pub program_is : HeapAccepted (program p) (data_of p.heap.items) → (r : Result (Unit {0}) Refusal) →
-      AreBlocks (program p) (spanned_blocks p.blocks.items) r → IsProgram (spanned_program p) r
-  program_is heap (Ok u) h = (first, heap, h)
-  program_is heap (Err f) h =
-      says_map f (BlocksFaultWith (program p) (spanned_blocks p.blocks.items)) (ProgramNoted (spanned_program p))
+  pub program_is : HeapAccepted (program p) (data_of p.heap.items) → (us : List Ty) (r : Result (Unit {0}) Refusal) →
+      AreBlocks (program p) us (spanned_blocks p.blocks.items) r → IsProgram (spanned_program p) us r
+  program_is heap us (Ok u) h = (first, heap, h)
+  program_is heap us (Err f) h =
+      says_map us f (BlocksFaultWith (program p) (spanned_blocks p.blocks.items)) (ProgramNoted (spanned_program p))
       (λ c s k. inr (first, inr (tt, heap, k))) h

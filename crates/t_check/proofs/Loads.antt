@@ -11,7 +11,7 @@ use Rattle.t_types.proofs.FitsLaws.{field_over}
 use Rattle.t_types.specs.WellFormed.{max_names}
 use Rattle.t_terms.specs.declared.fault.TCode.{TCode}
 use Rattle.t_terms.specs.declared.fault.TCode.TheVariants.{T09, T11, T19}
-use Rattle.t_mismatch.specs.Mismatch.{Note, Types, FaultWith, bare, fitting, register, integer, tuple, field_at}
+use Rattle.t_mismatch.specs.Mismatch.{Note, told, Types, FaultWith, bare, fitting, register, integer, tuple, field_at}
 use Rattle.t_intern.specs.Marks.{marked_fields}
 use Rattle.t_intern.specs.Nodes.{at, fields_at}
 use Rattle.t_types.specs.Bounds.{Bounded}
@@ -96,7 +96,7 @@ no_halt g k s t known none =
 
 -- a register that does not fit
 pub unfit : (code : TCode) (n : ℕ) (g : RegTypes) (r : ℕ) (s : Span) (w u : Ty) → g r ≡ Some w → (Fits w u → ⊥) →
-    register g r s (fitting code n s u) (code, Some (Types u w n)) s
+    register g r s (fitting code n s u) (code, told (Types u w n)) s
 unfit code n g r s w u known other = rw known (inl (other, (refl, refl)))
 
 -- T11 where there is no such field, and what follows where there is

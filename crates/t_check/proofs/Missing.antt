@@ -11,10 +11,12 @@ use Rattle.t_intern.specs.Grown.{Grown}
 use Rattle.t_intern.specs.Nodes.{at, regs_at}
 use Rattle.t_intern.proofs.Growing.{grown_at}
 use Rattle.t_registers.specs.Known.{known, IsSound}
-use Rattle.t_mismatch.specs.Mismatch.{KnownFits, Note, FaultWith, Register, at_odds, FileFaultWith}
+use Rattle.t_mismatch.specs.Mismatch.{KnownFits, Note, told, FaultWith, Register, at_odds, FileFaultWith}
 use Rattle.t_mismatch.specs.Refusals.{SaysWith}
 use Rattle.t_check.specs.Verdict.{IsRegFit}
 use Rattle.t_mismatch.specs.declared.refusal.Refusal.{Refusal}
+use Rattle.t_mismatch.specs.declared.refusal.Refusal.TheVariants.{AtOdds}
+use Rattle.t_mismatch.specs.declared.odds.Odds.TheVariants as odds
 use Rattle.t_registers.specs.declared.registers.Registers.{Registers}
 use Rattle.t_registers.proofs.Noting.{known_grown}
 use Rattle.t_registers.proofs.Rising.{known_fit}
@@ -43,9 +45,9 @@ module _ (n : ℕ) (g : RegTypes) (s : Span) (ts : List Ty) where
       fault = λ c p f. left.fault c p (subst (λ ys. FileFaultWith n g s (regs_at ts ys) c p) (sym next) (inr (h, f)));
     }
 
-    pub reg_fault : FileLeft xs (drop i xs) → (f : Refusal) → SaysWith f (RegFault n g s x.0 (at ts x.1)) →
-        SaysWith f (FileFaultWith n g s (regs_at ts xs))
-    reg_fault left f h = says_map f (RegFault n g s x.0 (at ts x.1)) (FileFaultWith n g s (regs_at ts xs)) go h
+    pub reg_fault : FileLeft xs (drop i xs) → (us : List Ty) (f : Refusal) →
+        SaysWith us f (RegFault n g s x.0 (at ts x.1)) → SaysWith us f (FileFaultWith n g s (regs_at ts xs))
+    reg_fault left us f h = says_map us f (RegFault n g s x.0 (at ts x.1)) (FileFaultWith n g s (regs_at ts xs)) go h
       where
         go : (c : Note) (p : Span) → RegFault n g s x.0 (at ts x.1) c p → FileFaultWith n g s (regs_at ts xs) c p
         go c p (inl k) = left.fault c p (subst (λ ys. FileFaultWith n g s (regs_at ts ys) c p) (sym next) (inl k))
@@ -55,29 +57,26 @@ module _ (n : ℕ) (g : RegTypes) (s : Span) (ts : List Ty) where
   file_end xs i le left = left.fits (subst (λ ys. FitsFile g (regs_at ts ys)) (sym (drop_all i xs le)) tt)
 
 -- a register that is missing, and one of another type
-module _ (n : ℕ) (g : RegTypes) (s : Span) (r : ℕ) (t : Ty) (f : Refusal) where
-  says_reg : (o : Option Ty) (w : Ty) → g r ≡ o → w ≡ t → (KnownFits g r t → ⊥) →
-      SaysWith f (at_odds T18 (Register r w o n) s) → SaysWith f (RegFault n g s r t)
-  says_reg o w e same none h =
-      says_map f (at_odds T18 (Register r w o n) s) (RegFault n g s r t)
-      (λ c p k. inl (
-        none,
-        subst (λ o. at_odds T18 (Register r t o n) s c p) (sym e)
-            (subst (λ u. at_odds T18 (Register r u o n) s c p) same k),
-      )) h
+module _ (n : ℕ) (g : RegTypes) (s : Span) (r : ℕ) (t : Ty) (us : List Ty) (w : ℕ) (lt : w < length us)
+    (is : at us w ≡ t) where
+  reg_says : (o : Option Ty) → g r ≡ o → (KnownFits g r t → ⊥) →
+      RegFault n g s r t (T18, told (Register r (at us w) o n)) s
+  reg_says o e none =
+      subst (λ x. RegFault n g s r t (T18, told (Register r (at us w) x n)) s) e
+      (subst (λ x. RegFault n g s r t (T18, told (Register r x (g r) n)) s) (sym is) (inl (none, (refl, refl))))
 
-  pub missing : g r ≡ None → SaysWith f (at_odds T18 (Register r t None n) s) → SaysWith f (RegFault n g s r t)
-  missing e h = says_reg None t e refl (λ k. let some = k.1 in cc) h
+  pub missing : g r ≡ None → SaysWith us (AtOdds T18 s (odds.Register r w None n)) (RegFault n g s r t)
+  missing e = ((lt, tt), reg_says None e (λ k. let some = k.1 in cc))
 
-  pub other_type : (u v w : Ty) → g r ≡ Some u → v ≡ u → w ≡ t → (Fits u t → ⊥) →
-      SaysWith f (at_odds T18 (Register r w (Some v) n) s) → SaysWith f (RegFault n g s r t)
-  other_type u v w e same is unfit h = says_reg (Some v) w (e ∙ ap Some (sym same)) is
-      (λ k. unfit (known_fit g r u t e k)) h
+  pub other_type : (m : ℕ) (u : Ty) → m < length us → g r ≡ Some u → at us m ≡ u → (Fits u t → ⊥) →
+      SaysWith us (AtOdds T18 s (odds.Register r w (Some m) n)) (RegFault n g s r t)
+  other_type m u there e same unfit =
+      ((lt, there), reg_says (Some (at us m)) (e ∙ ap Some (sym same)) (λ k. unfit (known_fit g r u t e k)))
 
 -- by more types
 pub reg_grown : (ts us : List Ty) → Grown ts us → (k : Registers) → IsSound ts k → (n : ℕ) (s : Span) (r w : ℕ) →
-    w < length ts → (a : Result (Unit {0}) Refusal) →
-    IsRegFit n (known us k) s r (at us w) a → IsRegFit n (known ts k) s r (at ts w) a
-reg_grown ts us g k sound n s r w lt a h =
-    subst (λ (x : RegTypes). IsRegFit n x s r (at ts w) a) (known_grown ts us g k sound)
-    (subst (λ (t : Ty). IsRegFit n (known us k) s r t a) (grown_at ts us g w lt) h)
+    w < length ts → (vs : List Ty) (a : Result (Unit {0}) Refusal) →
+    IsRegFit vs n (known us k) s r (at us w) a → IsRegFit vs n (known ts k) s r (at ts w) a
+reg_grown ts us g k sound n s r w lt vs a h =
+    subst (λ (x : RegTypes). IsRegFit vs n x s r (at ts w) a) (known_grown ts us g k sound)
+    (subst (λ (t : Ty). IsRegFit vs n (known us k) s r t a) (grown_at ts us g w lt) h)

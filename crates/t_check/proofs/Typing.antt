@@ -3,7 +3,7 @@ use Rattle.std.proofs.Common.{◌≡◌, ◌≢◌, ℕ, ◌+◌, ◌-◌, ◌<�
 use Rattle.std.proofs.Common.{inr, OnOk, refl, sym, ap, ap₂, ◌∙◌, arith, subst}
 use Rattle.idx_core.specs.declared.arith.Op.{Op}
 use Rattle.idx_core.specs.declared.span.Span.{Span}
-use Rattle.text_core.specs.Refusals.{refuse, check}
+use Rattle.text_core.specs.Refusals.{check}
 use Rattle.t_types.proofs.Scope.{well_formed_below}
 use Rattle.t_types.specs.Tree.{Ty, IntTy, VarTy, CodeTy, ExistsTy, TupleTy, TFile, BelowTypes, put}
 use Rattle.t_types.specs.Fits.{Fits, FitsFile, RegTypes}
@@ -13,41 +13,42 @@ use Rattle.t_terms.specs.Spanned.{SDatum, plain_datum}
 use Rattle.t_terms.specs.declared.fault.TCode.{TCode}
 use Rattle.t_terms.specs.declared.fault.TCode.TheVariants.{T09, T13, T14, T15, T16}
 use Rattle.t_mismatch.specs.declared.refusal.Refusal.{Refusal}
-use Rattle.t_mismatch.specs.declared.refusal.Refusal.TheVariants.{Memory, Refused, AtOdds, Untold}
+use Rattle.t_mismatch.specs.declared.refusal.Refusal.TheVariants.{Memory, Refused, AtOdds}
+use Rattle.t_mismatch.specs.declared.odds.Odds.TheVariants as odds
 use Rattle.t_rules.specs.Registers.{no_types, inst_file, with_reg}
 use Rattle.t_rules.specs.Rules.{BaseHas, Has, Enters, DatumAccepted}
-use Rattle.t_mismatch.specs.Mismatch.{Note, Types, NoPackage, FaultWith, bare, at_odds, fitting, if_code, if_exists}
+use Rattle.t_mismatch.specs.Mismatch.{Note, told, Types, NoPackage, FaultWith, bare, at_odds, fitting, if_code}
+use Rattle.t_mismatch.specs.Mismatch.{if_exists}
 use Rattle.t_mismatch.specs.Mismatch.{PackFaultWith, ValueFaultWith, FileFaultWith, EnterFaultWith, InstrFaultWith}
 use Rattle.t_mismatch.specs.Mismatch.{DatumFaultWith}
-use Rattle.t_mismatch.specs.ReadMismatch.{mismatch}
 use Rattle.t_types.specs.Bounds.{Bounded, OwedFile}
 use Rattle.t_intern.specs.Grown.{IsNumber}
+use Rattle.t_intern.specs.Nodes.{at}
 use Rattle.t_registers.specs.Known.{own, seen, known, IsEntry, IsSound}
-use Rattle.t_mismatch.specs.Refusals.{SaysWith}
+use Rattle.t_mismatch.specs.Refusals.{SaysWith, odds_at}
 use Rattle.t_check.specs.Verdict.{IsTypeOf, IsPacked, IsFileFit, IsEntered, IsStep}
 use Rattle.t_registers.specs.declared.registers.Entry.{Entry}
 use Rattle.t_registers.specs.declared.registers.Registers.{Registers}
 use Rattle.t_rules.proofs.Depth.{shallow, bounded, bounded_shift}
 
 -- a fault of a part is one of the whole
-pub says_map : (f : Refusal) (F G : FaultWith) → ((c : Note) (p : Span) → F c p → G c p) → SaysWith f F → SaysWith f G
-says_map Memory F G go h = tt
-says_map (Refused c s) F G go h = go (c, None) s h
-says_map (AtOdds odds) F G go h = go (odds.value.code, Some (mismatch odds.value.mismatch)) odds.value.span h
-says_map (Untold c s) F G go h = (h.0, go (c, h.0) s h.1)
+pub says_map : (us : List Ty) (f : Refusal) (F G : FaultWith) → ((c : Note) (p : Span) → F c p → G c p) →
+    SaysWith us f F → SaysWith us f G
+says_map us Memory F G go h = tt
+says_map us (Refused c s) F G go h = go (c, None) s h
+says_map us (AtOdds c s odds) F G go h = (h.0, go (c, told (odds_at us odds)) s h.1)
 
--- a refusal with this note and place says what has it
-pub says_noted : (f : Refusal) (note : Note) (s : Span) (F : FaultWith) → SaysWith f (refuse note s) → F note s →
-    SaysWith f F
-says_noted f note s F h k =
-    says_map f (refuse note s) F (λ c p e. subst (λ q. F c q) (sym e.1) (subst (λ d. F d s) (sym e.0) k)) h
+-- types that are at odds, and those of their numbers
+pub says_types : (us : List Ty) (code : TCode) (n : ℕ) (s : Span) (F : FaultWith) (w u : ℕ) (t v : Ty) →
+    w < length us → u < length us → at us w ≡ t → at us u ≡ v → F (code, told (Types t v n)) s →
+    SaysWith us (AtOdds code s (odds.Types w u n)) F
+says_types us code n s F w u t v lw lu e1 e2 h =
+    ((lw, lu), subst (λ m. F (code, told m) s) (sym (ap₂ (λ a b. Types a b n) e1 e2)) h)
 
--- the same of types that are at odds, which are those by number
-pub says_types : (f : Refusal) (code : TCode) (n : ℕ) (s : Span) (F : FaultWith) (w u t v : Ty) → w ≡ t → u ≡ v →
-    SaysWith f (at_odds code (Types w u n) s) → F (code, Some (Types t v n)) s → SaysWith f F
-says_types f code n s F w u t v e1 e2 h k =
-    says_noted f (code, Some (Types w u n)) s F h
-    (subst (λ m. F (code, Some m) s) (sym (ap₂ (λ a b. Types a b n) e1 e2)) k)
+-- the same of a type that is no package type
+pub says_package : (us : List Ty) (n : ℕ) (s : Span) (F : FaultWith) (u : ℕ) (t : Ty) → u < length us → at us u ≡ t →
+    F (T15, told (NoPackage t n)) s → SaysWith us (AtOdds T15 s (odds.NoPackage u n)) F
+says_package us n s F u t lt e h = (lt, subst (λ m. F (T15, told m) s) (sym (ap (λ a. NoPackage a n) e)) h)
 
 -- what holds in any case
 pub on_any : {G : Type 0} (r : Result (Unit {0}) Refusal) → G → OnOk r G
@@ -74,16 +75,16 @@ entry_bounded ts n e t h is =
 -- the shape of a package
 module _ (n : ℕ) (s : Span) (hidden t shape : Ty) where
   pub pack_unfit : (body : Ty) → shape ≡ ExistsTy body → (Fits t (put 0 hidden body) → ⊥) →
-      PackFaultWith n s hidden t shape (T15, Some (Types (put 0 hidden body) t n)) s
+      PackFaultWith n s hidden t shape (T15, told (Types (put 0 hidden body) t n)) s
   pack_unfit body e unfit =
-      subst (λ u. PackFaultWith n s hidden t u (T15, Some (Types (put 0 hidden body) t n)) s) (sym e)
+      subst (λ u. PackFaultWith n s hidden t u (T15, told (Types (put 0 hidden body) t n)) s) (sym e)
       (inl (unfit, (refl, refl)))
 
   pub pack_none : ((body : Ty) → shape ≢ ExistsTy body) →
-      PackFaultWith n s hidden t shape (T15, Some (NoPackage shape n)) s
+      PackFaultWith n s hidden t shape (T15, told (NoPackage shape n)) s
   pack_none none =
       other_than_exists shape (at_odds T15 (NoPackage shape n) s) (λ body. fitting T15 n s (put 0 hidden body) t)
-      (T15, Some (NoPackage shape n)) s none (refl, refl)
+      (T15, told (NoPackage shape n)) s none (refl, refl)
 
 module _ (P : TProg) (n : ℕ) (g : RegTypes) (s : Span) where
   -- a base that is applied to types
@@ -114,7 +115,7 @@ module _ (P : TProg) (n : ℕ) (g : RegTypes) (s : Span) where
         subst (Bounded n) (sym is) (bounded n shape (shallow n shape formed)),
       )
   pack_is us hidden shape t v h small formed (Err f) d =
-      says_map f _ (ValueFaultWith P n g s (Pack hidden v shape)) (λ c p x. inr (t, h, x)) d
+      says_map us f _ (ValueFaultWith P n g s (Pack hidden v shape)) (λ c p x. inr (t, h, x)) d
 
   -- the target of a jump
   no_target : (t : Ty) → ((file : TFile) → t ≢ CodeTy 0 file) →
@@ -136,18 +137,20 @@ module _ (P : TProg) (n : ℕ) (g : RegTypes) (s : Span) where
       pub enter_ok : FitsFile g file → Enters P n g v
       enter_ok fits = (file, code, fits)
 
-      pub enter_is : (r : Result (Unit {0}) Refusal) → IsFileFit n g s file r → IsEntered P n g s v r
-      enter_is (Ok u) fits = enter_ok fits
-      enter_is (Err f) d =
-          says_map f (FileFaultWith n g s file) (EnterFaultWith P n g s v)
+      pub enter_is : (us : List Ty) (r : Result (Unit {0}) Refusal) → IsFileFit us n g s file r →
+          IsEntered P us n g s v r
+      enter_is us (Ok u) fits = enter_ok fits
+      enter_is us (Err f) d =
+          says_map us f (FileFaultWith n g s file) (EnterFaultWith P n g s v)
           (λ c p x. inr (CodeTy 0 file, code, inr (refl, x))) d
 
   -- a branch
   pub bnz_is : (us : List Ty) (k : Registers) (r : ℕ) (v : TValue) → g r ≡ Some IntTy → known us k ≡ g → k.names ≡ n →
-      (a : Result (Unit {0}) Refusal) → OnOk a (IsSound us k) → IsEntered P n g s v a → IsStep P us n g k s (Bnz r v) a
+      (a : Result (Unit {0}) Refusal) → OnOk a (IsSound us k) → IsEntered P us n g s v a →
+      IsStep P us n g k s (Bnz r v) a
   bnz_is us k r v int same names (Ok u) sound h = ((int, h, same), sound, names)
   bnz_is us k r v int same names (Err f) sound h =
-      says_map f (EnterFaultWith P n g s v) (InstrFaultWith P n g s (Bnz r v)) (λ c p x. rw int (inr (refl, x))) h
+      says_map us f (EnterFaultWith P n g s v) (InstrFaultWith P n g s (Bnz r v)) (λ c p x. rw int (inr (refl, x))) h
 
   -- a register that is moved
   pub copy_is : (us : List Ty) (h : Registers) (rd r : ℕ) (t : Ty) → g r ≡ Some t → known us h ≡ with_reg g rd t →
@@ -173,12 +176,13 @@ module _ (P : TProg) (n : ℕ) (g : RegTypes) (names : n ≡ 0) (empty : g ≡ n
   datum_ok t h f w = (t, closed t h, f, well_formed_below 0 x.ty w)
 
   pub datum_unfit : (t : Ty) → Has P n g x.value t → (Fits t x.ty → ⊥) →
-      DatumFaultWith P x (T13, Some (Types x.ty t 0)) x.span
+      DatumFaultWith P x (T13, told (Types x.ty t 0)) x.span
   datum_unfit t h f = inr (t, closed t h, inl (f, (refl, refl)))
 
-  pub datum_fault : (f : Refusal) → SaysWith f (ValueFaultWith P n g x.span x.value) → SaysWith f (DatumFaultWith P x)
-  datum_fault f h =
-      says_map f (ValueFaultWith P n g x.span x.value) (DatumFaultWith P x)
+  pub datum_fault : (us : List Ty) (f : Refusal) → SaysWith us f (ValueFaultWith P n g x.span x.value) →
+      SaysWith us f (DatumFaultWith P x)
+  datum_fault us f h =
+      says_map us f (ValueFaultWith P n g x.span x.value) (DatumFaultWith P x)
       (λ c p v. inl
       (subst (λ m. ValueFaultWith P m no_types x.span x.value c p) names
       (subst (λ k. ValueFaultWith P n k x.span x.value c p) empty v))) h

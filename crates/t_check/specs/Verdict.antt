@@ -63,16 +63,16 @@ FormedDatum p x = WellFormedDatum (length p.blocks.items) (length p.heap.items) 
 abbrev pub FormedData : TProgram → List SDatum → Type 0
 FormedData p xs = WellFormedData (length p.blocks.items) (length p.heap.items) (plain_fields xs)
 
--- Under n type names, where g is known of the registers, the number of the type of a base, or its first fault. The
--- types us are those after the call.
+-- Under n type names, where g is known of the registers, the number of the type of a base, or its first fault. Here and
+-- below the types us are those after the call, by whose numbers a refusal says what is at odds.
 abbrev pub IsTypeOfBase : TProg → List Ty → ℕ → RegTypes → Span → TBase → Result ℕ Refusal → Type 0
 IsTypeOfBase P us n g s b (Ok m) = (m < length us) × BaseHas P g b (at us m) × Bounded n (at us m)
-IsTypeOfBase P us n g s b (Err f) = SaysWith f (BaseFaultWith g s b)
+IsTypeOfBase P us n g s b (Err f) = SaysWith us f (BaseFaultWith g s b)
 
 -- the number of the type of a value, or its first fault
 abbrev pub IsTypeOf : TProg → List Ty → ℕ → RegTypes → Span → TValue → Result ℕ Refusal → Type 0
 IsTypeOf P us n g s v (Ok m) = (m < length us) × Has P n g v (at us m) × Bounded n (at us m)
-IsTypeOf P us n g s v (Err f) = SaysWith f (ValueFaultWith P n g s v)
+IsTypeOf P us n g s v (Err f) = SaysWith us f (ValueFaultWith P n g s v)
 
 -- the types are put in order for the first ones that are owed, and what is made is bounded
 abbrev pub IsInstantiated : List Ty → ℕ → List Ty → ℕ → TFile → List (ℕ × ℕ) → Type 0
@@ -83,12 +83,12 @@ IsInstantiated us n ts owes f made =
 abbrev pub IsPacked : List Ty → ℕ → Ty → Ty → Ty → Span → Result ℕ Refusal → Type 0
 IsPacked us n hidden t shape s (Ok m) =
     (body : Ty) × (shape ≡ ExistsTy body) × Fits t (put 0 hidden body) × IsNumber us shape m
-IsPacked us n hidden t shape s (Err f) = SaysWith f (PackFaultWith n s hidden t shape)
+IsPacked us n hidden t shape s (Err f) = SaysWith us f (PackFaultWith n s hidden t shape)
 
 -- the register is an integer, or the fault of it
-abbrev pub IsInteger : RegTypes → ℕ → Span → Result (Unit {0}) Refusal → Type 0
-IsInteger g r s (Ok u) = g r ≡ Some IntTy
-IsInteger g r s (Err f) = SaysWith f (register g r s (λ t. integer t s nothing))
+abbrev pub IsInteger : List Ty → RegTypes → ℕ → Span → Result (Unit {0}) Refusal → Type 0
+IsInteger us g r s (Ok u) = g r ≡ Some IntTy
+IsInteger us g r s (Err f) = SaysWith us f (register g r s (λ t. integer t s nothing))
 
 -- the number of the type and the flag of a field of the tuple in a register, or the first fault
 abbrev pub IsFieldOf : List Ty → ℕ → RegTypes → ℕ → ℕ → Span → Result (ℕ × Bool) Refusal → Type 0
@@ -96,38 +96,39 @@ IsFieldOf us n g r i s (Ok x) =
     (fs : TFields) × (g r ≡ Some (TupleTy fs)) × (field fs i ≡ Some (AField (at us x.0) x.1))
     × Bounded n (at us x.0) × (x.0 < length us)
 IsFieldOf us n g r i s (Err f) =
-    SaysWith f (register g r s (λ t. tuple t s (λ fs. field_at fs i s (λ u flag. nothing))))
+    SaysWith us f (register g r s (λ t. tuple t s (λ fs. field_at fs i s (λ u flag. nothing))))
 
 -- under n type names, a register fits a field, with this flag, of the tuple in another one, or the first fault
-abbrev pub IsStored : ℕ → RegTypes → ℕ → ℕ → ℕ → Span → Result Bool Refusal → Type 0
-IsStored n g rd i rs s (Ok flag) =
+abbrev pub IsStored : List Ty → ℕ → RegTypes → ℕ → ℕ → ℕ → Span → Result Bool Refusal → Type 0
+IsStored us n g rd i rs s (Ok flag) =
     (fs : TFields) × (t : Ty) × (w : Ty) × (g rd ≡ Some (TupleTy fs))
     × (field fs i ≡ Some (AField t flag)) × (g rs ≡ Some w) × Fits w t
-IsStored n g rd i rs s (Err f) = SaysWith f (StoreFaultWith n g s rd i rs)
+IsStored us n g rd i rs s (Err f) = SaysWith us f (StoreFaultWith n g s rd i rs)
 
 -- under n type names, the register is known by a type that fits t, or T18; and each register of the file, or the first
-abbrev pub IsRegFit : ℕ → RegTypes → Span → ℕ → Ty → Result (Unit {0}) Refusal → Type 0
-IsRegFit n g s r t (Ok u) = KnownFits g r t
-IsRegFit n g s r t (Err f) = SaysWith f (check (KnownFits g r t) (at_odds T18 (Register r t (g r) n) s) nothing)
+abbrev pub IsRegFit : List Ty → ℕ → RegTypes → Span → ℕ → Ty → Result (Unit {0}) Refusal → Type 0
+IsRegFit us n g s r t (Ok u) = KnownFits g r t
+IsRegFit us n g s r t (Err f) =
+    SaysWith us f (check (KnownFits g r t) (at_odds T18 (Register r t (g r) n) s) nothing)
 
-abbrev pub IsFileFit : ℕ → RegTypes → Span → TFile → Result (Unit {0}) Refusal → Type 0
-IsFileFit n g s file (Ok u) = FitsFile g file
-IsFileFit n g s file (Err f) = SaysWith f (FileFaultWith n g s file)
+abbrev pub IsFileFit : List Ty → ℕ → RegTypes → Span → TFile → Result (Unit {0}) Refusal → Type 0
+IsFileFit us n g s file (Ok u) = FitsFile g file
+IsFileFit us n g s file (Err f) = SaysWith us f (FileFaultWith n g s file)
 
 -- the value may be entered, or the first fault of it
-abbrev pub IsEntered : TProg → ℕ → RegTypes → Span → TValue → Result (Unit {0}) Refusal → Type 0
-IsEntered P n g s v (Ok u) = Enters P n g v
-IsEntered P n g s v (Err f) = SaysWith f (EnterFaultWith P n g s v)
+abbrev pub IsEntered : TProg → List Ty → ℕ → RegTypes → Span → TValue → Result (Unit {0}) Refusal → Type 0
+IsEntered P us n g s v (Ok u) = Enters P n g v
+IsEntered P us n g s v (Err f) = SaysWith us f (EnterFaultWith P n g s v)
 
 -- the instruction is typed and leaves the registers known so, or its first fault
 abbrev pub IsStep : TProg → List Ty → ℕ → RegTypes → Registers → Span → TInstr → Result (Unit {0}) Refusal → Type 0
 IsStep P us n g h s i (Ok u) = Typed P n g i (known us h) × IsSound us h × (h.names ≡ names_after i n)
-IsStep P us n g h s i (Err f) = SaysWith f (InstrFaultWith P n g s i)
+IsStep P us n g h s i (Err f) = SaysWith us f (InstrFaultWith P n g s i)
 
 -- the end is typed, or its first fault
-abbrev pub IsEnd : TProg → ℕ → RegTypes → Span → TEnd → Result (Unit {0}) Refusal → Type 0
-IsEnd P n g s e (Ok u) = EndTyped P n g e
-IsEnd P n g s e (Err f) = SaysWith f (EndFaultWith P n g s e)
+abbrev pub IsEnd : TProg → List Ty → ℕ → RegTypes → Span → TEnd → Result (Unit {0}) Refusal → Type 0
+IsEnd P us n g s e (Ok u) = EndTyped P n g e
+IsEnd P us n g s e (Err f) = SaysWith us f (EndFaultWith P n g s e)
 
 -- The same of a checker at its place, where the types are ts before the call, and us after it.
 
@@ -157,45 +158,50 @@ AppliedAt ts us c s found args r =
     (g : RegTypes) (b : TBase) → BaseHas (program_in c) g b (at ts found) →
     IsTypeOf (program_in c) us c.registers.names g s (Plain b args) r
 
-abbrev pub EnteredAt : List Ty → Checker → Span → TValue → Result (Unit {0}) Refusal → Type 0
-EnteredAt ts c s v r = IsEntered (program_in c) c.registers.names (known_at ts c) s v r
+abbrev pub EnteredAt : List Ty → List Ty → Checker → Span → TValue → Result (Unit {0}) Refusal → Type 0
+EnteredAt ts us c s v r = IsEntered (program_in c) us c.registers.names (known_at ts c) s v r
 
-abbrev pub EndedAt : List Ty → Checker → Span → TEnd → Result (Unit {0}) Refusal → Type 0
-EndedAt ts c s e r = IsEnd (program_in c) c.registers.names (known_at ts c) s e r
+abbrev pub EndedAt : List Ty → List Ty → Checker → Span → TEnd → Result (Unit {0}) Refusal → Type 0
+EndedAt ts us c s e r = IsEnd (program_in c) us c.registers.names (known_at ts c) s e r
 
 -- the instruction leads the checker c to d
 abbrev pub StepsTo : List Ty → List Ty → Checker → Checker → Span → TInstr → Result (Unit {0}) Refusal → Type 0
 StepsTo ts us c d s i r = IsStep (program_in c) us c.registers.names (known_at ts c) d.registers s i r
 
 -- the block is accepted, or its first fault
-abbrev pub IsBlock : TProg → SBlock → Result (Unit {0}) Refusal → Type 0
-IsBlock P b (Ok u) = BlockAccepted P (plain b)
-IsBlock P b (Err f) = SaysWith f (BlockFaultWith P b)
+abbrev pub IsBlock : TProg → List Ty → SBlock → Result (Unit {0}) Refusal → Type 0
+IsBlock P us b (Ok u) = BlockAccepted P (plain b)
+IsBlock P us b (Err f) = SaysWith us f (BlockFaultWith P b)
 
 -- the blocks are accepted, or their first fault
-abbrev pub AreBlocks : TProg → List SBlock → Result (Unit {0}) Refusal → Type 0
-AreBlocks P bs (Ok u) = BlocksAccepted P (plain_blocks bs)
-AreBlocks P bs (Err f) = SaysWith f (BlocksFaultWith P bs)
+abbrev pub AreBlocks : TProg → List Ty → List SBlock → Result (Unit {0}) Refusal → Type 0
+AreBlocks P us bs (Ok u) = BlocksAccepted P (plain_blocks bs)
+AreBlocks P us bs (Err f) = SaysWith us f (BlocksFaultWith P bs)
 
 -- the word of data is accepted, or its first fault
-abbrev pub IsDatum : TProg → SDatum → Result (Unit {0}) Refusal → Type 0
-IsDatum P x (Ok u) = DatumAccepted P (plain_datum x)
-IsDatum P x (Err f) = SaysWith f (DatumFaultWith P x)
+abbrev pub IsDatum : TProg → List Ty → SDatum → Result (Unit {0}) Refusal → Type 0
+IsDatum P us x (Ok u) = DatumAccepted P (plain_datum x)
+IsDatum P us x (Err f) = SaysWith us f (DatumFaultWith P x)
 
 -- the words of a data tuple are accepted, or their first fault
-abbrev pub IsData : TProg → List SDatum → Result (Unit {0}) Refusal → Type 0
-IsData P xs (Ok u) = DataAccepted P (plain_fields xs)
-IsData P xs (Err f) = SaysWith f (DataFaultWith P xs)
+abbrev pub IsData : TProg → List Ty → List SDatum → Result (Unit {0}) Refusal → Type 0
+IsData P us xs (Ok u) = DataAccepted P (plain_fields xs)
+IsData P us xs (Err f) = SaysWith us f (DataFaultWith P xs)
 
 -- the data are accepted, or their first fault
-abbrev pub IsHeap : TProg → List SData → Result (Unit {0}) Refusal → Type 0
-IsHeap P xs (Ok u) = HeapAccepted P (plain_heap xs)
-IsHeap P xs (Err f) = SaysWith f (HeapFaultWith P xs)
+abbrev pub IsHeap : TProg → List Ty → List SData → Result (Unit {0}) Refusal → Type 0
+IsHeap P us xs (Ok u) = HeapAccepted P (plain_heap xs)
+IsHeap P us xs (Err f) = SaysWith us f (HeapFaultWith P xs)
 
 -- the program is accepted, or its first fault
-abbrev pub IsProgram : SProg → Result (Unit {0}) Refusal → Type 0
-IsProgram P (Ok u) = Accepted (plain_program P)
-IsProgram P (Err f) = SaysWith f (ProgramNoted P)
+abbrev pub IsProgram : SProg → List Ty → Result (Unit {0}) Refusal → Type 0
+IsProgram P us (Ok u) = Accepted (plain_program P)
+IsProgram P us (Err f) = SaysWith us f (ProgramNoted P)
+
+-- the same, where nobody asks what is at odds
+abbrev pub IsJudged : SProg → Result (Unit {0}) TFault → Type 0
+IsJudged P (Ok u) = Accepted (plain_program P)
+IsJudged P (Err f) = Says f (ProgramFault P)
 
 -- the program that was checked is the one that was put in, and is accepted; or it is handed back with its first fault
 abbrev pub IsVerdict : TProgram → Result Checked (TProgram × TFault) → Type 0

@@ -1,5 +1,5 @@
 -- What is known at a place of a program, as a file; and the walk over the places.
-use Rattle.std.specs.Prelude.{◌≡◌, ℕ, List, MatchOption}
+use Rattle.std.specs.Prelude.{◌≡◌, ℕ, List, MatchOption, Option}
 use Rattle.t_types.specs.Tree.{Ty, TFile, BelowFile}
 use Rattle.t_types.specs.Fits.{RegTypes, lookup}
 use Rattle.t_terms.specs.Tree.{TInstr, TProg, names_after}
@@ -24,6 +24,12 @@ pub record IsKnownFile (P : TProg) (block index n : ℕ) (file : TFile) : Type 0
   pub known : KnownAt P block index n (lookup file)
   pub rises : Rises file
   pub scope : BelowFile n file
+
+-- at the place n type names are in scope, and this is known of the register r
+pub record IsKnownRegister (P : TProg) (block index r n : ℕ) (type : Option Ty) : Type 0 where
+  pub types : RegTypes
+  pub known : KnownAt P block index n types
+  pub is : types r ≡ type
 
 -- the instruction is typed at the checker's place
 abbrev pub IsTyped : List Ty → Checker → TInstr → Type 0

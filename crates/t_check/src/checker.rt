@@ -11,12 +11,13 @@ ghost use Rattle.t_check.specs.Checked.{checked_program};
 ghost use Rattle.t_mismatch.specs.Mismatch as odds;
 ghost use Rattle.t_mismatch.specs.Mismatch.{ProgramFaultWith};
 ghost use Rattle.t_mismatch.specs.ReadMismatch.{mismatch_or_none};
-ghost use Rattle.t_check.specs.Verdict.{IsVerdict, AcceptsOrWants, RefusesOrWants};
+ghost use Rattle.t_check.specs.Verdict.{IsJudged, IsVerdict, AcceptsOrWants, RefusesOrWants};
 
 use crate::checked::Checked;
 use crate::program::check_program;
 use idx_core::{OutOfMemory, Salt};
 use std::alloc::Global;
+use t_intern::Types;
 use t_mismatch::{Mismatch, at_most_one_mismatch, mismatch_is_of_the_fault};
 use t_registers::{Labels, Registers};
 use t_rules::{at_most_one_fault, no_fault_where_accepted};
@@ -31,6 +32,25 @@ pub(crate) struct Checker<'a> {
     pub(crate) program: &'a TProgram,
     pub(crate) labels: &'a Labels,
     pub(crate) registers: Registers,
+}
+
+// Whether the rules accept a program, by a table of the caller's; or its first fault.
+fn judge(alloc: Global, types: &mut Types, program: &TProgram) -> Result<(), TFault>
+    ensures { IsJudged (spanned_program program.now) result }
+{
+    mismatch_is_of_the_fault();
+    match check_program(alloc, types, program) {
+        Ok(()) => Ok(()),
+        Err(refusal) => Err(refusal.fault()),
+    }
+}
+
+// The same by a table of its own.
+fn verdict(alloc: Global, program: &TProgram, salt: Salt) -> Result<(), TFault>
+    ensures { IsJudged (spanned_program program.now) result }
+{
+    let mut types = Types::salted(alloc, salt);
+    judge(alloc, &mut types, program)
 }
 
 /// The program, where the typing rules accept it; else its first fault in checking order, with the program handed back:
@@ -60,20 +80,18 @@ pub fn check_salted(
 {
     no_fault_where_accepted();
     at_most_one_fault();
-    mismatch_is_of_the_fault();
-    match check_program(alloc, &program, salt) {
+    match verdict(alloc, &program, salt) {
         Ok(()) => Ok(Checked { program }),
-        Err(refusal) => {
-            let fault = refusal.fault();
-            Err((program, fault))
-        }
+        Err(fault) => Err((program, fault)),
     }
 }
 
-/// What is at odds in the first fault of a program, where it is T13, T15 or T18: the types, as they are where the fault
-/// is; nothing is at odds in any other fault, nor in a program that is accepted. The program is checked once more. An
-/// error is want of memory.
-pub fn mismatch_of(alloc: Global, program: &TProgram) -> Result<Option<Mismatch>, OutOfMemory>
+// What is at odds in the first fault of a program, by a table of the caller's.
+fn told_of(
+    alloc: Global,
+    types: &mut Types,
+    program: &TProgram,
+) -> Result<Option<Mismatch>, OutOfMemory>
     ensures told { (code : codes.TCode) (span : places.Span) → ProgramFault (spanned_program program.now) code span →
         IfOk result (λ m. ProgramFaultWith (spanned_program program.now) code span (mismatch_or_none m)) }
     ensures one { (code : codes.TCode) (span : places.Span) (m : Option odds.Mismatch) →
@@ -84,10 +102,24 @@ pub fn mismatch_of(alloc: Global, program: &TProgram) -> Result<Option<Mismatch>
     at_most_one_fault();
     mismatch_is_of_the_fault();
     at_most_one_mismatch();
-    match check_program(alloc, program, salt_of(program)) {
+    match check_program(alloc, types, program) {
         Ok(()) => Ok(None),
-        Err(refusal) => refusal.mismatch(),
+        Err(refusal) => refusal.mismatch(types),
     }
+}
+
+/// What is at odds in the first fault of a program, where it is T13, T15 or T18: the types, as they are where the fault
+/// is, if each has at most 100,000 nodes; nothing is said to be at odds in any other fault, nor in a program that is
+/// accepted. The program is checked once more. An error is want of memory.
+pub fn mismatch_of(alloc: Global, program: &TProgram) -> Result<Option<Mismatch>, OutOfMemory>
+    ensures told { (code : codes.TCode) (span : places.Span) → ProgramFault (spanned_program program.now) code span →
+        IfOk result (λ m. ProgramFaultWith (spanned_program program.now) code span (mismatch_or_none m)) }
+    ensures one { (code : codes.TCode) (span : places.Span) (m : Option odds.Mismatch) →
+        ProgramFaultWith (spanned_program program.now) code span m →
+        IfOk result (λ r. mismatch_or_none r ≡ m) }
+{
+    let mut types = Types::salted(alloc, salt_of(program));
+    told_of(alloc, &mut types, program)
 }
 
 /// A program that the typing rules accept, as the caller knows, with no check.

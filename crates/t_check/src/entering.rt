@@ -25,7 +25,7 @@ impl Checker<'_> {
         requires place { IsPlace types.old self.old }
         requires value { FormedAt self.old (value v.now) }
         ensures grown { Grown types.old types.new }
-        ensures entered { EnteredAt types.old self.old span (value v.now) result }
+        ensures entered { EnteredAt types.old types.new self.old span (value v.now) result }
         ensures known { (ts : List Ty) → known ts self.new.registers ≡ known ts self.old.registers }
         ensures sound { OnOk result (IsSound types.new self.new.registers) }
         ensures names { self.new.registers.names ≡ self.old.registers.names }

@@ -15,7 +15,7 @@ ghost use Rattle.t_check.specs.Verdict.{IsFieldOf, IsStored};
 use crate::checker::Checker;
 use idx_core::Span;
 use t_intern::Types;
-use t_mismatch::{Pair, Refusal, refused, types_at_odds};
+use t_mismatch::{Odds, Refusal, at_odds, refused};
 use t_registers::{exists_body, flag_of, is_int, tuple_of};
 use t_terms::{Base, End, Instr, TCode, Value};
 use t_types::TType;
@@ -75,7 +75,7 @@ impl Checker<'_> {
     // Whether the register is an integer.
     fn check_int(&self, types: &Types, r: u64, span: Span) -> Result<(), Refusal>
         requires { IsSound types.now self.now.registers }
-        ensures { IsInteger (known types.now self.now.registers) r span result }
+        ensures { IsInteger types.now (known types.now self.now.registers) r span result }
     {
         match self.registers.find(r) {
             Some(entry) => {
@@ -244,8 +244,8 @@ impl Checker<'_> {
     ) -> Result<bool, Refusal>
         requires { IsSound types.old self.now.registers }
         ensures grown { Grown types.old types.new }
-        ensures stored { IsStored self.now.registers.names (known types.old self.now.registers) rd field rs span
-            result }
+        ensures stored { IsStored types.new self.now.registers.names (known types.old self.now.registers) rd field rs
+            span result }
     {
         let (wanted, is_initialised) = self.field_of(types, rd, field, span)?;
         let source = match self.registers.find(rs) {
@@ -255,12 +255,12 @@ impl Checker<'_> {
         let found = self.registers.shown(types, source)?;
         if !types.fits_once(found, wanted) {
             let names = self.registers.names;
-            let pair = Pair {
+            let odds = Odds::Types {
                 wanted,
                 found,
                 names,
             };
-            return Err(types_at_odds(types, TCode::T13, span, pair));
+            return at_odds(TCode::T13, span, odds);
         }
         Ok(is_initialised)
     }
@@ -300,7 +300,7 @@ impl Checker<'_> {
         requires place { IsPlace types.old self.old }
         requires end { FormedEnd self.old.program.now self.old.registers.names (end_of end.now) }
         ensures grown { Grown types.old types.new }
-        ensures ended { EndedAt types.old self.old span (end_of end.now) result }
+        ensures ended { EndedAt types.old types.new self.old span (end_of end.now) result }
     {
         match end {
             End::Jmp(v) => self.check_target(types, v, span),
@@ -311,7 +311,7 @@ impl Checker<'_> {
     // Whether register 1 is an integer.
     fn check_halt(&self, types: &Types, span: Span) -> Result<(), Refusal>
         requires { IsSound types.now self.now.registers }
-        ensures { EndedAt types.now self.now span Halt result }
+        ensures { EndedAt types.now types.now self.now span Halt result }
     {
         match self.registers.find(1) {
             Some(entry) => {

@@ -12,26 +12,30 @@ ghost use Rattle.t_check.specs.Verdict.{program_in, FormedBlock, FormedDatum, Fo
 ghost use Rattle.t_check.specs.Verdict.{IsDatum, IsData, IsHeap, IsProgram};
 
 use crate::checker::Checker;
-use idx_core::{OutOfMemory, Salt, Span};
+use idx_core::{OutOfMemory, Span};
 use std::alloc::Global;
 use t_intern::Types;
-use t_mismatch::{Pair, Refusal, refused, types_at_odds};
+use t_mismatch::{Odds, Refusal, at_odds, refused};
 use t_registers::{Labels, Registers, code_parts};
 use t_terms::{Block, Data, TCode, TProgram, Value};
 use t_types::TType;
 
-// The first block takes nothing, and then each data tuple and each block.
-pub(crate) fn check_program(alloc: Global, program: &TProgram, salt: Salt) -> Result<(), Refusal>
-    ensures { IsProgram (spanned_program program.now) result }
+// The first block takes nothing, and then each data tuple and each block. The table is the caller's, who may ask what is
+// at odds.
+pub(crate) fn check_program(
+    alloc: Global,
+    types: &mut Types,
+    program: &TProgram,
+) -> Result<(), Refusal>
+    ensures { IsProgram (spanned_program program.now) types.new result }
 {
     let first = &program.blocks[0];
     if !takes_nothing(first) {
         return refused(TCode::T20, first.name);
     }
-    let mut types = Types::salted(alloc, salt);
-    let labels = Labels::of_program(alloc, &mut types, program)?;
-    check_heap(alloc, &mut types, program, &labels, &program.heap)?;
-    check_blocks(alloc, &mut types, program, &labels, &program.blocks)
+    let labels = Labels::of_program(alloc, types, program)?;
+    check_heap(alloc, types, program, &labels, &program.heap)?;
+    check_blocks(alloc, types, program, &labels, &program.blocks)
 }
 
 fn takes_nothing(block: &Block) -> bool
@@ -51,7 +55,7 @@ fn check_heap(
     requires heap { heap.now ≡ program.now.heap.items }
     requires labels { AreLabels types.old program.now labels.now }
     ensures grown { Grown types.old types.new }
-    ensures heap { IsHeap (program_of program.now) (spanned_heap heap.now) result }
+    ensures heap { IsHeap (program_of program.now) types.new (spanned_heap heap.now) result }
 {
     let checker = Checker {
         alloc,
@@ -75,7 +79,7 @@ fn check_blocks(
 ) -> Result<(), Refusal>
     requires blocks { blocks.now ≡ program.now.blocks.items }
     requires labels { AreLabels types.old program.now labels.now }
-    ensures { AreBlocks (program_of program.now) (spanned_blocks blocks.now) result }
+    ensures { AreBlocks (program_of program.now) types.new (spanned_blocks blocks.now) result }
 {
     for i in 0..blocks.len() {
         check_block(alloc, types, program, labels, &blocks[i], labels.blocks[i])?;
@@ -96,7 +100,7 @@ fn check_block(
     requires labels { AreLabels types.old program.now labels.now }
     requires code { IsNumber types.old (CodeTy block.now.owes (file block.now.regs.regs.items)) code }
     ensures grown { Grown types.old types.new }
-    ensures block { IsBlock (program_of program.now) (spanned block.now) result }
+    ensures block { IsBlock (program_of program.now) types.new (spanned block.now) result }
 {
     let registers = header(alloc, types, block, code)?;
     let mut checker = Checker {
@@ -137,7 +141,7 @@ impl Checker<'_> {
         requires names { self.now.registers.names ≡ 0 }
         requires formed { FormedData self.now.program.now (data_fields fields.now) }
         ensures grown { Grown types.old types.new }
-        ensures words { IsData (program_in self.now) (data_fields fields.now) result }
+        ensures words { IsData (program_in self.now) types.new (data_fields fields.now) result }
     {
         for field in fields {
             self.check_datum(types, field)?;
@@ -152,7 +156,7 @@ impl Checker<'_> {
         requires names { self.now.registers.names ≡ 0 }
         requires formed { FormedDatum self.now.program.now (datum field.now) }
         ensures grown { Grown types.old types.new }
-        ensures word { IsDatum (program_in self.now) (datum field.now) result }
+        ensures word { IsDatum (program_in self.now) types.new (datum field.now) result }
     {
         let found = self.type_of_value(types, &field.0, field.2)?;
         let wanted = types.number(&field.1)?;
@@ -160,11 +164,11 @@ impl Checker<'_> {
             return Ok(());
         }
         let names = 0;
-        let pair = Pair {
+        let odds = Odds::Types {
             wanted,
             found,
             names,
         };
-        Err(types_at_odds(types, TCode::T13, field.2, pair))
+        at_odds(TCode::T13, field.2, odds)
     }
 }

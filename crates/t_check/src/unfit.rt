@@ -9,8 +9,9 @@ ghost use Rattle.t_check.specs.Verdict.{IsRegFit, IsFileFit};
 
 use idx_core::Span;
 use t_intern::Types;
-use t_mismatch::{Refusal, Reg, register_at_odds};
+use t_mismatch::{Odds, Refusal, at_odds};
 use t_registers::{Registers, code_parts};
+use t_terms::TCode;
 
 // Whether each register of the code's file is known, by a type that fits.
 pub(crate) fn check_code(
@@ -24,7 +25,7 @@ pub(crate) fn check_code(
     requires code { (f : TFile) × (at types.old code ≡ CodeTy 0 f) }
     ensures grown { Grown types.old types.new }
     ensures fit { (f : TFile) → at types.old code ≡ CodeTy 0 f →
-        IsFileFit registers.now.names (known types.old registers.now) span f result }
+        IsFileFit types.new registers.now.names (known types.old registers.now) span f result }
 {
     match code_parts(types, code)? {
         Some(parts) => check_file(registers, types, &parts.regs, span),
@@ -41,8 +42,8 @@ fn check_file(
     requires sound { IsSound types.old registers.now }
     requires regs { RegsBelow (length types.old) regs.now }
     ensures grown { Grown types.old types.new }
-    ensures fit { IsFileFit registers.now.names (known types.old registers.now) span (regs_at types.old regs.now)
-        result }
+    ensures fit { IsFileFit types.new registers.now.names (known types.old registers.now) span
+        (regs_at types.old regs.now) result }
 {
     for reg in regs {
         check_reg(registers, types, reg.0, reg.1, span)?;
@@ -61,31 +62,31 @@ fn check_reg(
     requires sound { IsSound types.old registers.now }
     requires wanted { wanted < length types.old }
     ensures grown { Grown types.old types.new }
-    ensures fit { IsRegFit registers.now.names (known types.old registers.now) span register (at types.old wanted)
-        result }
+    ensures fit { IsRegFit types.new registers.now.names (known types.old registers.now) span register
+        (at types.old wanted) result }
 {
     let names = registers.names;
     let entry = match registers.find(register) {
         Some(entry) => entry,
         None => {
-            let missing = Reg {
+            let missing = Odds::Register {
                 register,
                 wanted,
                 found: None,
                 names,
             };
-            return Err(register_at_odds(types, span, missing));
+            return at_odds(TCode::T18, span, missing);
         }
     };
     let found = registers.shown(types, entry)?;
     if types.fits_once(found, wanted) {
         return Ok(());
     }
-    let unfit = Reg {
+    let unfit = Odds::Register {
         register,
         wanted,
         found: Some(found),
         names,
     };
-    Err(register_at_odds(types, span, unfit))
+    at_odds(TCode::T18, span, unfit)
 }

@@ -15,7 +15,7 @@ ghost use Rattle.t_check.specs.Verdict.{IsPacked};
 use crate::checker::Checker;
 use idx_core::{OutOfMemory, Span};
 use t_intern::{Shape, Types};
-use t_mismatch::{Pair, Refusal, no_package, refused, types_at_odds};
+use t_mismatch::{Odds, Refusal, at_odds, refused};
 use t_registers::{code_parts, exists_body, intern, owed};
 use t_terms::{Base, TCode, Value};
 use t_types::TType;
@@ -198,17 +198,20 @@ impl Checker<'_> {
         let shape = types.number(shape)?;
         let body = match exists_body(types, shape) {
             Some(body) => body,
-            None => return Err(no_package(types, span, shape, names)),
+            None => {
+                let found = shape;
+                return at_odds(TCode::T15, span, Odds::NoPackage { found, names });
+            }
         };
         let hidden = types.number(hidden)?;
         let wanted = types.put(body, 0, hidden)?;
         if !types.fits_once(found, wanted) {
-            let pair = Pair {
+            let odds = Odds::Types {
                 wanted,
                 found,
                 names,
             };
-            return Err(types_at_odds(types, TCode::T15, span, pair));
+            return at_odds(TCode::T15, span, odds);
         }
         Ok(shape)
     }

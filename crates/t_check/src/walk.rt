@@ -1,7 +1,7 @@
 // What typing knows at the places of an accepted program: how many type names are in scope, and the types of the
 // registers.
-ghost use Rattle.std.specs.Prelude.{◌≡◌, ◌↔◌, ◌≤◌, IsTrue, IfOk, OnOk, Some, None};
-ghost use Rattle.t_types.specs.Read.{file};
+ghost use Rattle.std.specs.Prelude.{◌≡◌, ◌↔◌, ◌≤◌, IsTrue, IfOk, OnOk, Some, None, option_map};
+ghost use Rattle.t_types.specs.Read.{file, tree};
 ghost use Rattle.t_types.specs.WellFormed.{max_names};
 ghost use Rattle.t_terms.specs.Tree.{TSeq, names_after};
 ghost use Rattle.t_terms.specs.Read.{instr};
@@ -13,7 +13,8 @@ ghost use Rattle.t_check.specs.Checked.{checked_program};
 ghost use Rattle.t_registers.specs.Known.{known, IsSound};
 ghost use Rattle.t_registers.specs.Labels.{AreLabels};
 ghost use Rattle.t_check.specs.Verdict.{FormedInstr, IsPlace, program_in};
-ghost use Rattle.t_check.specs.Walks.{IsFileOf, IsKnownFile, IsTyped, IsPassed, IsStand, IsStandAt, IsWalk, walked};
+ghost use Rattle.t_check.specs.Walks.{IsFileOf, IsKnownFile, IsKnownRegister, IsTyped, IsPassed, IsStand};
+ghost use Rattle.t_check.specs.Walks.{IsStandAt, IsWalk, walked};
 
 use crate::checked::Checked;
 use crate::checker::Checker;
@@ -26,7 +27,7 @@ use t_registers::{Labels, Registers};
 use t_rules::{no_fault_where_typed, places_go_on};
 use t_salt::salt_of;
 use t_terms::{Instr, TProgram};
-use t_types::RegFile;
+use t_types::{RegFile, TType};
 
 /// A place of a program, with what is known of the registers there.
 #[derive(Drop)]
@@ -65,8 +66,7 @@ impl Checker<'_> {
             Ok(()) => Ok(()),
             Err(Refusal::Memory) => Err(OutOfMemory),
             Err(Refusal::Refused { .. }) => unreachable!(),
-            Err(Refusal::AtOdds(_)) => unreachable!(),
-            Err(Refusal::Untold { .. }) => unreachable!(),
+            Err(Refusal::AtOdds { .. }) => unreachable!(),
         }
     }
 }
@@ -129,6 +129,20 @@ fn file_of(alloc: Global, types: &mut Types, registers: &Registers) -> Result<Re
     Ok(RegFile { regs })
 }
 
+// What is known of a register.
+fn type_of(types: &mut Types, registers: &Registers, r: u64) -> Result<Option<TType>, OutOfMemory>
+    requires { IsSound types.old registers.now }
+    ensures grown { Grown types.old types.new }
+    ensures found { IfOk result (λ found. option_map tree found ≡ known types.old registers.now r) }
+{
+    let Some(entry) = registers.find(r) else {
+        return Ok(None);
+    };
+    let n = registers.shown(types, entry)?;
+    let found = types.tree(n)?;
+    Ok(Some(found))
+}
+
 impl<'a> Walk<'a> {
     /// A walk that stands nowhere yet. An error of a walk is want of memory.
     pub fn new(alloc: Global, program: &'a Checked) -> Result<Walk<'a>, OutOfMemory>
@@ -176,14 +190,14 @@ impl<'a> Walk<'a> {
         })
     }
 
-    /// What is known before an instruction or the end of a block: how many type names are in scope, and the types of
-    /// the registers, as a file whose registers rise.
-    pub fn to(&mut self, block: u64, index: u64) -> Result<(u64, RegFile), OutOfMemory>
+    // Goes to a place, and stands nowhere: what stands there is handed out.
+    fn go(&mut self, block: u64, index: u64) -> Result<Stand, OutOfMemory>
         requires walk { IsWalk self.old }
         requires there { (c : TSeq) × (code_at (walked self.old) block index ≡ Some c) }
         ensures walk { IsWalk self.new }
         ensures program { self.new.program ≡ self.old.program }
-        ensures known { IfOk result (λ r. IsKnownFile (walked self.old) block index r.0 (file r.1.regs.items)) }
+        ensures stand { self.new.stand ≡ None }
+        ensures stands { IfOk result (IsStandAt self.new.types self.new.program.now block index) }
     {
         let stand = self.start(block, index)?;
         let stand = pass(
@@ -194,10 +208,45 @@ impl<'a> Walk<'a> {
             stand,
             index,
         )?;
+        Ok(stand)
+    }
+
+    /// What is known before an instruction or the end of a block: how many type names are in scope, and the types of
+    /// the registers, as a file whose registers rise.
+    pub fn to(&mut self, block: u64, index: u64) -> Result<(u64, RegFile), OutOfMemory>
+        requires walk { IsWalk self.old }
+        requires there { (c : TSeq) × (code_at (walked self.old) block index ≡ Some c) }
+        ensures walk { IsWalk self.new }
+        ensures program { self.new.program ≡ self.old.program }
+        ensures known { IfOk result (λ r. IsKnownFile (walked self.old) block index r.0 (file r.1.regs.items)) }
+    {
+        let stand = self.go(block, index)?;
         let regs = file_of(self.alloc, &mut self.types, &stand.registers)?;
         let vars = stand.registers.names;
         self.stand = Some(stand);
         Ok((vars, regs))
+    }
+
+    /// What is known of one register before an instruction or the end of a block: how many type names are in scope, and
+    /// the register's type, where it is known.
+    pub fn register(
+        &mut self,
+        block: u64,
+        index: u64,
+        r: u64,
+    ) -> Result<(u64, Option<TType>), OutOfMemory>
+        requires walk { IsWalk self.old }
+        requires there { (c : TSeq) × (code_at (walked self.old) block index ≡ Some c) }
+        ensures walk { IsWalk self.new }
+        ensures program { self.new.program ≡ self.old.program }
+        ensures known { IfOk result (λ x.
+            IsKnownRegister (walked self.old) block index r x.0 (option_map tree x.1)) }
+    {
+        let stand = self.go(block, index)?;
+        let found = type_of(&mut self.types, &stand.registers, r)?;
+        let vars = stand.registers.names;
+        self.stand = Some(stand);
+        Ok((vars, found))
     }
 }
 

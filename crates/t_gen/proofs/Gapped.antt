@@ -281,6 +281,17 @@ gap_next g h s f b k one on le at low = (le, k.only f b f at (omega arith) n.1, 
         (cases_lt o.0 s))
         (bool_cases (h r))
 
+-- so there is one
+pub gap_from : (g : BTreeMap ℕ ℕ) (h : ℕ → Bool) (s r : ℕ) → Gaps g h → 1 ≤ s → (s + 1 < 2 ^ 64 → h s ≡ true) →
+    s ≤ r → r + 1 < 2 ^ 64 → h r ≡ false → (a : ℕ) × (b : ℕ) × (get nat_cmp g a ≡ Some b) × (s ≤ a)
+gap_from g h s r k one on le lt z =
+    let o = k.found r (omega (arith, one, le)) lt z in
+    ⊎_elim
+    (λ (y : o.0 < s).
+    absurd (clash (on (omega (arith, le, lt))) (k.only o.0 o.1 s o.2 (omega (arith, y)) (omega (arith, le, o.4)))))
+    (λ (y : s ≤ o.0). (o.0, o.1, o.2, y))
+    (cases_lt o.0 s)
+
 not_gt : (a b : ℕ) → a ≤ b → is_gt (nat_cmp a b) ≡ false
 not_gt a b le = by_ranked (a < b) (a ≡ b) (b < a) (nat_cmp a b) (ranked a b (nat_cmp a b) refl)
     (λ e lt. ap is_gt e) (λ e same. ap is_gt e) (λ e gt. absurd (omega (arith, le, gt)))

@@ -6,7 +6,7 @@ use Rattle.std.proofs.lemmas.Bool.{eq-eqb, eqb-true, or_left, or_right, or_cases
 use Rattle.std.proofs.lemmas.Bool.{not-true as not_true}
 use Rattle.a_terms.specs.Tree as a
 use Rattle.a_uses.specs.Uses.{Listed, mem, Ending}
-use Rattle.a_uses.specs.declared.ahead.Ahead.{Ahead}
+use Rattle.a_uses.specs.declared.told.Ahead.{Ahead}
 use Rattle.a_uses.proofs.Sets.{or_none, listed_mem, or_more}
 use Rattle.gen_law.specs.Gen.{place, top, busy, picked, free, uses, uses_decl, used, target, rows}
 use Rattle.gen_law.specs.Registers.{Own}

@@ -24,7 +24,7 @@ use Rattle.a_scope.specs.Scope.{scope, homes, Under}
 use Rattle.a_scope.specs.declared.scope.Entry.{Entry}
 use Rattle.a_scope.proofs.Scopes.{homes_snoc}
 use Rattle.a_uses.specs.Uses.{Tells, Ending}
-use Rattle.a_uses.specs.declared.ahead.Ahead.{Ahead}
+use Rattle.a_uses.specs.declared.told.Ahead.{Ahead}
 use Rattle.t_gen.specs.declared.state.Place.{Place}
 use Rattle.t_gen.specs.Pending.{tops, job, jobs_at, pend, Fit, KeepsAll, Stepped}
 use Rattle.t_gen.specs.Keeps.{Keeps}

@@ -1,6 +1,7 @@
 -- The walk over the nodes of a body.
 use Rattle.std.proofs.Common.{◌≡◌, ℕ, suc, ◌+◌, ◌<◌, ◌++◌, List, [], ◌∷◌, length, take, drop, get_or, sym, ap}
 use Rattle.std.proofs.Common.{ap₂, ◌∙◌, subst, arith, length-append}
+use Rattle.std.specs.Prelude.{Bool}
 use Rattle.std.proofs.lemmas.List.{drop_more, nil_from_length as nil_from}
 use Rattle.idx_core.specs.declared.span.Span.{Span}
 use Rattle.t_terms.specs.Tree.{TBlock}
@@ -11,7 +12,8 @@ use Rattle.t_terms.proofs.Blocks.{blocks_count}
 use Rattle.t_emit.specs.Code.{onto}
 use Rattle.t_gen.specs.Filling.{finish}
 use Rattle.a_terms.specs.Tree as a
-use Rattle.a_terms.specs.NodeTrees.{a_values, a_build, a_onto, a_tree}
+use Rattle.a_terms.specs.NodeTrees.{a_values, a_build, a_onto, a_tree, no_term}
+use Rattle.a_terms.specs.Row.{top}
 use Rattle.a_terms.specs.Arity.{a_kids, AArity, ARow}
 use Rattle.a_terms.specs.declared.nodes.ANode.{ANode}
 use Rattle.a_scope.specs.Scope.{scope, homes, Under}
@@ -84,6 +86,14 @@ module _ (prog : a.AProg) (before rest : List ANode) (node : ANode) (es kept : L
   walk_keeps = keeps_cut (length (blocks_of o)) es kept p (tops qs) (a_onto (node ∷ rest) []) cut fits
       (subst (λ ks. KeepsAll es ks (a_onto (node ∷ rest) [])) is_tops
       (subst (λ ns. KeepsAll es (tops ps) (a_onto ns [])) is walked.keeps))
+
+  pub walk_held : (u : ℕ → Bool) × Keeps p.registers (homes kept) u
+  walk_held =
+      let u = used (top no_term (a_build node.form (a_values node.values.items) (a_onto rest []))) in (
+        u,
+        subst (λ (xs : List Entry). Keeps p.registers (homes xs) u) (whole kept p.vars (omega (arith, walk_count)))
+            walk_keeps.0,
+      )
 
   pub walk_goes : (fs : List Entry) (rs : List Place) (n : List Block) (d : List (Instr × Span)) →
       Stepped prog p (a_onto rest []) (a_build node.form (a_values node.values.items)) (a_kids node.form) kept fs qs rs

@@ -15,7 +15,7 @@ use Rattle.a_terms.specs.declared.nodes.ANode.{ANode}
 use Rattle.a_scope.specs.Scope.{scope, homes, Under}
 use Rattle.a_scope.specs.declared.scope.Entry.{Entry}
 use Rattle.a_uses.specs.Uses.{Listed, mem}
-use Rattle.a_uses.specs.declared.ahead.Ahead.{Ahead}
+use Rattle.a_uses.specs.declared.told.Ahead.{Ahead}
 use Rattle.gen_law.specs.Gen.{used, uses}
 use Rattle.t_gen.specs.Keeps.{Keeps}
 use Rattle.t_gen.specs.declared.state.Place.{Place}

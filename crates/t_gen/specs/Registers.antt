@@ -5,7 +5,8 @@ use Rattle.std.specs.BTreeSet.{contains}
 use Rattle.std.specs.BTreeMap.{BTreeMap, get}
 use Rattle.t_gen.specs.declared.registers.Registers.{Registers}
 
--- the registers from 1 on of which h is false are in one gap each, and the others in none
+-- the registers from 1 on of which h is false, but for the last one of 64 bits, are in one gap each, and the others in
+-- none
 pub record Gaps (g : BTreeMap ℕ ℕ) (h : ℕ → Bool) : Type 0 where
   pub ends : (a b : ℕ) → get nat_cmp g a ≡ Some b → (1 ≤ a) × (a < b) × (b < 2 ^ 64)
   pub only : (a b r : ℕ) → get nat_cmp g a ≡ Some b → a ≤ r → r < b → h r ≡ false
@@ -29,3 +30,7 @@ Least s f h = (s ≤ f) × (h f ≡ false) × ((r : ℕ) → s ≤ r → r < f �
 -- t is the last register that h is true of, or 0
 abbrev pub Greatest : ℕ → (ℕ → Bool) → Type 0
 Greatest t h = ((t ≡ 0) ⊎ (h t ≡ true)) × ((r : ℕ) → t < r → h r ≡ false)
+
+-- there is a register from a on that holds nothing, and it is not the last one of 64 bits
+abbrev pub Room : Registers → ℕ → Type 0
+Room s a = (h : ℕ → Bool) × (r : ℕ) × Holds s h × (a ≤ r) × (r + 1 < 2 ^ 64) × (h r ≡ false)

@@ -133,14 +133,14 @@ pub fn choose(
 ) -> Result<u64, OutOfMemory>
     requires form { is_decl form.now ≡ true }
     requires arity { AArity form.now (a_values values.now) }
+    requires held { (u : ℕ → Bool) × Keeps registers.old (homes vars.now) u }
     ensures { IfOk result (λ rd. (e : ATm) → Ending (a_decl form.now (a_values values.now)) e ahead.now
         → Keeps registers.old (homes vars.now) (used (Let (a_decl form.now (a_values values.now)) e))
         → (rd ≡ the_target (homes vars.now) (a_decl form.now (a_values values.now)) e)
         × Keeps registers.new (rd ∷ homes vars.now) (used e)) }
 {
     release_all(registers, vars, &ahead.gone, stored(form, values))?;
-    let from = after(ahead.arguments)?;
-    let free = registers.pick(ahead.wanted, from)?;
+    let free = registers.pick(ahead.wanted, ahead.arguments + 1);
     let rd = target(vars, form, values, ahead.both, free);
     release_all(registers, vars, &ahead.gone, None)?;
     take_if(registers, rd, ahead.new)?;

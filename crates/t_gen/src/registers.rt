@@ -5,14 +5,15 @@ ghost use Rattle.std.specs.Prelude.{IfOk, OnOk, IfSome, IfNone};
 ghost use Rattle.std.specs.Ordering.{nat_cmp};
 ghost use Rattle.std.specs.BTreeMap.{get};
 ghost use Rattle.gen_law.specs.Gen.{busy, picked};
-ghost use Rattle.t_gen.specs.Registers.{Holds, Gaps, Besides, Greatest, Least};
+ghost use Rattle.t_gen.specs.Registers.{Holds, Gaps, Besides, Greatest, Least, Room};
 
 use idx_core::OutOfMemory;
 use std::alloc::Global;
 use std::collections::{BTreeMap, BTreeSet};
 
 /// Registers from 1 on: those that hold something, and the gaps between them, each as its first register and the one
-/// after its last. So the least one from any register on that holds nothing is found in logarithmic time.
+/// after its last. So the least one from any register on that holds nothing is found in logarithmic time. Register
+/// 2^64 - 1 is in no gap.
 #[derive(Drop)]
 pub struct Registers {
     pub busy: BTreeSet<u64>,
@@ -41,16 +42,15 @@ impl Registers {
         }
     }
 
-    // The least register from `from` on that holds nothing. An error says that there is none.
-    fn least(&self, from: u64) -> Result<u64, OutOfMemory>
-        ensures { IfOk result (λ f. (h : ℕ → Bool) → Holds self.now h → 1 ≤ from → Least from f h) }
+    // The least register from `from` on that holds nothing.
+    fn least(&self, from: u64) -> u64
+        requires one { 1 ≤ from }
+        requires room { Room self.now from }
+        ensures { (h : ℕ → Bool) → Holds self.now h → Least from result h }
     {
         match gap_of(&self.gaps, from) {
-            Some(_) => Ok(from),
-            None => {
-                let first = first_from(&self.gaps, from)?;
-                Ok(first)
-            }
+            Some(_) => from,
+            None => first_from(&self.gaps, from),
         }
     }
 
@@ -64,17 +64,16 @@ impl Registers {
         !self.busy.contains(&r)
     }
 
-    /// Register `wanted`, if it is one and holds nothing, or else the least one from `from` on that holds nothing. An
-    /// error says that there is none.
-    pub fn pick(&self, wanted: u64, from: u64) -> Result<u64, OutOfMemory>
-        ensures { IfOk result (λ f. (m : List ℕ) (u : ℕ → Bool) → Holds self.now (λ r. busy r m u) → 1 ≤ from
-            → f ≡ picked wanted from m u) }
+    /// Register `wanted`, if it is one and holds nothing, or else the least one from `from` on that holds nothing.
+    pub fn pick(&self, wanted: u64, from: u64) -> u64
+        requires one { 1 ≤ from }
+        requires room { Room self.now from }
+        ensures { (m : List ℕ) (u : ℕ → Bool) → Holds self.now (λ r. busy r m u) → result ≡ picked wanted from m u }
     {
         if self.is_free(wanted) {
-            return Ok(wanted);
+            return wanted;
         }
-        let first = self.least(from)?;
-        Ok(first)
+        self.least(from)
     }
 
     /// Register r holds nothing any more. An error is want of memory.
@@ -86,7 +85,8 @@ impl Registers {
         }
         if self.busy.remove(&r) {
             let Some(end) = r.checked_add(1) else {
-                return Err(OutOfMemory);
+                // The last register is in no gap.
+                return Ok(());
             };
             put_gap(&mut self.gaps, r, end)?;
         }
@@ -139,17 +139,15 @@ fn last_up_to(gaps: &BTreeMap<u64, u64>, r: u64) -> Option<(u64, u64)>
     Some((*first, *end))
 }
 
-// The first register of the first gap that begins at register r or after it. An error says that there is none.
-fn first_from(gaps: &BTreeMap<u64, u64>, r: u64) -> Result<u64, OutOfMemory>
-    ensures { IfOk result (λ f. (r ≤ f) × ((b : ℕ) × (get nat_cmp gaps.now f ≡ Some b))
-        × ((a b : ℕ) → get nat_cmp gaps.now a ≡ Some b → r ≤ a → f ≤ a)) }
+// The first register of the first gap that begins at register r or after it.
+fn first_from(gaps: &BTreeMap<u64, u64>, r: u64) -> u64
+    requires some { (a : ℕ) × (b : ℕ) × (get nat_cmp gaps.now a ≡ Some b) × (r ≤ a) }
+    ensures { (r ≤ result) × ((b : ℕ) × (get nat_cmp gaps.now result ≡ Some b))
+        × ((a b : ℕ) → get nat_cmp gaps.now a ≡ Some b → r ≤ a → result ≤ a) }
 {
     match gaps.range(r..).next() {
-        Some((first, _)) => {
-            let first = *first;
-            Ok(first)
-        }
-        None => Err(OutOfMemory),
+        Some((first, _)) => *first,
+        None => unreachable!(),
     }
 }
 

@@ -1,5 +1,5 @@
 // One node.
-ghost use Rattle.std.specs.Prelude.{◌≡◌, ◌<◌, ℕ, List, ◌∷◌, true, length, OnOk};
+ghost use Rattle.std.specs.Prelude.{◌≡◌, ◌<◌, ℕ, List, ◌∷◌, Bool, true, length, OnOk};
 ghost use Rattle.t_terms.specs.Read.{blocks_of};
 ghost use Rattle.t_terms.specs.declared.block.Block.{Block as TheBlock};
 ghost use Rattle.a_terms.specs.Tree.{ATm, Call, If0, Halt, AProg};
@@ -8,7 +8,9 @@ ghost use Rattle.a_terms.specs.NodeTrees.{a_values, a_build, a_decl, a_let, is_d
 ghost use Rattle.a_terms.specs.Arity.{a_kids, AArity};
 ghost use Rattle.a_terms.specs.Row.{IsOne, IsSome, top, others};
 ghost use Rattle.a_terms.specs.Program.{program_in};
+ghost use Rattle.a_scope.specs.Scope.{homes};
 ghost use Rattle.a_uses.specs.Uses.{Ending, Tells};
+ghost use Rattle.t_gen.specs.Keeps.{Keeps};
 ghost use Rattle.t_gen.specs.Pending.{tops, Fit, KeepsAll, Parting, Ready, Stepped};
 
 use crate::choosing::{above, choose, registers_of, release_all};
@@ -39,6 +41,7 @@ fn step_let<'a>(
     requires vars { place.vars ≡ length walk.old.vars.items }
     requires fit { (b : ℕ) × Fit b walk.old.vars.items (length walk.old.vars.items)
         (place ∷ tops walk.old.places.items) }
+    requires held { (u : ℕ → Bool) × Keeps place.registers (homes walk.old.vars.items) u }
     ensures { OnOk result ((o : List TheBlock) (ts : List ATm)
         → Ending (a_decl form.now (a_values values.now)) (top no_term ts) ahead.now
         → Ready o walk.old.vars.items place walk.old.places.items
@@ -190,6 +193,7 @@ pub fn step<'a>(
     requires arity { AArity node.now.form (a_values node.now.values.items) }
     requires vars { place.vars ≡ length walk.old.vars.items }
     requires fit { Ready out.old.items walk.old.vars.items place walk.old.places.items }
+    requires held { (u : ℕ → Bool) × Keeps place.registers (homes walk.old.vars.items) u }
     ensures { OnOk result ((ts : List ATm) → Tells node.now.form (a_values node.now.values.items) ts ahead.now
         → KeepsAll walk.old.vars.items (place ∷ tops walk.old.places.items)
         (a_build node.now.form (a_values node.now.values.items) ts)

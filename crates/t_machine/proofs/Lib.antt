@@ -1,5 +1,6 @@
 pub mod Loads
 pub mod Tidying
+pub mod There
 pub mod Tuples
 pub mod Addresses
 pub mod Registers
@@ -19,6 +20,7 @@ pub mod FieldsShown
 pub mod Found
 pub mod Asking
 pub mod Capped
+pub mod Counting
 pub mod Covering
 pub mod Dropping
 pub mod Regained

@@ -68,13 +68,16 @@ module _ (laws : ProgramLaws) (P : TProg) (m : ℕ) (x : Heap) (ws : List Word) 
   blocks : List ESeq
   blocks = erase_blocks P
 
-  here : Within 0 (erase_blocks P) s.block s.index at
+  pub here : Within 0 (erase_blocks P) s.block s.index at
   here =
       let stands = stood_stands laws P m (erase_blocks P) (numbers x) x.fixed (made x) s.tuples (held_in code.places ws)
       s.rest (Spot s.block s.index) s.erased in
       let begun = subst (λ (es : List ℕ). slice_get es s.block ≡ Some s.start) s.laid.0 s.entered in
       subst (Within 0 (erase_blocks P) s.block s.index) (sym s.placed) (within_at 0
       (erase_blocks P) s.block s.index s.start s.rest begun stands)
+
+  pub stands_at : (t : State) (p : Place) → After P m t p → p ≡ Spot s.block s.index
+  stands_at t p run = (laws.one P m t s.erased.erased.1.0 p (Spot s.block s.index) run s.erased.erased.1.1).1
 
   less : at < sizes (erase_blocks P)
   less = let lt = within_less 0 (erase_blocks P) s.block s.index at here in omega (arith, lt)
@@ -98,8 +101,7 @@ module _ (laws : ProgramLaws) (P : TProg) (m : ℕ) (x : Heap) (ws : List Word) 
       let f = subst (λ (es : List ℕ). IsBlockAt es at b) s.laid.0 found in
       let w = found_in 0 (erase_blocks P) b at f.there f.begun f.next (omega (arith, less)) in
       let same = read_back (erase_blocks P) s.block b s.index (at - begin_at (begins 0 (erase_blocks P)) b) at here w in
-      let one = laws.one P m t s.erased.erased.1.0 p (Spot s.block s.index) run s.erased.erased.1.1 in
-      one.1 ∙ ap₂ Spot same.0 (same.1 ∙ ap (λ (es : List ℕ). at - begin_at es b) (sym s.laid.0))
+      stands_at t p run ∙ ap₂ Spot same.0 (same.1 ∙ ap (λ (es : List ℕ). at - begin_at es b) (sym s.laid.0))
 
   -- the words of the registers, where a tuple has the number that it has in the program's states
   abbrev shown_in : ERegs

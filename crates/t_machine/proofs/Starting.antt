@@ -42,21 +42,18 @@ replicate_count : (n : ℕ) (w : Word) → length (replicate n w) ≡ n
 replicate_count zero w = refl
 replicate_count (suc n) w = ap suc (replicate_count n w)
 
-abbrev no_words : List Word
-no_words = []
-
-take_none : (n : ℕ) → take n no_words ≡ no_words
-take_none zero = refl
-take_none (suc n) = refl
+take_none : (T : Type 0) (n : ℕ) → take {A = T} n [] ≡ []
+take_none T zero = refl
+take_none T (suc n) = refl
 
 -- a vector that was empty, after it was filled up
-pub filled_up : (n k : ℕ) (xs ys : List Word) → xs ≡ [] → k ≡ 0 → ys ≡ take n xs ++ replicate (n - k) (Empty 0) →
-    ys ≡ replicate n (Empty 0)
-filled_up n k xs ys e z is =
+pub filled_up : {T : Type 0} (w : T) (n k : ℕ) (xs ys : List T) → xs ≡ [] → k ≡ 0 →
+    ys ≡ take n xs ++ replicate (n - k) w → ys ≡ replicate n w
+filled_up {T} w n k xs ys e z is =
     let whole : n - k ≡ n = omega arith in
-    is ∙ ap (λ us. take n us ++ replicate (n - k) (Empty 0)) e
-    ∙ ap (λ us. us ++ replicate (n - k) (Empty 0)) (take_none n)
-    ∙ ap (λ j. replicate j (Empty 0)) whole
+    is ∙ ap (λ us. take n us ++ replicate (n - k) w) e
+    ∙ ap (λ us. us ++ replicate (n - k) w) (take_none T n)
+    ∙ ap (λ j. replicate j w) whole
 
 -- what is in range is there
 first_there : (bs : List TBlock) → 1 ≤ length bs → (b : TBlock) × (slice_get bs 0 ≡ Some b)
@@ -201,5 +198,5 @@ starts laws p some lent same code is laid places n count x tuples all heap fresh
     (subst (λ (ys : List Data). IsHeap x (tuples_of ys)) all heap) fresh
     (subst (λ zs. AllStarted zs (cells_of x.cells)) begun in_heap)
     (subst (λ zs. AllStarted zs (all_moved code.instructions.items)) begun in_code)
-    (filled_up n k xs ws none none_kept words ∙ ap (λ j. replicate j (Empty 0)) count)
+    (filled_up (Empty 0) n k xs ws none none_kept words ∙ ap (λ j. replicate j (Empty 0)) count)
     (slice_get_read code.entries.items (length code.entries.items) 0 at refl entries entry)

@@ -15,4 +15,6 @@ pub mod Runs
 pub mod Seldom
 pub mod State
 pub mod Steps
+pub mod Tables
+pub mod Went
 pub mod Words

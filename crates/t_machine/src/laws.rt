@@ -4,6 +4,7 @@ ghost use Rattle.t_machine.specs.ProgramLaws.{ProgramLaws};
 ghost use Rattle.t_machine.specs.Room.{StepsMakeWhatTheyAsk, StepsAreCovered, RestIsCovered};
 ghost use Rattle.t_machine.specs.Runs.{HaltedExactly, SpentExactly, FirstRuns};
 ghost use Rattle.t_machine.specs.Seldom.{SeldomRunsAreCovered};
+ghost use Rattle.t_machine.specs.Tables.{FirstCounts};
 
 use keep_law::{kept_states_drop, kept_states_follow};
 use t_rules::{
@@ -39,6 +40,11 @@ pub fn runs_answer_exactly()
 /// its state after all of them is neither halted nor stuck.
 pub fn first_runs_tell()
     ensures { FirstRuns }
+{}
+
+/// What a first run counts is how often each place is executed in all steps from the start.
+pub fn first_counts_are_times()
+    ensures { FirstCounts }
 {}
 
 /// What a single step allocates, and so what has to be spare for it: one tuple and `k` fields at a `malloc` of `k`

@@ -18,8 +18,8 @@ mod starts;
 mod word;
 
 pub use laws::{
-    first_runs_tell, places_are_read_back, runs_answer_exactly, seldom_runs_are_covered,
-    steps_allocate_what_they_ask, the_rest_is_covered,
+    first_counts_are_times, first_runs_tell, places_are_read_back, runs_answer_exactly,
+    seldom_runs_are_covered, steps_allocate_what_they_ask, the_rest_is_covered,
 };
 pub use loading::load;
-pub use machine::{Machine, Ran};
+pub use machine::{Counted, Machine, Ran};

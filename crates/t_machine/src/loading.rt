@@ -1,9 +1,11 @@
 // Loading: registers get places, and types and packages are left out.
-ghost use Rattle.std.specs.Prelude.{◌≡◌, ℕ, ◌+◌, List, [], ◌∷◌, ◌++◌, map, slice_index, IfOk, OnOk};
+ghost use Rattle.std.specs.Prelude.{◌≡◌, ℕ, ◌+◌, List, [], ◌∷◌, ◌++◌, length, map, slice_index, IfOk, OnOk};
 ghost use Rattle.t_terms.specs.Read.{base as base_tree, value as value_tree, instr as instr_tree, end_of};
 ghost use Rattle.t_terms.specs.Read.{block as block_tree, blocks_of, data_fields, data_of};
 ghost use Rattle.t_terms.specs.ReadProgram.{program as program_of};
 ghost use Rattle.t_terms.specs.Spanned.{plain_fields};
+ghost use Rattle.t_terms.specs.Whole.{WellFormedValue, WellFormedInstr, WellFormedBlock, WellFormedBlocks};
+ghost use Rattle.t_terms.specs.Whole.{WellFormedData, WellFormedHeap};
 ghost use Rattle.t_check.specs.Checked.{checked_program};
 ghost use Rattle.t_rules.specs.Erase.{ESeq, EHeap, ELd, EMov, ESt, erase_blocks, base_word, no_ewords, held};
 ghost use Rattle.t_rules.specs.Erase.{erase_value, erase_instr, erase_end, erase_block, erase_datum};
@@ -59,8 +61,10 @@ pub fn load(alloc: Global, program: &Checked) -> Result<Machine, OutOfMemory>
     })
 }
 
-// The data tuples, one after the other.
+// The data tuples, one after the other. Here, and in what is called below, a program is whole that has as many data
+// tuples as there are starts: so each that is named is there.
 fn load_heap(alloc: Global, tuples: &[Data], starts: &[u32]) -> Result<Heap, OutOfMemory>
+    requires { (p : ℕ) × WellFormedHeap p (length starts.now) (data_of tuples.now) }
     ensures heap { IfOk result (λ x. IsHeap x (map (map erase_datum) (data_of tuples.now))) }
     ensures started { IfOk result (λ x. AllStarted starts.now (cells_of x.cells)) }
     ensures fresh { IfOk result IsFresh }
@@ -80,6 +84,7 @@ fn load_tuple(
     fields: &[(Value, TType, Span)],
     starts: &[u32],
 ) -> Result<(), OutOfMemory>
+    requires { (p : ℕ) × WellFormedData p (length starts.now) (plain_fields (data_fields fields.now)) }
     ensures heap { OnOk result ((h : EHeap) → IsHeap heap.old h →
         IsHeap heap.new (h ++ map erase_datum (plain_fields (data_fields fields.now)) ∷ [])) }
     ensures started { OnOk result (AllStarted starts.now (cells_of heap.old.cells) →
@@ -98,6 +103,7 @@ fn load_tuple(
 
 // The word of a value of data, which names no register.
 fn load_word(v: &Value, starts: &[u32]) -> Result<Word, OutOfMemory>
+    requires { (p : ℕ) × (n : ℕ) × WellFormedValue p (length starts.now) n (value_tree v.now) }
     ensures same { IfOk result (λ w. word w ≡ held (base_word no_ewords (erase_value (value_tree v.now)))) }
     ensures started { IfOk result (Started starts.now) }
 {
@@ -114,6 +120,7 @@ fn load_word(v: &Value, starts: &[u32]) -> Result<Word, OutOfMemory>
 
 // The code of the blocks.
 fn load_blocks(alloc: Global, blocks: &[Block], starts: &[u32]) -> Result<Code, OutOfMemory>
+    requires { (p : ℕ) × WellFormedBlocks p (length starts.now) (blocks_of blocks.now) }
     ensures code { IfOk result (λ x. IsCode x (map erase_block (blocks_of blocks.now))) }
     ensures laid { IfOk result (λ x. IsLaid x (map erase_block (blocks_of blocks.now))) }
     ensures named { IfOk result (λ x. IsNamed x (map erase_block (blocks_of blocks.now))) }
@@ -161,6 +168,7 @@ fn block_end(start: usize, block: &Block) -> Result<usize, OutOfMemory>
 
 // Puts a block after the blocks of the code.
 fn load_block(code: &mut Code, block: &Block, starts: &[u32]) -> Result<(), OutOfMemory>
+    requires { (p : ℕ) × WellFormedBlock p (length starts.now) (block_tree block.now) }
     ensures filled { OnOk result ((cs : List ESeq) → IsFilled code.old cs →
         IsFilled code.new (cs ++ erase_block (block_tree block.now) ∷ [])) }
     ensures entries { OnOk result (code.new.entries.items ≡ code.old.entries.items) }
@@ -183,6 +191,7 @@ fn load_instr(
     starts: &[u32],
     i: &Instr,
 ) -> Result<Instruction, OutOfMemory>
+    requires { (p : ℕ) × (n : ℕ) × WellFormedInstr p (length starts.now) n (instr_tree i.now) }
     ensures same { IfOk result (λ o. IsInstr places.new entries.now (action o) (erase_instr (instr_tree i.now))) }
     ensures kept { OnOk result (Extends places.old places.new) }
     ensures named { OnOk result (Adds places.old places.new (InInstr (erase_instr (instr_tree i.now)))) }
@@ -249,6 +258,7 @@ fn load_move(
     rd: u64,
     v: &Value,
 ) -> Result<Instruction, OutOfMemory>
+    requires { (p : ℕ) × (n : ℕ) × WellFormedValue p (length starts.now) n (value_tree v.now) }
     ensures same { IfOk result (λ o. (es : List ℕ) →
         IsInstr places.new es (action o) (EMov rd (erase_value (value_tree v.now)))) }
     ensures kept { OnOk result (Extends places.old places.new) }
@@ -281,6 +291,7 @@ fn load_end(places: &mut Places, entries: &[usize], end: &End) -> Result<Instruc
 }
 
 fn load_value(places: &mut Places, starts: &[u32], v: &Value) -> Result<Operand, OutOfMemory>
+    requires { (p : ℕ) × (n : ℕ) × WellFormedValue p (length starts.now) n (value_tree v.now) }
     ensures same { IfOk result (λ o. IsBase places.new o (erase_value (value_tree v.now))) }
     ensures kept { OnOk result (Extends places.old places.new) }
     ensures named { OnOk result (Adds places.old places.new (InBase (erase_value (value_tree v.now)))) }

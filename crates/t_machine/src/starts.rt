@@ -1,5 +1,5 @@
 // Where the data tuples start among the cells of the heap.
-ghost use Rattle.std.specs.Prelude.{◌≡◌, ◌+◌, map, slice_get, Some, IfOk};
+ghost use Rattle.std.specs.Prelude.{◌≡◌, ◌+◌, ◌<◌, length, map, slice_get, Some, IfOk};
 ghost use Rattle.t_terms.specs.Read.{data_of};
 ghost use Rattle.t_rules.specs.Erase.{erase_datum};
 ghost use Rattle.t_collect.specs.Tuples.{starts_from};
@@ -33,15 +33,13 @@ pub(crate) fn sum(left: u32, right: usize) -> Result<u32, OutOfMemory>
     Ok(left + right as u32)
 }
 
-// The address of a data tuple. No accepted program has that of another tuple, for which memory is wanted.
+// The address of a data tuple. It has a number of 32 bits: for more tuples memory is wanted.
 pub(crate) fn data_address(starts: &[u32], tuple: u64) -> Result<u64, OutOfMemory>
+    requires { tuple < length starts.now }
     ensures { IfOk result (λ a. (tuple_of a ≡ tuple) × (slice_get starts.now (tuple_of a) ≡ Some (start_of a))) }
 {
     if tuple > u32::MAX as u64 {
         return Err(OutOfMemory);
     }
-    match starts.get(tuple as usize) {
-        Some(start) => Ok(address_of(tuple as u32, *start)),
-        None => Err(OutOfMemory),
-    }
+    Ok(address_of(tuple as u32, starts[tuple as usize]))
 }

@@ -1,5 +1,5 @@
 -- The first fault of a program, with what is at odds in it, beside the first fault alone.
-use Rattle.std.proofs.Common.{◌≡◌, ℕ, List, [], ◌∷◌, Option, Some, refl, sym, ap, ◌∙◌, subst, inl, inr}
+use Rattle.std.proofs.Common.{◌≡◌, ℕ, List, [], ◌∷◌, Option, refl, sym, ap, ◌∙◌, subst, inl, inr}
 use Rattle.idx_core.specs.declared.span.Span.{Span}
 use Rattle.text_core.specs.Refusals.{nothing, refuse, check}
 use Rattle.text_core.proofs.Refusals.{Clear, clear_nothing, clear_check, clear_part}
@@ -18,8 +18,9 @@ use Rattle.t_rules.specs.Faults.{BaseFault, ValueFault, EnterFault, InstrFault, 
 use Rattle.t_rules.specs.Faults.{DatumFault, DataFault, HeapFault, FirstBlockFault, ProgramFault}
 use Rattle.t_rules.proofs.OneType.{base_one, has_one, typed_one}
 use Rattle.t_rules.proofs.Faulty.{no_fault_typed}
-use Rattle.t_mismatch.specs.Mismatch.{KnownFits, Mismatch, Note, Register, BaseFaultWith, ValueFaultWith, FileFaultWith}
-use Rattle.t_mismatch.specs.Mismatch.{EnterFaultWith, InstrFaultWith, EndFaultWith, BodyFaultWith, BlocksFaultWith}
+use Rattle.t_mismatch.specs.Mismatch.{KnownFits, Mismatch, told, Note, Register, BaseFaultWith, ValueFaultWith}
+use Rattle.t_mismatch.specs.Mismatch.{FileFaultWith, EnterFaultWith, InstrFaultWith, EndFaultWith, BodyFaultWith}
+use Rattle.t_mismatch.specs.Mismatch.{BlocksFaultWith}
 use Rattle.t_mismatch.specs.Mismatch.{DatumFaultWith, DataFaultWith, HeapFaultWith, FirstBlockFaultWith, ProgramNoted}
 use Rattle.t_mismatch.specs.Mismatch.{MismatchIsOfTheFault, EachFaultSays, AtMostOneMismatch}
 use Rattle.t_rules.proofs.Settled.{Decided}
@@ -49,7 +50,7 @@ module _ (n : ℕ) (g : RegTypes) (s : Span) where
       pick : Decided (KnownFits g r t) → ((FitsFile g file → ⊥) →
           (m : Option Mismatch) × FileFaultWith n g s file (T18, m) s) →
           (m : Option Mismatch) × FileFaultWith n g s (MoreRegs r t file) (T18, m) s
-      pick (inr fails) go = (Some (Register r t (g r) n), inl (fails, (refl, refl)))
+      pick (inr fails) go = (told (Register r t (g r) n), inl (fails, (refl, refl)))
       pick (inl fits) go = let rest = go (λ k. none (fits, k)) in (rest.0, inr (fits, rest.1))
 
   file_says : (file : TFile) (c : TCode) (p : Span) → Unfit file c p →

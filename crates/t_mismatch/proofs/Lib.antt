@@ -1,3 +1,4 @@
+mod Counted
 mod Beside
 mod Decided
 pub mod FirstWith

@@ -8,7 +8,8 @@ use Rattle.t_terms.specs.Tree.{Reg, Int, Label, Plain, Pack, Arith, Malloc, Mov,
 use Rattle.t_terms.specs.Spanned.{SProg}
 use Rattle.t_terms.specs.declared.fault.TCode.TheVariants.{T08, T13, T15, T18}
 use Rattle.t_rules.proofs.Rows.{span, block, only, no_fit, unfit}
-use Rattle.t_mismatch.specs.Mismatch.{Types, NoPackage, Register, ProgramFaultWith}
+use Rattle.t_mismatch.specs.Mismatch.{Types, NoPackage, Register, told, ProgramFaultWith}
+use Rattle.t_mismatch.specs.Nodes.{few}
 
 -- A tuple is stored where an integer is wanted.
 -- tal 1 | L0: code[]{}. malloc r1[int] mov r2, r1 st r1[0], r2 halt[int]
@@ -20,6 +21,7 @@ stored = only (
 
 stored_says : ProgramFaultWith stored T13 (span 46 58)
     (Some (Types IntTy (TupleTy (MoreFields IntTy false NoFields)) 0))
+unfolding told few
 stored_says = inr (
   (refl, refl),
   inr (
@@ -48,6 +50,7 @@ word = record {
 }
 
 word_says : ProgramFaultWith word T13 (span 16 17) (Some (Types (TupleTy NoFields) IntTy 0))
+unfolding told few
 word_says = inr (
   (refl, refl),
   inl (inl (inl (inr (
@@ -68,6 +71,7 @@ packed = only (
 
 packed_says : ProgramFaultWith packed T15 (span 20 56)
     (Some (Types (TupleTy (MoreFields IntTy true NoFields)) IntTy 0))
+unfolding told few
 packed_says = inr (
   (refl, refl),
   inr (
@@ -88,6 +92,7 @@ no_package_type = only (
     ∷ [])
 
 no_package_type_says : ProgramFaultWith no_package_type T15 (span 20 46) (Some (NoPackage IntTy 0))
+unfolding told few
 no_package_type_says = inr ((refl, refl), inr (tt, tt, inl (inl (inr (_, refl, (refl, refl))))))
 
 -- The first register of the target's file fits, and the second is missing, as the third is.
@@ -99,6 +104,7 @@ missing = only (
     ∷ block (span 37 39) 0 (MoreRegs 1 IntTy (MoreRegs 2 IntTy (MoreRegs 3 IntTy NoRegs))) [] Halt (span 73 82) ∷ [])
 
 missing_says : ProgramFaultWith missing T18 (span 30 36) (Some (Register 2 IntTy None 0))
+unfolding told few
 missing_says = inr (
   (refl, refl),
   inr (
@@ -127,6 +133,7 @@ hidden_type_escapes = only (
 
 hidden_type_escapes_says : ProgramFaultWith hidden_type_escapes T18 (span 100 106)
     (Some (Register 1 (VarTy 1) (Some (VarTy 0)) 2))
+unfolding told few
 hidden_type_escapes_says = inr (
   (refl, refl),
   inr (

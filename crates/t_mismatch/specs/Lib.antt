@@ -1,3 +1,4 @@
+pub mod Nodes
 pub mod Mismatch
 pub mod ReadMismatch
 pub mod Refusals

@@ -1,6 +1,7 @@
 -- The first fault of typing with what is at odds in it: the recursion of `ProgramFault`, with its premises. T13, T15
--- and T18 say besides which type was wanted and which was found, and every other fault says no more than its code.
-use Rattle.std.specs.Prelude.{◌≡◌, ℕ, ◌≤◌, Bool, true, List, [], ◌∷◌, length, Option, Some, None}
+-- and T18 say besides which type was wanted and which was found, where these types have few nodes; every other fault
+-- says no more than its code.
+use Rattle.std.specs.Prelude.{◌≡◌, ℕ, ◌≤◌, Bool, true, ◌&&◌, if◌then◌else◌, List, [], ◌∷◌, length, Option, Some, None}
 use Rattle.idx_core.specs.declared.span.Span.{Span}
 use Rattle.text_core.specs.Refusals.{Refusal, nothing, refuse, check, part, if_known}
 use Rattle.t_types.specs.Tree.{Ty, IntTy, VarTy, CodeTy, ExistsTy, TupleTy, TFile, NoRegs, MoreRegs, TFields, put}
@@ -17,6 +18,7 @@ use Rattle.t_rules.specs.Faults.{ProgramFault}
 use Rattle.t_rules.specs.Registers.{no_types}
 use Rattle.t_rules.specs.Rules.{BaseHas, Has, Typed, BlockAccepted, DatumAccepted, DataAccepted, HeapAccepted}
 use Rattle.t_rules.specs.Rules.{FirstTakesNothing}
+use Rattle.t_mismatch.specs.Nodes.{few}
 
 -- What is at odds, where n type names are in scope: a type was wanted, and a value of another found; a package was
 -- given a type that is no package type; or a register was wanted with a type, and found with another or with none.
@@ -24,6 +26,17 @@ pub data Mismatch : Type 0 where
   Types : (wanted found : Ty) (n : ℕ) → Mismatch
   NoPackage : (found : Ty) (n : ℕ) → Mismatch
   Register : (r : ℕ) (wanted : Ty) (found : Option Ty) (n : ℕ) → Mismatch
+
+-- each type in it has few nodes
+abbrev pub all_few : Mismatch → Bool
+all_few (Types wanted found n) = few wanted && few found
+all_few (NoPackage found n) = few found
+all_few (Register r wanted None n) = few wanted
+all_few (Register r wanted (Some found) n) = few wanted && few found
+
+-- what is said of it: nothing where one of its types has more
+unfoldable pub told : Mismatch → Option Mismatch
+told m = if all_few m then Some m else None
 
 -- a code, with what is at odds
 abbrev pub Note : Type 0
@@ -38,7 +51,7 @@ abbrev pub bare : TCode → Span → FaultWith
 bare code s = refuse (code, None) s
 
 abbrev pub at_odds : TCode → Mismatch → Span → FaultWith
-at_odds code m s = refuse (code, Some m) s
+at_odds code m s = refuse (code, told m) s
 
 -- by the form of a type, and by a field
 abbrev pub if_code : Ty → FaultWith → (ℕ → TFile → FaultWith) → FaultWith

@@ -4,11 +4,11 @@
 
 mod laws;
 mod mismatch;
+mod odds;
 mod refusal;
 mod small;
 
 pub use laws::{at_most_one_mismatch, each_fault_says, mismatch_is_of_the_fault};
 pub use mismatch::Mismatch;
-pub use refusal::{
-    AtOdds, Pair, Refusal, Reg, no_package, refused, register_at_odds, types_at_odds,
-};
+pub use odds::Odds;
+pub use refusal::{Refusal, at_odds, refused};

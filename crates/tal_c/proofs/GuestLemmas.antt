@@ -1,5 +1,5 @@
 -- What is known of a guest by the calls on it.
-use Rattle.std.proofs.Common.{◌≡◌, ℕ, ◌+◌, ◌≤◌, List, Some, None, Result, OnOk}
+use Rattle.std.proofs.Common.{◌≡◌, ℕ, ◌+◌, ◌≤◌, max, min, List, Some, None, Result, OnOk}
 use Rattle.std.proofs.Common.{sym, ap, ◌∙◌, subst, inl, inr}
 use Rattle.std.proofs.lemmas.Option.{none-some, same_Some}
 use Rattle.t_terms.specs.Tree.{TProg}
@@ -10,13 +10,14 @@ use Rattle.t_machine.specs.declared.machine.Ran.{Ran}
 use Rattle.idx_core.specs.declared.memory.OutOfMemory.{OutOfMemory}
 use Rattle.t_machine.specs.Runs.{Stands, RanFrom, steps_made}
 use Rattle.t_machine.specs.Room.{spare_tuples, spare_fields, Lowers, LowersAlong, WantsUncovered}
-use Rattle.t_machine.specs.Reachable.{KeepsReached}
+use Rattle.t_machine.specs.Room.{kept_tuples, kept_fields, most_tuples, most_fields, KeepsWithin}
+use Rattle.t_machine.specs.Reachable.{KeepsReached, StopsReached}
 use Rattle.tal_c.specs.declared.answer.Answer.{Answer}
 use Rattle.tal_c.specs.declared.guest.Guest.{Guest}
 use Rattle.tal_c.specs.Answers.{bare, done, usage, of_run, of_taken}
 use Rattle.tal_c.specs.Texts.{IsLoaded, FaultTold}
 use Rattle.tal_c.specs.Guests.{empty, Has, IsAt, LoadTold, RunsOn, GuestRun, NotRun, Stays}
-use Rattle.tal_c.specs.Guests.{GuestReserve, GuestCollect}
+use Rattle.tal_c.specs.Guests.{StaysWithin, GuestReserve, GuestCollect, GuestWithin}
 
 -- a guest with a machine is not the empty one
 not_empty : (guest : Guest) (machine : Machine) → guest.machine ≡ Some machine → guest ≡ empty → ⊥
@@ -34,6 +35,7 @@ load_told text new machine answer l has is = inl (record {
     accepted = l.accepted.1;
     stands = l.stands;
   };
+  uncapped = l.uncapped;
   is = is;
 })
 
@@ -53,6 +55,13 @@ had_one old x has e = absurd (not_empty old x has e)
 has_none : {B : Type 0} (old : Guest) (x : Machine) → old.machine ≡ None → Has old x → B
 has_none old x none has = absurd (none-some x (sym none ∙ has))
 
+-- what may be kept stays, whichever the machines are called
+stays_within : (old new : Guest) (before after x y : Machine) → Has old before → Has old x → Has new after →
+    Has new y → StaysWithin before after → StaysWithin x y
+stays_within old new before after x y had is_x has is_y within =
+    subst (λ (z : Machine). StaysWithin z y) (one old before x had is_x)
+    (subst (StaysWithin before) (one new after y has is_y) within)
+
 -- from the machine before the run to the one after it
 module _ (fuel : ℕ) (old new : Guest) (before after : Machine) (ran : Ran) (answer : Answer)
     (had : Has old before) (has : Has new after) (is : answer ≡ of_run fuel ran)
@@ -61,8 +70,9 @@ module _ (fuel : ℕ) (old new : Guest) (before after : Machine) (ran : Ran) (an
     (runs : (P : TProg) → Whole P → Accepted P → (m : ℕ) → Stands P m before → RanFrom P m fuel ran)
     (lowers : (P : TProg) → Whole P → Accepted P → (m : ℕ) → Stands P m before →
     LowersAlong P m (steps_made fuel ran) before after)
-    (wants : (P : TProg) → Whole P → Accepted P → (m : ℕ) → Stands P m before →
-    WantsUncovered P m before ran) where
+    (wants : (P : TProg) → Whole P → Accepted P → (m : ℕ) → Stands P m before → WantsUncovered P m before ran)
+    (reached : (P : TProg) → Whole P → Accepted P → (m : ℕ) → Stands P m before → StopsReached after ran)
+    (within : StaysWithin before after) where
   ran_on : (P : TProg) (n : ℕ) → IsAt P n old → RunsOn P n fuel old new answer
   ran_on P n a =
       let same : a.machine ≡ before = one old a.machine before a.has had in
@@ -82,6 +92,9 @@ module _ (fuel : ℕ) (old new : Guest) (before after : Machine) (ran : Ran) (an
             (one new after y has is_y) (lowers P a.whole a.accepted n at));
         covered = λ x is_x. subst (λ (z : Machine). WantsUncovered P n z ran) (one old before x had is_x)
             (wants P a.whole a.accepted n at);
+        reached = λ y is_y. subst (λ (z : Machine). StopsReached z ran) (one new after y has is_y)
+            (reached P a.whole a.accepted n at);
+        within = λ x y is_x is_y. stays_within old new before after x y had is_x has is_y within;
         is = is;
       }
 
@@ -97,18 +110,21 @@ empty_run fuel old new answer none same is =
     (not_run old new answer same is, (λ P n a. has_none old a.machine none a.has))
 
 -- from the machine before to one that stands for the same states
+stays : (old new : Guest) (before after : Machine) → Has old before → Has new after →
+    ((P : TProg) (m : ℕ) → Stands P m before → Stands P m after) → Stays old new
+stays old new before after had has stands P n a = record {
+  machine = after;
+  has = has;
+  whole = a.whole;
+  accepted = a.accepted;
+  stands = stands P n (subst (Stands P n) (one old a.machine before a.has had) a.stands);
+}
+
+-- from the machine before to the one after memory was taken, or tuples were dropped
 module _ (old new : Guest) (before after : Machine) (taken : Result (Unit {0}) OutOfMemory) (answer : Answer)
     (had : Has old before) (has : Has new after) (is : answer ≡ of_taken taken)
-    (stands : (P : TProg) (m : ℕ) → Stands P m before → Stands P m after) (kept : Lowers 0 0 before after) where
-  stays : Stays old new
-  stays P n a = record {
-    machine = after;
-    has = has;
-    whole = a.whole;
-    accepted = a.accepted;
-    stands = stands P n (subst (Stands P n) (one old a.machine before a.has had) a.stands);
-  }
-
+    (stands : (P : TProg) (m : ℕ) → Stands P m before → Stands P m after) (kept : Lowers 0 0 before after)
+    (within : StaysWithin before after) where
   lowered : (x : Machine) → Has old x → Lowers 0 0 x after
   lowered x is_x = subst (λ (z : Machine). Lowers 0 0 z after) (one old before x had is_x) kept
 
@@ -121,8 +137,9 @@ module _ (old new : Guest) (before after : Machine) (taken : Result (Unit {0}) O
       after = after;
       taken = taken;
       has = has;
-      stays = stays;
+      stays = stays old new before after had has stands;
       kept = lowered x is_x;
+      within = stays_within old new before after x after had is_x has has within;
       spare = spare;
       is = is;
     }),
@@ -135,12 +152,35 @@ module _ (old new : Guest) (before after : Machine) (taken : Result (Unit {0}) O
       after = after;
       taken = taken;
       has = has;
-      stays = stays;
+      stays = stays old new before after had has stands;
       kept = lowered x is_x;
+      within = stays_within old new before after x after had is_x has has within;
       exactly = subst (λ (z : Machine). OnOk taken (KeepsReached z after)) (one old before x had is_x) exactly;
       is = is;
     }),
   )
+
+-- from the machine before to the one with a cap
+pub guest_within : (tuples fields : ℕ) (old new : Guest) (before after : Machine) (answer : Answer) →
+    Has old before → Has new after → answer ≡ bare done →
+    ((P : TProg) (m : ℕ) → Stands P m before → Stands P m after) →
+    most_tuples after ≡ max (kept_tuples before) (min tuples 4294967295) →
+    most_fields after ≡ max (kept_fields before) (min fields 4294967295) → KeepsWithin after →
+    GuestWithin tuples fields old new answer
+guest_within tuples fields old new before after answer had has is stands tuple_cap field_cap within = (
+  had_one old before had,
+  (λ x is_x.
+      let same = one old before x had is_x in
+      record {
+        after = after;
+        has = has;
+        stays = stays old new before after had has stands;
+        tuple_cap = tuple_cap ∙ ap (λ (z : Machine). max (kept_tuples z) (min tuples 4294967295)) same;
+        field_cap = field_cap ∙ ap (λ (z : Machine). max (kept_fields z) (min fields 4294967295)) same;
+        within = within;
+        is = is;
+      }),
+)
 
 pub empty_reserve : (tuples fields : ℕ) (old new : Guest) (answer : Answer) → old.machine ≡ None → new ≡ old →
     answer ≡ bare usage → GuestReserve tuples fields old new answer
@@ -150,3 +190,8 @@ empty_reserve tuples fields old new answer none same is =
 pub empty_collect : (old new : Guest) (answer : Answer) → old.machine ≡ None → new ≡ old →
     answer ≡ bare usage → GuestCollect old new answer
 empty_collect old new answer none same is = (not_run old new answer same is, (λ x has. has_none old x none has))
+
+pub empty_within : (tuples fields : ℕ) (old new : Guest) (answer : Answer) → old.machine ≡ None → new ≡ old →
+    answer ≡ bare usage → GuestWithin tuples fields old new answer
+empty_within tuples fields old new answer none same is =
+    (not_run old new answer same is, (λ x has. has_none old x none has))

@@ -12,6 +12,7 @@ use Rattle.t_rules.specs.LawsSound.{NothingSticks}
 use Rattle.t_check.specs.Verdict.{Says}
 use Rattle.t_machine.specs.declared.machine.Machine.{Machine}
 use Rattle.t_machine.specs.declared.machine.Ran.{Ran}
+use Rattle.t_machine.specs.Room.{IsUncapped}
 use Rattle.t_machine.specs.Runs.{Stands, RanFrom, FirstRuns}
 use Rattle.tal_c.specs.declared.answer.Answer.{Answer}
 use Rattle.tal_c.specs.Answers.{bare, done, of_fault, of_run}
@@ -28,9 +29,14 @@ unaccepted text p (Refused code span) read says =
     inr (record { program = spanned_program p; read = read; fault = says })
 
 pub loaded : (text : List ℕ) (p : TProgram) (machine : Machine) → IsAcceptedText text (spanned_program p) →
-    Whole (program p) → Stands (program p) 0 machine → IsLoaded text machine
-loaded text p machine accepted whole stands =
-    record { program = spanned_program p; accepted = accepted; whole = whole; stands = stands }
+    Whole (program p) → Stands (program p) 0 machine → IsUncapped machine.heap → IsLoaded text machine
+loaded text p machine accepted whole stands uncapped = record {
+  program = spanned_program p;
+  accepted = accepted;
+  whole = whole;
+  stands = stands;
+  uncapped = uncapped;
+}
 
 pub accepted_told : NothingSticks → (text : List ℕ) (p : TProgram) (answer : Answer) →
     IsAcceptedText text (spanned_program p) → Whole (program p) → answer ≡ bare done → CheckTold text answer

@@ -11,7 +11,7 @@ use Rattle.t_terms.specs.declared.fault.TFault.TheVariants.{Memory, Refused}
 use Rattle.t_machine.specs.declared.machine.Ran.{Ran}
 use Rattle.t_machine.specs.declared.machine.Ran.TheVariants.{Halted, Spent, NoMemory}
 use Rattle.tal_c.specs.declared.answer.Answer.{Answer}
-use Rattle.tal_c.specs.declared.answer.RegisterWord.{RegisterWord}
+use Rattle.tal_c.specs.declared.answer.HostWord.{HostWord}
 use Rattle.tal_c.specs.declared.answer.Position.{Position}
 
 -- the statuses of the program; `usage` is that of a call on an empty guest
@@ -93,16 +93,16 @@ abbrev pub of_taken : Result (Unit {0}) OutOfMemory → Answer
 of_taken (Ok x) = bare done
 of_taken (Err e) = bare memory
 
--- ---- registers and places
+-- ---- words and places
 
-abbrev pub told_word : ℕ → ℕ → ℤ → RegisterWord
+abbrev pub told_word : ℕ → ℕ → ℤ → HostWord
 told_word kind number value = record { kind = kind; number = number; value = value }
 
-abbrev pub no_word : RegisterWord
+abbrev pub no_word : HostWord
 no_word = told_word 0 0 (pos 0)
 
--- the word of a register: none, an integer, a tuple by its number, or a block by its number
-abbrev pub word_of : Option Shown → RegisterWord
+-- the word of a register or of a field: none, an integer, a tuple by its number, or a block by its number
+abbrev pub word_of : Option Shown → HostWord
 word_of None = no_word
 word_of (Some (shown.Int i)) = told_word 1 0 i
 word_of (Some (shown.Tuple a)) = told_word 2 a (pos 0)

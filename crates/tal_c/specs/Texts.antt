@@ -15,6 +15,7 @@ use Rattle.t_check.specs.Checked.{checked_program}
 use Rattle.t_check.specs.declared.checked.Checked.{Checked}
 use Rattle.t_machine.specs.declared.machine.Machine.{Machine}
 use Rattle.t_machine.specs.declared.machine.Ran.{Ran}
+use Rattle.t_machine.specs.Room.{IsUncapped}
 use Rattle.t_machine.specs.Runs.{FirstRun, Stands}
 use Rattle.tal_c.specs.declared.answer.Answer.{Answer}
 use Rattle.tal_c.specs.Answers.{bare, done, of_fault, of_run}
@@ -39,12 +40,13 @@ abbrev pub ChecksText : List ℕ → Result Checked TFault → Type 0
 ChecksText text (Ok checked) = IsAcceptedText text (spanned_program (checked_program checked))
 ChecksText text (Err fault) = IsFaultOf text fault
 
--- a machine at the start of the accepted program of the text, or its first fault
+-- a machine at the start of the accepted program of the text, with no cap on what it may keep
 pub record IsLoaded (text : List ℕ) (machine : Machine) : Type 0 where
   pub program : SProg
   pub accepted : IsAcceptedText text program
   pub whole : Whole (plain_program program)
   pub stands : Stands (plain_program program) 0 machine
+  pub uncapped : IsUncapped machine.heap
 
 -- ---- what is told
 

@@ -26,10 +26,10 @@ pub struct Answer {
     pub made: u64,
 }
 
-/// The word of a register, in C `talc_word`.
+/// The word of a register or of a field, in C `talc_word`.
 #[repr(C)]
 #[derive(Clone, Copy, Drop)]
-pub struct RegisterWord {
+pub struct HostWord {
     /// What it is: 0 none, 1 an integer, 2 a tuple, 3 a block.
     pub kind: u32,
     /// The number of the tuple or of the block, else 0.
@@ -101,25 +101,25 @@ pub(crate) fn of_taken(taken: Result<(), OutOfMemory>) -> Answer
     }
 }
 
-/// The word of a register that has none, or of an empty guest.
-pub(crate) fn no_word() -> RegisterWord
+/// The word of a register or a field that has none, or of an empty guest.
+pub(crate) fn no_word() -> HostWord
     ensures { result ≡ no_word }
 {
     told_word(0, 0, 0)
 }
 
-fn told_word(kind: u32, number: u64, value: i64) -> RegisterWord
+fn told_word(kind: u32, number: u64, value: i64) -> HostWord
     ensures { result ≡ told_word kind number value }
 {
-    RegisterWord {
+    HostWord {
         kind,
         number,
         value,
     }
 }
 
-/// The word of a register, if it has one.
-pub(crate) fn word_of(shown: Option<Shown>) -> RegisterWord
+/// The word of a register or of a field, if it has one.
+pub(crate) fn word_of(shown: Option<Shown>) -> HostWord
     ensures { result ≡ word_of shown }
 {
     match shown {

@@ -1,10 +1,11 @@
 // A guest: a program that is loaded once and run a slice at a time.
 ghost use Rattle.std.specs.Prelude.{◌≡◌};
-ghost use Rattle.tal_c.specs.Guests.{empty, LoadTold, GuestRun, GuestReserve, GuestCollect, GuestReg, GuestPlace};
+ghost use Rattle.tal_c.specs.Guests.{empty, LoadTold, GuestRun, GuestReserve, GuestCollect, GuestWithin};
+ghost use Rattle.tal_c.specs.Guests.{GuestReg, GuestField, GuestKept, GuestPlace};
 
 use crate::answer::{
-    Answer, DONE, Position, RegisterWord, USAGE, bare, no_place, no_word, of_fault, of_run,
-    of_taken, place_at, word_of,
+    Answer, DONE, HostWord, Position, USAGE, bare, no_place, no_word, of_fault, of_run, of_taken,
+    place_at, word_of,
 };
 use crate::texts::load_text;
 use std::alloc::Global;
@@ -74,13 +75,46 @@ pub(crate) fn collect_in(guest: &mut Guest) -> Answer
     }
 }
 
+/// Sets what the guest may keep: so many tuples, and so many fields of all of them together.
+pub(crate) fn cap(guest: &mut Guest, tuples: u64, fields: u64) -> Answer
+    ensures { GuestWithin tuples fields guest.old guest.new result }
+{
+    match &mut guest.machine {
+        Some(machine) => {
+            machine.within(tuples, fields);
+            bare(DONE)
+        }
+        None => bare(USAGE),
+    }
+}
+
 /// The word of a register of the guest. (It is lent whole, as for the other calls, and stays as it is.)
-pub(crate) fn reg_in(guest: &mut Guest, register: u64) -> RegisterWord
+pub(crate) fn reg_in(guest: &mut Guest, register: u64) -> HostWord
     ensures { GuestReg register guest.old guest.new result }
 {
     match &guest.machine {
         Some(machine) => word_of(machine.reg(register)),
         None => no_word(),
+    }
+}
+
+/// The word of a field of a tuple of the guest.
+pub(crate) fn field_in(guest: &mut Guest, tuple: u64, field: u64) -> HostWord
+    ensures { GuestField tuple field guest.old guest.new result }
+{
+    match &guest.machine {
+        Some(machine) => word_of(machine.field(tuple, field)),
+        None => no_word(),
+    }
+}
+
+/// How many tuples the guest keeps.
+pub(crate) fn kept_in(guest: &mut Guest) -> u64
+    ensures { GuestKept guest.old guest.new result }
+{
+    match &guest.machine {
+        Some(machine) => machine.kept(),
+        None => 0,
     }
 }
 

@@ -1,6 +1,6 @@
 // The exports: each is a call on bytes of `talc_core`, whose outcome is told. `room` is memory of the host, of which
 // nothing but the head is written, and that only where all that is made fits.
-ghost use Rattle.std.specs.Prelude.{◌≡◌};
+ghost use Rattle.std.specs.Prelude.{◌≡◌, []};
 ghost use Rattle.talc_core.specs.FirstFault.{AnyText, AnyTerm, CellFree};
 ghost use Rattle.talc_core.specs.Explained.{ShowsExplained};
 ghost use Rattle.talc_core.specs.Shown.{ShowsType, ShowsValue};
@@ -68,10 +68,10 @@ pub extern "C" fn talc_show(alloc: Global, text: &[u8], form: u32, room: &mut [u
     }
 }
 
-/// A page for people on the first fault of a text of either kind, or that it has none.
+/// A page for people on the first fault of a text of either kind, which has no name, or that it has none.
 #[unsafe(no_mangle)]
 pub extern "C" fn talc_explain(alloc: Global, text: &[u8], room: &mut [u8]) -> Made
-    ensures { Told ShowsExplained AnyText text.now room.old room.new result }
+    ensures { Told (ShowsExplained []) AnyText text.now room.old room.new result }
 {
-    tell(room, explain_text(alloc, text))
+    tell(room, explain_text(alloc, b"", text))
 }

@@ -67,6 +67,7 @@ module _ (source target : List ℕ) (term : Tm) (p : TProgram) (checked : IsChec
         made = c.made;
         stays = c.stays;
         framed = c.framed;
+        work = c.work;
       });
     };
     work = work;

@@ -9,14 +9,17 @@ use Rattle.talc_core.specs.declared.status.Status.{Status}
 use Rattle.talc_core.specs.declared.status.Status.TheVariants.{Done, Refused, Usage, Limit, Budget, ReadFault}
 use Rattle.talc_core.specs.declared.status.Status.TheVariants.{WriteFault, Memory}
 use Rattle.talc_core.specs.Command.{Asked, Compiles, CompilesWithin, Types, Evaluates, Checks, Runs, Generates}
-use Rattle.talc_core.specs.Command.{Upgrades, Traces, Shows, Explains}
+use Rattle.talc_core.specs.Command.{Upgrades, Traces, Shows, Explains, Lists, Costs}
 use Rattle.talc_core.specs.FirstFault.{Need, AnyText, AnyTerm, AProgram, CellFree, AnAssembly}
 use Rattle.talc_core.specs.CompiledText.{CompiledText, CompiledTextWithin}
 use Rattle.talc_core.specs.Upgraded.{IsUpgraded}
-use Rattle.talc_core.specs.Shown.{Showing, ShowsType, ShowsValue, ShowsAccepted, ShowsRun, ShowsTrace, SeedShown}
+use Rattle.talc_core.specs.Shown.{Showing, ShowsType, ShowsValue, ShowsAccepted, ShowsRun, ShowsTrace, ShowsCost}
+use Rattle.talc_core.specs.Shown.{SeedShown}
 use Rattle.talc_core.specs.FormShown.{ShowsForm}
 use Rattle.talc_core.specs.Explained.{ShowsExplained}
-use Rattle.talc_core.specs.Headline.{Outside, Unwritten, SeedWrittenAlone, TextAnswer, LineAnswer, SeedAnswer, Does}
+use Rattle.talc_core.specs.Headline.{Outside, Unwritten, WrittenAlone, SeedWrittenAlone}
+use Rattle.talc_core.specs.Headline.{TextAnswer, LineAnswer, SeedAnswer, Does}
+use Rattle.talc_core.specs.Listed.{ShowsListing}
 use Rattle.seeds.specs.Source.{source as source_of}
 use Rattle.io_core.specs.Outside.{with_file}
 use Rattle.talc_core.specs.OnTexts.{Making, status_at}
@@ -43,6 +46,7 @@ module _ (f f' : FilesState) (o o' e e' : SinkState) where
         line = told.1;
         out = shown.4;
         files = shown.3;
+        calls = shown.5;
       }
   line_failed Says need input (failed.Refused fault) Usage shown told = absurd told
   line_failed Says need input (failed.Refused fault) Limit shown told =
@@ -55,21 +59,23 @@ module _ (f f' : FilesState) (o o' e e' : SinkState) where
         line = told.1;
         out = shown.4;
         files = shown.3;
+        calls = shown.5;
       }
   line_failed Says need input (failed.Refused fault) Budget shown told = absurd told
   line_failed Says need input (failed.Refused fault) ReadFault shown told = absurd told
   line_failed Says need input (failed.Refused fault) WriteFault shown told = absurd told
   line_failed Says need input (failed.Refused fault) Memory shown told =
-      record { line = told; out = shown.4; files = shown.3 }
+      record { line = told; out = shown.4; files = shown.3; calls = inr shown.5 }
   line_failed Says need input failed.Read Done shown told = absurd told
   line_failed Says need input failed.Read Refused shown told = absurd told
   line_failed Says need input failed.Read Usage shown told = absurd told
   line_failed Says need input failed.Read Limit shown told = absurd told
   line_failed Says need input failed.Read Budget shown told = absurd told
   line_failed Says need input failed.Read ReadFault shown told =
-      record { cause = shown.0; line = told; out = shown.2; files = shown.1 }
+      record { cause = shown.0; line = told; out = shown.2; files = shown.1; calls = shown.3 }
   line_failed Says need input failed.Read WriteFault shown told = absurd told
-  line_failed Says need input failed.Read Memory shown told = record { line = told; out = shown.2; files = shown.1 }
+  line_failed Says need input failed.Read Memory shown told =
+      record { line = told; out = shown.2; files = shown.1; calls = inr shown.3 }
   line_failed Says need input failed.Write Done shown told = absurd told
   line_failed Says need input failed.Write Refused shown told = absurd told
   line_failed Says need input failed.Write Usage shown told = absurd told
@@ -87,6 +93,7 @@ module _ (f f' : FilesState) (o o' e e' : SinkState) where
         line = told;
         out = shown.6;
         files = shown.7;
+        calls = shown.8;
       }
   line_failed Says need input failed.Write Memory shown told = absurd told
   line_failed Says need input failed.Memory Done shown told = absurd told
@@ -96,7 +103,8 @@ module _ (f f' : FilesState) (o o' e e' : SinkState) where
   line_failed Says need input failed.Memory Budget shown told = absurd told
   line_failed Says need input failed.Memory ReadFault shown told = absurd told
   line_failed Says need input failed.Memory WriteFault shown told = absurd told
-  line_failed Says need input failed.Memory Memory shown told = record { line = told; out = shown.1; files = shown.0 }
+  line_failed Says need input failed.Memory Memory shown told =
+      record { line = told; out = shown.1; files = shown.0; calls = shown.2 }
 
   -- ---- the commands that write a text made of another
 
@@ -114,6 +122,7 @@ module _ (f f' : FilesState) (o o' e e' : SinkState) where
         line = told.1;
         out = same;
         files = shown.3;
+        calls = shown.4;
       }
   text_failed Makes need input output same (failed.Refused fault) Usage shown told = absurd told
   text_failed Makes need input output same (failed.Refused fault) Limit shown told =
@@ -126,22 +135,23 @@ module _ (f f' : FilesState) (o o' e e' : SinkState) where
         line = told.1;
         out = same;
         files = shown.3;
+        calls = shown.4;
       }
   text_failed Makes need input output same (failed.Refused fault) Budget shown told = absurd told
   text_failed Makes need input output same (failed.Refused fault) ReadFault shown told = absurd told
   text_failed Makes need input output same (failed.Refused fault) WriteFault shown told = absurd told
   text_failed Makes need input output same (failed.Refused fault) Memory shown told =
-      record { line = told; out = same; files = shown.3 }
+      record { line = told; out = same; files = shown.3; calls = inr shown.4 }
   text_failed Makes need input output same failed.Read Done shown told = absurd told
   text_failed Makes need input output same failed.Read Refused shown told = absurd told
   text_failed Makes need input output same failed.Read Usage shown told = absurd told
   text_failed Makes need input output same failed.Read Limit shown told = absurd told
   text_failed Makes need input output same failed.Read Budget shown told = absurd told
   text_failed Makes need input output same failed.Read ReadFault shown told =
-      record { cause = shown.0; line = told; out = same; files = shown.1 }
+      record { cause = shown.0; line = told; out = same; files = shown.1; calls = shown.2 }
   text_failed Makes need input output same failed.Read WriteFault shown told = absurd told
   text_failed Makes need input output same failed.Read Memory shown told =
-      record { line = told; out = same; files = shown.1 }
+      record { line = told; out = same; files = shown.1; calls = inr shown.2 }
   text_failed Makes need input output same failed.Write Done shown told = absurd told
   text_failed Makes need input output same failed.Write Refused shown told = absurd told
   text_failed Makes need input output same failed.Write Usage shown told = absurd told
@@ -158,6 +168,7 @@ module _ (f f' : FilesState) (o o' e e' : SinkState) where
         line = told;
         out = same;
         files = shown.5;
+        calls = shown.6;
       }
   text_failed Makes need input output same failed.Write Memory shown told = absurd told
   text_failed Makes need input output same failed.Memory Done shown told = absurd told
@@ -168,14 +179,22 @@ module _ (f f' : FilesState) (o o' e e' : SinkState) where
   text_failed Makes need input output same failed.Memory ReadFault shown told = absurd told
   text_failed Makes need input output same failed.Memory WriteFault shown told = absurd told
   text_failed Makes need input output same failed.Memory Memory shown told =
-      record { line = told; out = same; files = shown }
+      record { line = told; out = same; files = shown.0; calls = shown.1 }
 
   -- ---- the command `gen`
 
   seed_ended : (seed : ℕ) (output : List ℕ) (ending : Ending) → ShowsSeed seed output f f' o o' (Ok ending) →
       SeedAnswer seed output (outside f o e) (outside f' o' e) (status_at ending)
   seed_ended seed output Ends shown =
-      record { lines = shown.0; says = shown.1; written = shown.2; out = shown.3; err = refl; unread = shown.4 }
+      record {
+        lines = shown.0;
+        says = shown.1;
+        written = shown.2;
+        out = shown.3;
+        err = refl;
+        unread = shown.4;
+        calls = shown.5;
+      }
   seed_ended seed output GoesOn shown = absurd shown
 
   seed_unwritten : (seed : ℕ) (output : List ℕ) → ShowsSeed seed output f f' o o' (Err failed.Write) →
@@ -189,6 +208,7 @@ module _ (f f' : FilesState) (o o' e e' : SinkState) where
         out = unwritten.4;
         files = unwritten.3;
         unread = unwritten.5;
+        calls = unwritten.6;
       })
   seed_unwritten seed output (inr unshown) told =
       inr (record {
@@ -199,14 +219,17 @@ module _ (f f' : FilesState) (o o' e e' : SinkState) where
         line = told;
         out = unshown.4;
         unread = unshown.5;
+        calls = unshown.6;
       })
 
   seed_files : (seed : ℕ) (output : List ℕ) →
-      Unwritten f f'
-      ⊎ ((lines : List ℕ) × SeedShown seed lines × (f'.told ≡ with_file f.told output (source_of seed))) →
-      Unwritten f f' ⊎ SeedWrittenAlone seed output (outside f o e) (outside f' o' e')
+      (Unwritten f f' × (f'.calls ≡ f.calls))
+      ⊎ ((lines : List ℕ) × SeedShown seed lines × (f'.told ≡ with_file f.told output (source_of seed))
+      × WrittenAlone output (source_of seed) f f') →
+      (Unwritten f f' × (f'.calls ≡ f.calls)) ⊎ SeedWrittenAlone seed output (outside f o e) (outside f' o' e')
   seed_files seed output (inl unwritten) = inl unwritten
-  seed_files seed output (inr alone) = inr (record { lines = alone.0; says = alone.1; written = alone.2 })
+  seed_files seed output (inr alone) =
+      inr (record { lines = alone.0; says = alone.1; written = alone.2; calls = alone.3 })
 
   seed_failed : (seed : ℕ) (output : List ℕ) (failure : Failure) (status : Status) →
       ShowsSeed seed output f f' o o' (Err failure) → Reports failure e e' status →
@@ -245,6 +268,7 @@ module _ (f f' : FilesState) (o o' e e' : SinkState) where
         out = shown.4;
         err = refl;
         files = shown.5;
+        calls = shown.6;
       }
   line_ended Says need input GoesOn shown =
       record {
@@ -255,6 +279,7 @@ module _ (f f' : FilesState) (o o' e e' : SinkState) where
         out = shown.4;
         err = refl;
         files = shown.5;
+        calls = shown.6;
       }
 
   text_ended : (Makes : Making) (need : Need) (input output : List ℕ) → o' ≡ o → (ending : Ending) →
@@ -269,6 +294,7 @@ module _ (f f' : FilesState) (o o' e e' : SinkState) where
         written = shown.4;
         out = same;
         err = refl;
+        calls = shown.5;
       }
   text_ended Makes need input output same GoesOn shown = absurd shown
 
@@ -287,12 +313,16 @@ module _ (f f' : FilesState) (o o' e e' : SinkState) where
       line_failed ShowsAccepted AnAssembly input failure status done told
   does_failed (Runs input fuel) failure status done told =
       line_failed (ShowsRun fuel) AnAssembly input failure status done told
+  does_failed (Costs input fuel) failure status done told =
+      line_failed (ShowsCost fuel) AnAssembly input failure status done told
   does_failed (Traces input from to) failure status done told =
       line_failed (ShowsTrace from to) AnAssembly input failure status done told
   does_failed (Shows input form) failure status done told =
       line_failed (ShowsForm form) AProgram input failure status done told
   does_failed (Explains input) failure status done told =
-      line_failed ShowsExplained AnyText input failure status done told
+      line_failed (ShowsExplained input) AnyText input failure status done told
+  does_failed (Lists input) failure status done told =
+      line_failed ShowsListing AnAssembly input failure status done told
   does_failed (Generates seed output) failure status done told = seed_failed seed output failure status done told
   does_failed (Upgrades input output) failure status done told =
       text_failed IsUpgraded AnAssembly input output done.1 failure status done.0 told
@@ -306,9 +336,11 @@ module _ (f f' : FilesState) (o o' e e' : SinkState) where
   does_at_end (Evaluates input turns) ending done = line_ended (ShowsValue turns) CellFree input ending done
   does_at_end (Checks input) ending done = line_ended ShowsAccepted AnAssembly input ending done
   does_at_end (Runs input fuel) ending done = line_ended (ShowsRun fuel) AnAssembly input ending done
+  does_at_end (Costs input fuel) ending done = line_ended (ShowsCost fuel) AnAssembly input ending done
   does_at_end (Traces input from to) ending done = line_ended (ShowsTrace from to) AnAssembly input ending done
   does_at_end (Shows input form) ending done = line_ended (ShowsForm form) AProgram input ending done
-  does_at_end (Explains input) ending done = line_ended ShowsExplained AnyText input ending done
+  does_at_end (Explains input) ending done = line_ended (ShowsExplained input) AnyText input ending done
+  does_at_end (Lists input) ending done = line_ended ShowsListing AnAssembly input ending done
   does_at_end (Generates seed output) ending done = seed_ended seed output ending done
   does_at_end (Upgrades input output) ending done = text_ended IsUpgraded AnAssembly input output done.1 ending done.0
 

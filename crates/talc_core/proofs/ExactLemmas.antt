@@ -13,14 +13,15 @@ use Rattle.t_terms.specs.Spanned.{plain_program}
 use Rattle.t_rules.specs.Machine.{GoesOnAfter}
 use Rattle.talc_core.specs.FirstFault.{Need, AnyText, AnyTerm, AProgram, CellFree, AnAssembly, IsTaken}
 use Rattle.talc_core.specs.Command.{Asked, Compiles, CompilesWithin, Types, Evaluates, Checks, Runs, Generates}
-use Rattle.talc_core.specs.Command.{Upgrades, Traces, Shows, Explains, command_of, need_of}
+use Rattle.talc_core.specs.Command.{Upgrades, Traces, Shows, Explains, Lists, command_of, need_of, Costs}
 use Rattle.talc_core.specs.CompiledText.{CompiledText, CompiledTextWithin}
 use Rattle.talc_core.specs.Upgraded.{IsUpgraded}
 use Rattle.talc_core.specs.Shown.{Showing, ShowsType, ShowsValue, ValueShown, ShowsAccepted, ShowsRun, ShowsTrace}
-use Rattle.talc_core.specs.Shown.{HaltedShown}
+use Rattle.talc_core.specs.Shown.{HaltedShown, ShowsCost}
 use Rattle.words.specs.declared.form.Form.{Form}
 use Rattle.talc_core.specs.FormShown.{ShowsForm}
 use Rattle.talc_core.specs.Explained.{ShowsExplained}
+use Rattle.talc_core.specs.Listed.{ShowsListing}
 use Rattle.talc_core.specs.OnTexts.{Making}
 use Rattle.talc_core.specs.Headline.{Outside, Headline, TextRefused, TextAnswer, LineAnswer, SeedAnswer, UsageAnswer}
 use Rattle.talc_core.specs.Headline.{Does}
@@ -84,9 +85,11 @@ goes_on_taken (Types input) source more = absurd more
 goes_on_taken (Evaluates input turns) source more = (more.0, more.1, more.2)
 goes_on_taken (Checks input) source more = absurd more
 goes_on_taken (Runs input fuel) source more = (more.0, more.1)
+goes_on_taken (Costs input fuel) source more = (more.0, more.1)
 goes_on_taken (Traces input from to) source more = (more.0, more.1)
 goes_on_taken (Shows input form) source more = absurd more
 goes_on_taken (Explains input) source more = absurd more
+goes_on_taken (Lists input) source more = absurd more
 goes_on_taken (Generates seed output) source more = absurd more
 goes_on_taken (Upgrades input output) source more = absurd more
 
@@ -173,6 +176,15 @@ trace_ends laws from to text lines shown more =
     let states = shown.2 in
     going_not_halted laws (plain_program shown.0) states.steps to states.value states.halted goes_on states.within
 
+cost_ends : TextLaws → (fuel : ℕ) (text lines : List ℕ) → ShowsCost fuel Done text lines →
+    GoesOn (Costs [] fuel) text → ⊥
+cost_ends laws fuel text lines shown more =
+    let same : shown.0 ≡ more.0 = same_program laws text shown.0 more.0 shown.1.0 more.1.0 in
+    let goes_on : GoesOnAfter (plain_program shown.0) fuel =
+    subst (λ P. GoesOnAfter (plain_program P) fuel) (sym same) more.2 in
+    let cost = shown.2 in
+    going_not_halted laws (plain_program shown.0) cost.steps fuel cost.value cost.halted goes_on cost.within
+
 -- a line with the status 0 is shown of a text that is what is needed and ends within the budget, one with 4 of a text
 -- that goes on
 pub record IsSound (asked : Asked) (Says : Showing) : Type 0 where
@@ -211,15 +223,27 @@ trace_sound laws input from to = record {
   over = λ text lines shown. ((shown.0, shown.1), (shown.0, shown.1, shown.2.goes_on), tt);
 }
 
+cost_sound : TextLaws → (input : List ℕ) (fuel : ℕ) → IsSound (Costs input fuel) (ShowsCost fuel)
+cost_sound laws input fuel = record {
+  done = λ text lines shown. ((shown.0, shown.1), cost_ends laws fuel text lines shown);
+  over = λ text lines shown. ((shown.0, shown.1), (shown.0, shown.1, shown.2.goes_on), tt);
+}
+
 form_sound : (input : List ℕ) (form : Form) → IsSound (Shows input form) (ShowsForm form)
 form_sound input form = record {
   done = λ source text shown. ((shown.term, shown.checked), λ more. more);
   over = λ source text shown. absurd shown;
 }
 
-explain_sound : (input : List ℕ) → IsSound (Explains input) ShowsExplained
+explain_sound : (input : List ℕ) → IsSound (Explains input) (ShowsExplained input)
 explain_sound input = record {
   done = λ text shown says. (tt, λ more. more);
+  over = λ text shown says. absurd says;
+}
+
+listing_sound : (input : List ℕ) → IsSound (Lists input) ShowsListing
+listing_sound input = record {
+  done = λ text shown says. ((says.program, says.accepted), λ more. more);
   over = λ text shown says. absurd says;
 }
 
@@ -314,13 +338,18 @@ module _ (laws : TextLaws) (old new : Outside) where
   judged (Runs input fuel) source status answer tells settled =
       line_judged (Runs input fuel) input (ShowsRun fuel) (run_sound laws input fuel) source status answer tells
       settled
+  judged (Costs input fuel) source status answer tells settled =
+      line_judged (Costs input fuel) input (ShowsCost fuel) (cost_sound laws input fuel) source status answer tells
+      settled
   judged (Traces input from to) source status answer tells settled =
       line_judged (Traces input from to) input (ShowsTrace from to) (trace_sound laws input from to) source status
       answer tells settled
   judged (Shows input form) source status answer tells settled =
       line_judged (Shows input form) input (ShowsForm form) (form_sound input form) source status answer tells settled
   judged (Explains input) source status answer tells settled =
-      line_judged (Explains input) input ShowsExplained (explain_sound input) source status answer tells settled
+      line_judged (Explains input) input (ShowsExplained input) (explain_sound input) source status answer tells settled
+  judged (Lists input) source status answer tells settled =
+      line_judged (Lists input) input ShowsListing (listing_sound input) source status answer tells settled
   judged (Compiles input output) source status answer tells settled =
       text_judged (Compiles input output) input output CompiledText (compiled_sound input output) source status answer
       tells settled
@@ -386,10 +415,12 @@ module _ (laws : TextLaws) (old new : Outside) where
       line_absent (ShowsValue turns) CellFree input status answer absent
   absent_at (Checks input) status answer absent = line_absent ShowsAccepted AnAssembly input status answer absent
   absent_at (Runs input fuel) status answer absent = line_absent (ShowsRun fuel) AnAssembly input status answer absent
+  absent_at (Costs input fuel) status answer absent = line_absent (ShowsCost fuel) AnAssembly input status answer absent
   absent_at (Traces input from to) status answer absent =
       line_absent (ShowsTrace from to) AnAssembly input status answer absent
   absent_at (Shows input form) status answer absent = line_absent (ShowsForm form) AProgram input status answer absent
-  absent_at (Explains input) status answer absent = line_absent ShowsExplained AnyText input status answer absent
+  absent_at (Explains input) status answer absent = line_absent (ShowsExplained input) AnyText input status answer absent
+  absent_at (Lists input) status answer absent = line_absent ShowsListing AnAssembly input status answer absent
   absent_at (Compiles input output) status answer absent =
       text_absent CompiledText AProgram input output status answer absent
   absent_at (CompilesWithin input output k) status answer absent =
@@ -405,9 +436,11 @@ module _ (laws : TextLaws) (old new : Outside) where
   read_fault_at (Evaluates input turns) answer = answer.cause
   read_fault_at (Checks input) answer = answer.cause
   read_fault_at (Runs input fuel) answer = answer.cause
+  read_fault_at (Costs input fuel) answer = answer.cause
   read_fault_at (Traces input from to) answer = answer.cause
   read_fault_at (Shows input form) answer = answer.cause
   read_fault_at (Explains input) answer = answer.cause
+  read_fault_at (Lists input) answer = answer.cause
   read_fault_at (Generates seed output) answer = answer
   read_fault_at (Upgrades input output) answer = answer.cause
 
@@ -419,9 +452,11 @@ module _ (laws : TextLaws) (old new : Outside) where
   write_fault_at (Evaluates input turns) answer = answer.cause
   write_fault_at (Checks input) answer = answer.cause
   write_fault_at (Runs input fuel) answer = answer.cause
+  write_fault_at (Costs input fuel) answer = answer.cause
   write_fault_at (Traces input from to) answer = answer.cause
   write_fault_at (Shows input form) answer = answer.cause
   write_fault_at (Explains input) answer = answer.cause
+  write_fault_at (Lists input) answer = answer.cause
   write_fault_at (Generates seed output) (inl unwritten) = inl unwritten.cause
   write_fault_at (Generates seed output) (inr unshown) = inr unshown.cause
 
@@ -433,9 +468,11 @@ module _ (laws : TextLaws) (old new : Outside) where
   cannot (Evaluates input turns) none rose = none.puts rose
   cannot (Checks input) none rose = none.puts rose
   cannot (Runs input fuel) none rose = none.puts rose
+  cannot (Costs input fuel) none rose = none.puts rose
   cannot (Traces input from to) none rose = none.puts rose
   cannot (Shows input form) none rose = none.puts rose
   cannot (Explains input) none rose = none.puts rose
+  cannot (Lists input) none rose = none.puts rose
   cannot (Generates seed output) none (inl rose) = none.writes rose
   cannot (Generates seed output) none (inr rose) = none.puts rose
 
@@ -454,9 +491,11 @@ module _ (laws : TextLaws) (old new : Outside) where
   cannot_read (Evaluates input turns) source none tells why = told_is_read input source none tells why
   cannot_read (Checks input) source none tells why = told_is_read input source none tells why
   cannot_read (Runs input fuel) source none tells why = told_is_read input source none tells why
+  cannot_read (Costs input fuel) source none tells why = told_is_read input source none tells why
   cannot_read (Traces input from to) source none tells why = told_is_read input source none tells why
   cannot_read (Shows input form) source none tells why = told_is_read input source none tells why
   cannot_read (Explains input) source none tells why = told_is_read input source none tells why
+  cannot_read (Lists input) source none tells why = told_is_read input source none tells why
   cannot_read (Generates seed output) source none is why = why
 
   no_usage : (asked : Asked) → Does old new Usage asked → ⊥
@@ -467,9 +506,11 @@ module _ (laws : TextLaws) (old new : Outside) where
   no_usage (Evaluates input turns) answer = answer
   no_usage (Checks input) answer = answer
   no_usage (Runs input fuel) answer = answer
+  no_usage (Costs input fuel) answer = answer
   no_usage (Traces input from to) answer = answer
   no_usage (Shows input form) answer = answer
   no_usage (Explains input) answer = answer
+  no_usage (Lists input) answer = answer
   no_usage (Generates seed output) answer = answer
 
   budget_has : (asked : Asked) → Does old new Budget asked → HasBudget asked
@@ -480,9 +521,11 @@ module _ (laws : TextLaws) (old new : Outside) where
   budget_has (Evaluates input turns) answer = tt
   budget_has (Checks input) answer = answer.says
   budget_has (Runs input fuel) answer = tt
+  budget_has (Costs input fuel) answer = tt
   budget_has (Traces input from to) answer = tt
   budget_has (Shows input form) answer = answer.says
   budget_has (Explains input) answer = answer.says
+  budget_has (Lists input) answer = answer.says
   budget_has (Generates seed output) answer = answer
 
   generates_at : (seed : ℕ) (output : List ℕ) (status : Status) → SeedAnswer seed output old new status →
@@ -496,7 +539,7 @@ module _ (laws : TextLaws) (old new : Outside) where
   generates_at seed output Budget answer = absurd answer
   generates_at seed output ReadFault answer = absurd answer
 
-  explains_at : (input : List ℕ) (status : Status) → LineAnswer ShowsExplained AnyText input old new status →
+  explains_at : (input : List ℕ) (status : Status) → LineAnswer (ShowsExplained input) AnyText input old new status →
       (status ≡ Done) ⊎ ((status ≡ ReadFault) ⊎ ((status ≡ WriteFault) ⊎ (status ≡ Memory)))
   explains_at input Done answer = inl refl
   explains_at input ReadFault answer = inr (inl refl)

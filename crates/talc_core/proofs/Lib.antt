@@ -1,6 +1,7 @@
 mod AssemblyLemmas
 mod BothWays
 mod CompileLemmas
+mod CostLemmas
 pub mod CompositionLemmas
 mod Decided
 mod DoesLemmas
@@ -9,9 +10,11 @@ mod ExplainLemmas
 mod FaultLemmas
 mod ExplainRows
 mod FormLemmas
+mod ListingLemmas
 mod Rows
 mod RunLemmas
 mod SeedLemmas
+mod ShownLemmas
 mod SizeLemmas
 mod SourceLemmas
 mod WrittenLemmas

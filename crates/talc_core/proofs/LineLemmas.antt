@@ -65,7 +65,7 @@ rest_same r t u f g h k same p = by_order (cases_order r p)
     by_order (inr (inr lt)) =
         none_below f (r + 1) p h (omega (arith, lt)) ∙ sym (none_below g (r + 1) p k (omega (arith, lt)))
 
-file_one : (f g : TFile) (low : ℕ) → RisesFrom low f → RisesFrom low g → Same f g → f ≡ g
+pub file_one : (f g : TFile) (low : ℕ) → RisesFrom low f → RisesFrom low g → Same f g → f ≡ g
 file_one NoRegs NoRegs low h k same = refl
 file_one NoRegs (MoreRegs q u g) low h k same =
     absurd (let e : None ≡ Some u = same q ∙ at_first q u (lookup g q) in cc)

@@ -2,16 +2,15 @@
 use Rattle.std.proofs.Common.{◌≡◌, ◌∙◌, ℕ, ℤ, zero, suc, ◌+◌, ◌-◌, ◌≤◌, List, ◌++◌, Some, refl, sym, ap, ap₂, subst}
 use Rattle.std.proofs.Common.{arith}
 use Rattle.t_terms.specs.Tree.{TProg, Then, Ends, Jmp, Halt}
-use Rattle.t_terms.specs.Spanned.{SProg, plain_program}
+use Rattle.t_terms.specs.Spanned.{plain_program}
 use Rattle.t_rules.specs.Machine.{IntWord, State, At, HaltedWith, HaltedAfter}
 use Rattle.talc_core.specs.declared.status.Status.TheVariants.{Done, Refused, Usage, Limit, Budget, ReadFault}
 use Rattle.talc_core.specs.declared.status.Status.TheVariants.{WriteFault, Memory}
-use Rattle.talc_core.specs.FirstFault.{IsAcceptedText}
 use Rattle.talc_core.specs.Lines.{integer_line, more_instructions_line}
 use Rattle.talc_core.specs.TextLaws.{TextLaws}
 use Rattle.talc_core.specs.Traced.{AreLines, HaltedStates, RunningStates, OneLine}
 use Rattle.talc_core.specs.TraceLaws.{OneTrace, TraceEndsAsRun}
-use Rattle.talc_core.proofs.FaultLemmas.{same_program}
+use Rattle.talc_core.proofs.ShownLemmas.{one_shown, same_steps, same_value}
 use Rattle.talc_core.proofs.RunLemmas.{going_not_halted}
 use Rattle.t_rules.proofs.OneStep.{halted_one as one_integer}
 
@@ -57,21 +56,11 @@ same_lines one P m (suc count) a b x y =
     ∙ sym y.4
 
 module _ (laws : TextLaws) (one : OneLine) where
-  same_steps : (P : TProg) (n m : ℕ) (i j : ℤ) → HaltedAfter P n i → HaltedAfter P m j → n ≡ m
-  same_steps P n m i j x y =
-      let le : m ≤ n = laws.halting_is_last P n m i y.0 y.1 x y.2 in
-      let ge : n ≤ m = laws.halting_is_last P m n j x.0 x.1 y x.2 in
-      omega (arith, le, ge)
-
-  same_value : (P : TProg) (n : ℕ) (i j : ℤ) → HaltedAfter P n i → HaltedAfter P n j → i ≡ j
-  same_value P n i j x y =
-      one_integer x.0 i j x.3 (subst (λ s. HaltedWith s j) (laws.one_run P n y.0 x.0 y.1 x.1 y.2 x.2).0 y.3)
-
   same_halted : (P : TProg) (from to : ℕ) (a b : List ℕ) → HaltedStates P from to a → HaltedStates P from to b → a ≡ b
   same_halted P from to a b x y =
-      let steps : y.steps ≡ x.steps = same_steps P y.steps x.steps y.value x.value y.halted x.halted in
+      let steps : y.steps ≡ x.steps = same_steps laws P y.steps x.steps y.value x.value y.halted x.halted in
       let value : x.value ≡ y.value =
-      same_value P x.steps x.value y.value x.halted (subst (λ n. HaltedAfter P n y.value) steps y.halted) in
+      same_value laws P x.steps x.value y.value x.halted (subst (λ n. HaltedAfter P n y.value) steps y.halted) in
       let states : AreLines P from (suc x.steps - from) y.shown =
       subst (λ n. AreLines P from (suc n - from) y.shown) steps y.states in
       x.is
@@ -87,43 +76,14 @@ module _ (laws : TextLaws) (one : OneLine) where
       (same_lines one P from (suc to - from) x.shown y.shown x.states y.states)
       ∙ sym y.is
 
-  -- one program is read of a text
-  there : (text : List ℕ) (a b : SProg) → IsAcceptedText text a → IsAcceptedText text b →
-      plain_program a ≡ plain_program b
-  there text a b x y = ap plain_program (same_program laws text a b x.0 y.0)
-
-  -- which doesn't both halt and go on
+  -- no program both halts and goes on
   not_both : (P : TProg) (from to : ℕ) (a b : List ℕ) → HaltedStates P from to a → RunningStates P from to b → ⊥
   not_both P from to a b x y = going_not_halted laws P x.steps to x.value x.halted y.goes_on x.within
 
   pub one_trace : OneTrace
-  one_trace from to Done Done text a b x y =
-      let program = there text y.0 x.0 y.1 x.1 in
-      (refl, same_halted (plain_program x.0) from to a b x.2 (subst (λ P. HaltedStates P from to b) program y.2))
-  one_trace from to Budget Budget text a b x y =
-      let program = there text y.0 x.0 y.1 x.1 in
-      (refl, same_running (plain_program x.0) from to a b x.2 (subst (λ P. RunningStates P from to b) program y.2))
-  one_trace from to Done Budget text a b x y =
-      let program = there text y.0 x.0 y.1 x.1 in
-      absurd (not_both (plain_program x.0) from to a b x.2 (subst (λ P. RunningStates P from to b) program y.2))
-  one_trace from to Budget Done text a b x y =
-      let program = there text x.0 y.0 x.1 y.1 in
-      absurd (not_both (plain_program y.0) from to b a y.2 (subst (λ P. RunningStates P from to a) program x.2))
-  one_trace from to Done Refused text a b x y = absurd y
-  one_trace from to Done Usage text a b x y = absurd y
-  one_trace from to Done Limit text a b x y = absurd y
-  one_trace from to Done ReadFault text a b x y = absurd y
-  one_trace from to Done WriteFault text a b x y = absurd y
-  one_trace from to Done Memory text a b x y = absurd y
-  one_trace from to Budget Refused text a b x y = absurd y
-  one_trace from to Budget Usage text a b x y = absurd y
-  one_trace from to Budget Limit text a b x y = absurd y
-  one_trace from to Budget ReadFault text a b x y = absurd y
-  one_trace from to Budget WriteFault text a b x y = absurd y
-  one_trace from to Budget Memory text a b x y = absurd y
-  one_trace from to Refused u text a b x y = absurd x
-  one_trace from to Usage u text a b x y = absurd x
-  one_trace from to Limit u text a b x y = absurd x
-  one_trace from to ReadFault u text a b x y = absurd x
-  one_trace from to WriteFault u text a b x y = absurd x
-  one_trace from to Memory u text a b x y = absurd x
+  one_trace from to =
+      one_shown laws (λ text program lines. HaltedStates (plain_program program) from to lines)
+      (λ text program lines. RunningStates (plain_program program) from to lines)
+      (λ text program a b. same_halted (plain_program program) from to a b)
+      (λ text program a b. same_running (plain_program program) from to a b)
+      (λ text program a b. not_both (plain_program program) from to a b)

@@ -2,7 +2,7 @@
 use Rattle.std.specs.Prelude.{List, ℕ, Option, Some, None}
 use Rattle.talc_core.specs.FirstFault.{Need, AnyText, AnyTerm, AProgram, CellFree, AnAssembly}
 pub use Rattle.words.specs.Command.{Asked, Compiles, CompilesWithin, Types, Evaluates, Checks, Runs, Generates}
-pub use Rattle.words.specs.Command.{Upgrades, Traces, Shows, Explains}
+pub use Rattle.words.specs.Command.{Upgrades, Traces, Shows, Explains, Lists, Costs}
 pub use Rattle.words.specs.Command.{command_of}
 
 -- what the command needs of the text that it works on: of the one that it reads, or of the source that it makes
@@ -13,11 +13,13 @@ need_of (Types input) = AnyTerm
 need_of (Evaluates input turns) = CellFree
 need_of (Checks input) = AnAssembly
 need_of (Runs input fuel) = AnAssembly
+need_of (Costs input fuel) = AnAssembly
 need_of (Generates seed output) = AProgram
 need_of (Upgrades input output) = AnAssembly
 need_of (Traces input from to) = AnAssembly
 need_of (Shows input form) = AProgram
 need_of (Explains input) = AnyText
+need_of (Lists input) = AnAssembly
 
 -- the name of the file that it reads, if it reads one
 abbrev pub input_of : Asked → Option (List ℕ)
@@ -27,8 +29,10 @@ input_of (Types input) = Some input
 input_of (Evaluates input turns) = Some input
 input_of (Checks input) = Some input
 input_of (Runs input fuel) = Some input
+input_of (Costs input fuel) = Some input
 input_of (Generates seed output) = None
 input_of (Upgrades input output) = Some input
 input_of (Traces input from to) = Some input
 input_of (Shows input form) = Some input
 input_of (Explains input) = Some input
+input_of (Lists input) = Some input

@@ -16,7 +16,7 @@ use Rattle.t_rules.specs.Machine.{GoesOnAfter}
 use Rattle.seeds.specs.Source.{source}
 use Rattle.talc_core.specs.FirstFault.{Need, FirstFault, IsChecked, IsAcceptedText, IsTaken}
 use Rattle.talc_core.specs.Command.{Asked, Compiles, CompilesWithin, Types, Evaluates, Checks, Runs, Generates}
-use Rattle.talc_core.specs.Command.{Upgrades, Traces, Shows, Explains}
+use Rattle.talc_core.specs.Command.{Upgrades, Traces, Shows, Explains, Lists, Costs}
 use Rattle.talc_core.specs.Command.{command_of, need_of, input_of}
 use Rattle.talc_core.specs.Headline.{Outside, Headline}
 
@@ -40,11 +40,13 @@ WorksOn (Types input) old text = Tells old.files.told input text
 WorksOn (Evaluates input turns) old text = Tells old.files.told input text
 WorksOn (Checks input) old text = Tells old.files.told input text
 WorksOn (Runs input fuel) old text = Tells old.files.told input text
+WorksOn (Costs input fuel) old text = Tells old.files.told input text
 WorksOn (Generates seed output) old text = text ≡ source seed
 WorksOn (Upgrades input output) old text = Tells old.files.told input text
 WorksOn (Traces input from to) old text = Tells old.files.told input text
 WorksOn (Shows input form) old text = Tells old.files.told input text
 WorksOn (Explains input) old text = Tells old.files.told input text
+WorksOn (Lists input) old text = Tells old.files.told input text
 
 -- the words ask for this to be done with this text
 abbrev pub Asking : List (List ℕ) → Outside → Asked → List ℕ → Type 0
@@ -71,12 +73,14 @@ CannotWrite (Types input) old new = Faulted old.out.faults new.out.faults
 CannotWrite (Evaluates input turns) old new = Faulted old.out.faults new.out.faults
 CannotWrite (Checks input) old new = Faulted old.out.faults new.out.faults
 CannotWrite (Runs input fuel) old new = Faulted old.out.faults new.out.faults
+CannotWrite (Costs input fuel) old new = Faulted old.out.faults new.out.faults
 CannotWrite (Generates seed output) old new =
     Faulted old.files.writes new.files.writes ⊎ Faulted old.out.faults new.out.faults
 CannotWrite (Upgrades input output) old new = Faulted old.files.writes new.files.writes
 CannotWrite (Traces input from to) old new = Faulted old.out.faults new.out.faults
 CannotWrite (Shows input form) old new = Faulted old.out.faults new.out.faults
 CannotWrite (Explains input) old new = Faulted old.out.faults new.out.faults
+CannotWrite (Lists input) old new = Faulted old.out.faults new.out.faults
 
 -- the command has a budget
 abbrev pub HasBudget : Asked → Type 0
@@ -86,11 +90,13 @@ HasBudget (Types input) = ⊥
 HasBudget (Evaluates input turns) = Unit {0}
 HasBudget (Checks input) = ⊥
 HasBudget (Runs input fuel) = Unit {0}
+HasBudget (Costs input fuel) = Unit {0}
 HasBudget (Generates seed output) = ⊥
 HasBudget (Upgrades input output) = ⊥
 HasBudget (Traces input from to) = Unit {0}
 HasBudget (Shows input form) = ⊥
 HasBudget (Explains input) = ⊥
+HasBudget (Lists input) = ⊥
 
 -- the text is what the command needs, and the end isn't reached within the budget
 abbrev pub GoesOn : Asked → List ℕ → Type 0
@@ -102,12 +108,15 @@ GoesOn (Evaluates input turns) source =
 GoesOn (Checks input) source = ⊥
 GoesOn (Runs input fuel) source =
     (program : SProg) × IsAcceptedText source program × GoesOnAfter (plain_program program) fuel
+GoesOn (Costs input fuel) source =
+    (program : SProg) × IsAcceptedText source program × GoesOnAfter (plain_program program) fuel
 GoesOn (Generates seed output) source = ⊥
 GoesOn (Upgrades input output) source = ⊥
 GoesOn (Traces input from to) source =
     (program : SProg) × IsAcceptedText source program × GoesOnAfter (plain_program program) to
 GoesOn (Shows input form) source = ⊥
 GoesOn (Explains input) source = ⊥
+GoesOn (Lists input) source = ⊥
 
 -- no count of faults of the files or of the output rises in the call or stands at its last value
 pub record NoFaults (old new : Outside) : Type 0 where

@@ -1,7 +1,7 @@
 -- What a call of the compiler does, by its status.
 use Rattle.std.specs.Prelude.{◌≡◌, ◌⊎◌, ℕ, List, MatchOption}
-use Rattle.io_core.specs.Outside.{FilesState, SinkState, Faulted, IsAbsent, Holds, SameBut}
-use Rattle.io_core.specs.Outside.{with_file, gained, GainedPart}
+use Rattle.io_core.specs.Outside.{FilesState, SinkState, Faulted, IsAbsent, Holds, SameBut, Reading, Writing}
+use Rattle.io_core.specs.Outside.{with_file, with_call, gained, GainedPart}
 use Rattle.talc_core.specs.declared.status.Status.{Status}
 use Rattle.talc_core.specs.declared.status.Status.TheVariants.{Done, Refused, Usage, Limit}
 use Rattle.talc_core.specs.declared.status.Status.TheVariants.{Budget, ReadFault, WriteFault, Memory}
@@ -11,12 +11,14 @@ use Rattle.talc_core.specs.FirstFault.{Need, AnyText, AnyTerm, AProgram, CellFre
 use Rattle.talc_core.specs.CompiledText.{CompiledText, CompiledTextWithin}
 use Rattle.talc_core.specs.Upgraded.{IsUpgraded}
 use Rattle.seeds.specs.Source.{source}
-use Rattle.talc_core.specs.Shown.{Showing, ShowsType, ShowsValue, ShowsAccepted, ShowsRun, ShowsTrace, SeedShown}
+use Rattle.talc_core.specs.Shown.{Showing, ShowsType, ShowsValue, ShowsAccepted, ShowsRun, ShowsTrace, ShowsCost}
+use Rattle.talc_core.specs.Shown.{SeedShown}
 use Rattle.talc_core.specs.FormShown.{ShowsForm}
 use Rattle.talc_core.specs.Explained.{ShowsExplained}
+use Rattle.talc_core.specs.Listed.{ShowsListing}
 use Rattle.talc_core.specs.OnTexts.{Making}
 use Rattle.talc_core.specs.Command.{Asked, Compiles, CompilesWithin, Types, Evaluates, Checks, Runs, Generates}
-use Rattle.talc_core.specs.Command.{Upgrades, Traces, Explains}
+use Rattle.talc_core.specs.Command.{Upgrades, Traces, Explains, Lists, Costs}
 use Rattle.talc_core.specs.Command as command
 use Rattle.talc_core.specs.Command.{command_of}
 use Rattle.talc_core.specs.Lines.{fault_line, read_line, write_line, memory_line}
@@ -45,6 +47,23 @@ Unwritten old new = (new.told ≡ old.told) × (new.writes ≡ old.writes)
 abbrev pub Unread : FilesState → FilesState → Type 0
 Unread old new = new.reads ≡ old.reads
 
+-- The calls of the files, where they are told. The input was read, once, and no other call was made.
+abbrev pub ReadAlone : (input : List ℕ) → FilesState → FilesState → Type 0
+ReadAlone input old new = new.calls ≡ with_call old.calls (Reading input)
+
+-- this text was written to the output, once, and no other call was made
+abbrev pub WrittenAlone : (output text : List ℕ) → FilesState → FilesState → Type 0
+WrittenAlone output text old new = new.calls ≡ with_call old.calls (Writing output text)
+
+-- the input was read, then this text was written to the output, and no other call was made
+abbrev pub ReadThenWritten : (input output text : List ℕ) → FilesState → FilesState → Type 0
+ReadThenWritten input output text old new =
+    new.calls ≡ with_call (with_call old.calls (Reading input)) (Writing output text)
+
+-- no call was made, or the input was read and no other call was made
+abbrev pub AtMostRead : (input : List ℕ) → FilesState → FilesState → Type 0
+AtMostRead input old new = (new.calls ≡ old.calls) ⊎ ReadAlone input old new
+
 -- ---- what several commands do
 
 -- 1 and 3: the input's text has this first fault, which leads to this status; the line names it, and no file is written
@@ -57,6 +76,7 @@ pub record TextRefused (status : Status) (need : Need) (input : List ℕ) (old n
   pub line : Shows old.err new.err (fault_line fault)
   pub out : new.out ≡ old.out
   pub files : Unwritten old.files new.files
+  pub calls : ReadAlone input old.files new.files
 
 -- 5: the count of reads rose or stands at its last value, or there is no such file; no file is written
 pub record NotRead (input : List ℕ) (old new : Outside) : Type 0 where
@@ -64,12 +84,14 @@ pub record NotRead (input : List ℕ) (old new : Outside) : Type 0 where
   pub line : Shows old.err new.err read_line
   pub out : new.out ≡ old.out
   pub files : Unwritten old.files new.files
+  pub calls : ReadAlone input old.files new.files
 
 -- 7: no file is written
-pub record OutOfMemory (old new : Outside) : Type 0 where
+pub record OutOfMemory (input : List ℕ) (old new : Outside) : Type 0 where
   pub line : ShowsOrNot old.err new.err memory_line
   pub out : new.out ≡ old.out
   pub files : Unwritten old.files new.files
+  pub calls : AtMostRead input old.files new.files
 
 -- ---- the commands that write a text made of another
 
@@ -82,6 +104,7 @@ pub record TextWritten (Makes : Making) (input output : List ℕ) (old new : Out
   pub written : new.files.told ≡ with_file old.files.told output target
   pub out : new.out ≡ old.out
   pub err : new.err ≡ old.err
+  pub calls : ReadThenWritten input output target old.files new.files
 
 -- 6: the text was made, and the count of writes rose or stands at its last value; every other file is as before
 pub record TextNotWritten (Makes : Making) (input output : List ℕ) (old new : Outside) : Type 0 where
@@ -93,6 +116,7 @@ pub record TextNotWritten (Makes : Making) (input output : List ℕ) (old new : 
   pub line : ShowsOrNot old.err new.err write_line
   pub out : new.out ≡ old.out
   pub files : SameBut output old.files.told new.files.told
+  pub calls : ReadThenWritten input output target old.files new.files
 
 -- what such a command does, which needs this of the text; other statuses never come
 abbrev pub TextAnswer : Making → Need → List ℕ → List ℕ → Outside → Outside → Status → Type 0
@@ -101,7 +125,7 @@ TextAnswer Makes need input output old new Refused = TextRefused Refused need in
 TextAnswer Makes need input output old new Limit = TextRefused Limit need input old new
 TextAnswer Makes need input output old new ReadFault = NotRead input old new
 TextAnswer Makes need input output old new WriteFault = TextNotWritten Makes input output old new
-TextAnswer Makes need input output old new Memory = OutOfMemory old new
+TextAnswer Makes need input output old new Memory = OutOfMemory input old new
 TextAnswer Makes need input output old new other = ⊥
 
 -- ---- the commands that show a line
@@ -115,6 +139,7 @@ pub record LineShown (Says : List ℕ → List ℕ → Type 0) (input : List ℕ
   pub out : new.out.taken ≡ gained old.out.taken line
   pub err : new.err ≡ old.err
   pub files : Unwritten old.files new.files
+  pub calls : ReadAlone input old.files new.files
 
 -- 6: the output's count rose or stands at its last value, and it has taken a first part of the line
 pub record LineNotShown (Says : Showing) (input : List ℕ) (old new : Outside) : Type 0 where
@@ -127,6 +152,7 @@ pub record LineNotShown (Says : Showing) (input : List ℕ) (old new : Outside) 
   pub line : ShowsOrNot old.err new.err write_line
   pub out : GainedPart old.out.taken shown new.out.taken
   pub files : Unwritten old.files new.files
+  pub calls : ReadAlone input old.files new.files
 
 -- what such a command does, which needs this of the text and may show these lines
 abbrev pub LineAnswer : Showing → Need → List ℕ → Outside → Outside → Status → Type 0
@@ -136,7 +162,7 @@ LineAnswer Says need input old new Refused = TextRefused Refused need input old 
 LineAnswer Says need input old new Limit = TextRefused Limit need input old new
 LineAnswer Says need input old new ReadFault = NotRead input old new
 LineAnswer Says need input old new WriteFault = LineNotShown Says input old new
-LineAnswer Says need input old new Memory = OutOfMemory old new
+LineAnswer Says need input old new Memory = OutOfMemory input old new
 LineAnswer Says need input old new Usage = ⊥
 
 -- ---- the command `gen`
@@ -153,6 +179,7 @@ pub record SeedDone (seed : ℕ) (output : List ℕ) (old new : Outside) : Type 
   pub out : new.out.taken ≡ gained old.out.taken lines
   pub err : new.err ≡ old.err
   pub unread : Unread old.files new.files
+  pub calls : WrittenAlone output (source seed) old.files new.files
 
 -- 6 from the write: the count of writes rose or stands at its last value; every other file is as before. The write came
 -- after the work: there are lines to be shown
@@ -164,6 +191,7 @@ pub record SeedNotWritten (seed : ℕ) (output : List ℕ) (old new : Outside) :
   pub out : new.out ≡ old.out
   pub files : SameBut output old.files.told new.files.told
   pub unread : Unread old.files new.files
+  pub calls : WrittenAlone output (source seed) old.files new.files
 
 -- 6 from the output: its count rose or stands at its last value, and it has taken a first part of the lines
 pub record SeedNotShown (seed : ℕ) (output : List ℕ) (old new : Outside) : Type 0 where
@@ -174,19 +202,21 @@ pub record SeedNotShown (seed : ℕ) (output : List ℕ) (old new : Outside) : T
   pub line : ShowsOrNot old.err new.err write_line
   pub out : GainedPart old.out.taken lines new.out.taken
   pub unread : Unread old.files new.files
+  pub calls : WrittenAlone output (source seed) old.files new.files
 
 -- the output's file is set to the source of the seed, after the work: there are lines to be shown
 pub record SeedWrittenAlone (seed : ℕ) (output : List ℕ) (old new : Outside) : Type 0 where
   pub lines : List ℕ
   pub says : SeedShown seed lines
   pub written : SeedWritten seed output old new
+  pub calls : WrittenAlone output (source seed) old.files new.files
 
 -- 7: no file is written; or the file is, and then the put found no memory
 pub record SeedOutOfMemory (seed : ℕ) (output : List ℕ) (old new : Outside) : Type 0 where
   pub line : ShowsOrNot old.err new.err memory_line
   pub out : new.out ≡ old.out
   pub unread : Unread old.files new.files
-  pub files : Unwritten old.files new.files ⊎ SeedWrittenAlone seed output old new
+  pub files : (Unwritten old.files new.files × (new.files.calls ≡ old.files.calls)) ⊎ SeedWrittenAlone seed output old new
 
 -- what `gen` does; other statuses never come
 abbrev pub SeedAnswer : ℕ → List ℕ → Outside → Outside → Status → Type 0
@@ -224,11 +254,13 @@ Does old new status (Types input) = LineAnswer ShowsType AnyTerm input old new s
 Does old new status (Evaluates input turns) = LineAnswer (ShowsValue turns) CellFree input old new status
 Does old new status (Checks input) = LineAnswer ShowsAccepted AnAssembly input old new status
 Does old new status (Runs input fuel) = LineAnswer (ShowsRun fuel) AnAssembly input old new status
+Does old new status (Costs input fuel) = LineAnswer (ShowsCost fuel) AnAssembly input old new status
 Does old new status (Generates seed output) = SeedAnswer seed output old new status
 Does old new status (Upgrades input output) = TextAnswer IsUpgraded AnAssembly input output old new status
 Does old new status (Traces input from to) = LineAnswer (ShowsTrace from to) AnAssembly input old new status
 Does old new status (command.Shows input form) = LineAnswer (ShowsForm form) AProgram input old new status
-Does old new status (Explains input) = LineAnswer ShowsExplained AnyText input old new status
+Does old new status (Explains input) = LineAnswer (ShowsExplained input) AnyText input old new status
+Does old new status (Lists input) = LineAnswer ShowsListing AnAssembly input old new status
 
 -- The whole of it: what the words ask for is done, or the user is told that they are no command.
 abbrev pub Headline : List (List ℕ) → Outside → Outside → Status → Type 0

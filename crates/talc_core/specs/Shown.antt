@@ -11,6 +11,7 @@ use Rattle.t_rules.specs.Machine.{HaltsWithin, Halts, GoesOnAfter, NeverSticks}
 use Rattle.seeds.specs.Source.{source as source_of}
 use Rattle.talc_core.specs.FirstFault.{IsChecked, IsAcceptedText}
 use Rattle.talc_core.specs.Compiled.{IsCompiled}
+use Rattle.talc_core.specs.Costed.{HaltedCost, RunningCost}
 use Rattle.talc_core.specs.Traced.{HaltedStates, RunningStates}
 use Rattle.talc_core.specs.Lines.{type_line, value_line, more_turns_line}
 use Rattle.talc_core.specs.Lines.{accepted_line, integer_line, more_instructions_line, seed_lines}
@@ -89,14 +90,25 @@ ShowsRun fuel Done text line = HaltedShown fuel text line
 ShowsRun fuel Budget text line = RunningShown fuel text line
 ShowsRun fuel other text line = ⊥
 
--- The assembly text stands for an accepted program, and the lines are those of its states from one number of
--- instructions to another, as far as it comes, and what `run` shows of it.
+-- The assembly text stands for an accepted program, and the lines are those of one that halts within so many
+-- instructions, or of one that goes on after them.
+abbrev pub ShowsOfRun : (Halted Running : List ℕ → SProg → List ℕ → Type 0) → Showing
+ShowsOfRun Halted Running Done text lines =
+    (program : SProg) × IsAcceptedText text program × Halted text program lines
+ShowsOfRun Halted Running Budget text lines =
+    (program : SProg) × IsAcceptedText text program × Running text program lines
+ShowsOfRun Halted Running other text lines = ⊥
+
+-- The lines are those of the program's states from one number of instructions to another, as far as it comes, and what
+-- `run` shows of it.
 abbrev pub ShowsTrace : (from to : ℕ) → Showing
-ShowsTrace from to Done text lines =
-    (program : SProg) × IsAcceptedText text program × HaltedStates (plain_program program) from to lines
-ShowsTrace from to Budget text lines =
-    (program : SProg) × IsAcceptedText text program × RunningStates (plain_program program) from to lines
-ShowsTrace from to other text lines = ⊥
+ShowsTrace from to =
+    ShowsOfRun (λ text program lines. HaltedStates (plain_program program) from to lines)
+    (λ text program lines. RunningStates (plain_program program) from to lines)
+
+-- The lines are the page of what its run made within so many instructions, and what `run` shows of it.
+abbrev pub ShowsCost : (fuel : ℕ) → Showing
+ShowsCost fuel = ShowsOfRun (HaltedCost fuel) (RunningCost fuel)
 
 -- the turns within which `gen` evaluates
 abbrev pub seed_turns : ℕ

@@ -1,5 +1,5 @@
 -- What the steps of a call do: the contracts of private functions. Nothing that is promised rests on this file.
-use Rattle.std.specs.Prelude.{◌≡◌, ◌≤◌, ◌⊎◌, ◌+◌, ◌*◌, ℕ, ℤ, List, [], Result, Ok, Err, Vec, false}
+use Rattle.std.specs.Prelude.{◌≡◌, ◌≤◌, ◌⊎◌, ◌+◌, ◌*◌, ℕ, ℤ, List, Result, Ok, Err, Vec, false}
 use Rattle.std.specs.declared.alloc.Global.{Global}
 use Rattle.io_core.specs.Outside.{FilesState, SinkState, Faulted, IsAbsent, Holds, SameBut}
 use Rattle.io_core.specs.Outside.{with_file, gained, GainedPart}
@@ -25,6 +25,7 @@ use Rattle.talc_core.specs.declared.report.Failure.TheVariants.{Refused, Read, W
 use Rattle.talc_core.specs.declared.refusal.Refusal.{Refusal}
 use Rattle.talc_core.specs.declared.refusal.Refusal.TheVariants as refusal
 use Rattle.talc_core.specs.declared.finding.Finding.{Finding}
+use Rattle.talc_core.specs.declared.finding.Told.{Told}
 use Rattle.talc_core.specs.declared.finding.Finding.TheVariants as finding
 use Rattle.talc_core.specs.declared.finding.Finding.TheVariants.{NoFault}
 use Rattle.talc_core.specs.declared.reply.Ending.{Ending}
@@ -32,20 +33,24 @@ use Rattle.talc_core.specs.declared.reply.Ending.TheVariants.{Ends, GoesOn}
 use Rattle.talc_core.specs.declared.reply.Reply.{Reply}
 use Rattle.talc_core.specs.Fault.{status_of}
 use Rattle.talc_core.specs.Command.{Asked, Compiles, CompilesWithin, Types, Evaluates, Checks, Runs, Generates}
-use Rattle.talc_core.specs.Command.{Upgrades, Traces, Explains}
+use Rattle.talc_core.specs.Command.{Upgrades, Traces, Explains, Lists, Costs}
 use Rattle.talc_core.specs.Command as command
 use Rattle.talc_core.specs.FirstFault.{Need, AnyText, AnyTerm, AProgram, CellFree, AnAssembly}
 use Rattle.talc_core.specs.FirstFault.{IsChecked, IsAcceptedText, IsTaken, FirstFault}
 use Rattle.talc_core.specs.CompiledText.{CompiledText, CompiledTextWithin}
 use Rattle.talc_core.specs.Upgraded.{IsUpgraded}
 use Rattle.seeds.specs.Source.{source as source_of}
-use Rattle.talc_core.specs.Shown.{Showing, ShowsType, ShowsValue, ShowsAccepted, ShowsRun, ShowsTrace}
+use Rattle.talc_core.specs.Shown.{Showing, ShowsType, ShowsValue, ShowsAccepted, ShowsRun, ShowsTrace, ShowsCost}
 use Rattle.talc_core.specs.Shown.{SeedShown, seed_turns}
 use Rattle.talc_core.specs.FormShown.{ShowsForm}
-use Rattle.talc_core.specs.AtOdds.{AtOdds}
+use Rattle.talc_core.specs.AtOdds as odds
+use Rattle.talc_core.specs.AtOdds.{AtOdds, unread_told}
+use Rattle.talc_core.specs.Wanted.{CouldStand}
 use Rattle.talc_core.specs.Explained.{ShowsExplained}
+use Rattle.talc_core.specs.Listed.{ShowsListing}
 use Rattle.talc_core.specs.OnTexts.{Making, RefusedBy, status_at}
 use Rattle.talc_core.specs.Headline.{Shows, ShowsOrNot, Unwritten, Unread}
+use Rattle.talc_core.specs.Headline.{ReadAlone, WrittenAlone, ReadThenWritten, AtMostRead}
 use Rattle.talc_core.specs.Lines.{fault_line, read_line, write_line, memory_line}
 
 -- ---- from a text to what a command needs of it
@@ -71,32 +76,40 @@ abbrev pub ChecksAssembly : List ℕ → Result Checked Refusal → Type 0
 ChecksAssembly text (Ok checked) = IsAcceptedText text (spanned_program (checked_program checked))
 ChecksAssembly text (Err why) = RefusedBy AnAssembly text why
 
--- the text is what is needed, or its first fault, with the line of the types that are at odds
+-- what is told of a fault, as the code holds it
+abbrev pub told_of : Told → odds.Told
+told_of t = record { lines = t.lines.items; form = t.form; value = t.value }
+
+-- the text is what is needed, or its first fault, with what is told of it
 abbrev pub IsFinding : Need → List ℕ → Finding → Type 0
 IsFinding need text NoFault = IsTaken need text
-IsFinding need text (finding.Fault fault types) = FirstFault need text fault × AtOdds text fault types.items
+IsFinding need text (finding.Fault fault told) = FirstFault need text fault × AtOdds text fault (told_of told)
 
--- the fault of a text that is not read, with no such line
-abbrev pub IsBare : Refusal → Finding → Type 0
-IsBare (refusal.Fault why) NoFault = ⊥
-IsBare (refusal.Fault why) (finding.Fault fault types) = (fault ≡ why) × (types.items ≡ [])
-IsBare refusal.Memory found = ⊥
+-- the fault of a text that is not read, of which no more is told than what could stand at its place
+abbrev pub IsBare : List ℕ → Refusal → Finding → Type 0
+IsBare text (refusal.Fault why) NoFault = ⊥
+IsBare text (refusal.Fault why) (finding.Fault fault told) =
+    (fault ≡ why) × CouldStand text why told.lines.items × (told_of told ≡ unread_told told.lines.items)
+IsBare text refusal.Memory found = ⊥
 
 -- ---- the calls of the outside
 
 -- the input's content, or why there is none
 abbrev pub ReadsInput : List ℕ → FilesState → FilesState → Result (Vec ℕ Global) Failure → Type 0
-ReadsInput input old new (Ok bytes) = Holds old.told input bytes.items × Unwritten old new
+ReadsInput input old new (Ok bytes) =
+    Holds old.told input bytes.items × Unwritten old new × ReadAlone input old new
 ReadsInput input old new (Err Read) =
-    (Faulted old.reads new.reads ⊎ IsAbsent old.told input) × Unwritten old new
+    (Faulted old.reads new.reads ⊎ IsAbsent old.told input) × Unwritten old new × ReadAlone input old new
 ReadsInput input old new (Err Memory) = new ≡ old
 ReadsInput input old new (Err other) = ⊥
 
 -- the output set to a text, or why not
 abbrev pub WritesOutput : List ℕ → List ℕ → FilesState → FilesState → Result (Unit {0}) Failure → Type 0
-WritesOutput output text old new (Ok done) = (new.told ≡ with_file old.told output text) × Unread old new
+WritesOutput output text old new (Ok done) =
+    (new.told ≡ with_file old.told output text) × Unread old new × WrittenAlone output text old new
 WritesOutput output text old new (Err Write) =
     Faulted old.writes new.writes × SameBut output old.told new.told × Unread old new
+    × WrittenAlone output text old new
 WritesOutput output text old new (Err Memory) = new ≡ old
 WritesOutput output text old new (Err other) = ⊥
 
@@ -121,32 +134,37 @@ abbrev pub MakesFile :
     Making → Need → List ℕ → List ℕ → FilesState → FilesState → Result Ending Failure → Type 0
 MakesFile Makes need input output old new (Ok Ends) =
     (source target : List ℕ) × Holds old.told input source × Makes source target
-    × (new.told ≡ with_file old.told output target)
+    × (new.told ≡ with_file old.told output target) × ReadThenWritten input output target old new
 MakesFile Makes need input output old new (Ok GoesOn) = ⊥
 MakesFile Makes need input output old new (Err (Refused fault)) =
     (source : List ℕ) × Holds old.told input source × FirstFault need source fault × Unwritten old new
+    × ReadAlone input old new
 MakesFile Makes need input output old new (Err Read) =
-    (Faulted old.reads new.reads ⊎ IsAbsent old.told input) × Unwritten old new
+    (Faulted old.reads new.reads ⊎ IsAbsent old.told input) × Unwritten old new × ReadAlone input old new
 MakesFile Makes need input output old new (Err Write) =
     (source target : List ℕ) × Holds old.told input source × Makes source target
     × Faulted old.writes new.writes × SameBut output old.told new.told
-MakesFile Makes need input output old new (Err Memory) = Unwritten old new
+    × ReadThenWritten input output target old new
+MakesFile Makes need input output old new (Err Memory) = Unwritten old new × AtMostRead input old new
 
 -- a line of a file put on the output, or why not
 abbrev pub ShowsFile :
     Showing → Need → List ℕ → FilesState → FilesState → SinkState → SinkState → Result Ending Failure → Type 0
 ShowsFile Says need input old new out out' (Ok ending) =
     (text line : List ℕ) × Holds old.told input text × Says (status_at ending) text line
-    × (out'.taken ≡ gained out.taken line) × Unwritten old new
+    × (out'.taken ≡ gained out.taken line) × Unwritten old new × ReadAlone input old new
 ShowsFile Says need input old new out out' (Err (Refused fault)) =
     (text : List ℕ) × Holds old.told input text × FirstFault need text fault
-    × Unwritten old new × (out' ≡ out)
+    × Unwritten old new × (out' ≡ out) × ReadAlone input old new
 ShowsFile Says need input old new out out' (Err Read) =
     (Faulted old.reads new.reads ⊎ IsAbsent old.told input) × Unwritten old new × (out' ≡ out)
+    × ReadAlone input old new
 ShowsFile Says need input old new out out' (Err Write) =
     (text line : List ℕ) × (ending : Ending) × Holds old.told input text × Says (status_at ending) text line
     × Faulted out.faults out'.faults × GainedPart out.taken line out'.taken × Unwritten old new
-ShowsFile Says need input old new out out' (Err Memory) = Unwritten old new × (out' ≡ out)
+    × ReadAlone input old new
+ShowsFile Says need input old new out out' (Err Memory) =
+    Unwritten old new × (out' ≡ out) × AtMostRead input old new
 
 -- memory was wanted
 abbrev pub WantsMemory : Refusal → Type 0
@@ -176,16 +194,18 @@ abbrev pub ShowsSeed :
     ℕ → List ℕ → FilesState → FilesState → SinkState → SinkState → Result Ending Failure → Type 0
 ShowsSeed seed output old new out out' (Ok Ends) =
     (lines : List ℕ) × SeedShown seed lines × (new.told ≡ with_file old.told output (source_of seed))
-    × (out'.taken ≡ gained out.taken lines) × Unread old new
+    × (out'.taken ≡ gained out.taken lines) × Unread old new × WrittenAlone output (source_of seed) old new
 ShowsSeed seed output old new out out' (Err Write) =
     ((lines : List ℕ) × SeedShown seed lines × Faulted old.writes new.writes × SameBut output old.told new.told
-    × (out' ≡ out) × Unread old new)
+    × (out' ≡ out) × Unread old new × WrittenAlone output (source_of seed) old new)
     ⊎ ((lines : List ℕ) × SeedShown seed lines × (new.told ≡ with_file old.told output (source_of seed))
-    × Faulted out.faults out'.faults × GainedPart out.taken lines out'.taken × Unread old new)
+    × Faulted out.faults out'.faults × GainedPart out.taken lines out'.taken × Unread old new
+    × WrittenAlone output (source_of seed) old new)
 ShowsSeed seed output old new out out' (Err Memory) =
     (out' ≡ out) × Unread old new
-    × (Unwritten old new
-    ⊎ ((lines : List ℕ) × SeedShown seed lines × (new.told ≡ with_file old.told output (source_of seed))))
+    × ((Unwritten old new × (new.calls ≡ old.calls))
+    ⊎ ((lines : List ℕ) × SeedShown seed lines × (new.told ≡ with_file old.told output (source_of seed))
+    × WrittenAlone output (source_of seed) old new))
 ShowsSeed seed output old new out out' other = ⊥
 
 -- what a command does on the files and the output, or why not
@@ -201,6 +221,8 @@ Performs (Evaluates input turns) old new out out' result =
 Performs (Checks input) old new out out' result = ShowsFile ShowsAccepted AnAssembly input old new out out' result
 Performs (Runs input fuel) old new out out' result =
     ShowsFile (ShowsRun fuel) AnAssembly input old new out out' result
+Performs (Costs input fuel) old new out out' result =
+    ShowsFile (ShowsCost fuel) AnAssembly input old new out out' result
 Performs (Generates seed output) old new out out' result = ShowsSeed seed output old new out out' result
 Performs (Upgrades input output) old new out out' result =
     MakesFile IsUpgraded AnAssembly input output old new result × (out' ≡ out)
@@ -208,7 +230,9 @@ Performs (Traces input from to) old new out out' result =
     ShowsFile (ShowsTrace from to) AnAssembly input old new out out' result
 Performs (command.Shows input form) old new out out' result =
     ShowsFile (ShowsForm form) AProgram input old new out out' result
-Performs (Explains input) old new out out' result = ShowsFile ShowsExplained AnyText input old new out out' result
+Performs (Explains input) old new out out' result =
+    ShowsFile (ShowsExplained input) AnyText input old new out out' result
+Performs (Lists input) old new out out' result = ShowsFile ShowsListing AnAssembly input old new out out' result
 
 -- ---- the lines for the user
 

@@ -5,6 +5,8 @@ use Rattle.t_text.specs.Text as assembly
 use Rattle.t_rules.specs.LawsFaults as checking
 use Rattle.f_check.specs.Laws as source_at_odds
 use Rattle.t_mismatch.specs.Mismatch as assembly_at_odds
+use Rattle.f_wanted.specs.Text as source_wanted
+use Rattle.t_wanted.specs.Text as assembly_wanted
 use Rattle.t_rules.specs.LawsSound.{OneRun, HaltingIsLast, HaltedOrOneStep, RunsOn, NothingSticks}
 
 pub record TextLaws : Type 0 where
@@ -38,9 +40,11 @@ pub record TextLaws : Type 0 where
   pub runs_on : RunsOn
   pub nothing_sticks : NothingSticks
 
--- and on the types that are at odds in faults
+-- and on the types that are at odds in faults, and on what could stand at their places
 pub record MismatchLaws : Type 0 where
   pub of_a_source_fault : source_at_odds.IsOfTheFault
   pub one_of_a_source : source_at_odds.OneMismatch
   pub of_an_assembly_fault : assembly_at_odds.MismatchIsOfTheFault
   pub one_of_an_assembly : assembly_at_odds.AtMostOneMismatch
+  pub one_source_line : source_wanted.OneLine
+  pub one_assembly_line : assembly_wanted.OneLine

@@ -7,6 +7,7 @@ use Rattle.spill_law.specs.Bound.{RegistersUpTo}
 use Rattle.spill_law.specs.Spill.{spilled}
 use Rattle.pipeline.specs.Compilation.{IsTranslation}
 use Rattle.pipeline.specs.Made.{IsMade}
+use Rattle.pipeline.specs.Work.{WorkByBound}
 use Rattle.talc_core.specs.FirstFault.{IsChecked}
 use Rattle.talc_core.specs.Written.{IsWritten}
 
@@ -22,13 +23,15 @@ pub record IsTranslated (source target : List ℕ) : Type 0 where
   pub translation : ∥ IsTranslation (plain term) program ∥₁
   pub made : ∥ IsMade (plain term) program ∥₁
 
--- The program is that translation of the term where that names no register above k, and else what it is spilled to.
+-- The program is that translation of the term where that names no register above k, and else what it is spilled to; by
+-- that it has the work of the one or of the other.
 pub record IsTranslationWithin (k : ℕ) (e : Term) (P : TProg) : Type 0 where
   pub translated : TProg
   pub translation : IsTranslation e translated
   pub made : IsMade e translated
   pub stays : RegistersUpTo k translated → P ≡ translated
   pub framed : (RegistersUpTo k translated → ⊥) → P ≡ spilled k translated
+  pub work : WorkByBound k e translated P
 
 -- The same of a target text within registers 1 to k.
 pub record IsTranslatedWithin (k : ℕ) (source target : List ℕ) : Type 0 where

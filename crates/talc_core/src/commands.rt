@@ -5,8 +5,10 @@ ghost use Rattle.words.specs.Reads.{asked_by};
 
 use crate::commands::check::show_acceptance;
 use crate::commands::compile::{compile_file, compile_file_within};
+use crate::commands::cost::show_cost;
 use crate::commands::eval::show_value;
 use crate::commands::explain::show_explanation;
+use crate::commands::listed::show_listing;
 use crate::commands::run::show_run;
 use crate::commands::seed::show_seed;
 use crate::commands::show::show_form;
@@ -22,8 +24,10 @@ use words::Command;
 
 mod check;
 mod compile;
+mod cost;
 mod eval;
 mod explain;
+mod listed;
 mod run;
 mod seed;
 mod show;
@@ -33,8 +37,10 @@ mod upgrade;
 
 pub use check::check_text;
 pub use compile::{compile_text, compile_text_within};
+pub use cost::cost_text;
 pub use eval::eval_text;
 pub use explain::explain_text;
+pub use listed::listing_text;
 pub use run::run_text;
 pub use show::form_of_text;
 pub use trace::trace_text;
@@ -69,11 +75,13 @@ pub(crate) fn perform<F: Files, O: Sink>(
         } => compile_file_within(alloc, files, input, output, registers),
         Command::Check { input } => show_acceptance(alloc, files, out, input),
         Command::Run { input, fuel } => show_run(alloc, files, out, input, fuel),
+        Command::Cost { input, fuel } => show_cost(alloc, files, out, input, fuel),
         Command::Typeof { input } => show_type(alloc, files, out, input),
         Command::Eval { input, turns } => show_value(alloc, files, out, input, turns),
         Command::Gen { seed, output } => show_seed(alloc, files, out, seed, output),
         Command::Show { input, form } => show_form(alloc, files, out, input, form),
         Command::Explain { input } => show_explanation(alloc, files, out, input),
+        Command::Listing { input } => show_listing(alloc, files, out, input),
         Command::Upgrade { input, output } => upgrade_file(alloc, files, input, output),
         Command::Trace { input, from, to } => {
             show_trace(alloc, files, out, input, Window { from, to })

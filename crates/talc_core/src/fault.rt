@@ -10,7 +10,7 @@ use std::fmt;
 use t_terms::TCode;
 
 pub(crate) mod codes;
-pub(crate) mod hints;
+pub(crate) mod wanted;
 
 /// The first fault of a text: the rule or limit that it breaks, and the place.
 #[derive(Clone, Copy, Debug, PartialEq, Eq, Drop)]

@@ -1,4 +1,4 @@
-// What is found of a text: its first fault, with the types that are at odds in it.
+// What is found of a text: its first fault, with what is told of it.
 ghost use Rattle.std.specs.Prelude.{◌≡◌, ◌≤◌, ℕ, List, IfOk};
 ghost use Rattle.f_terms.specs.Limits.{nodes};
 ghost use Rattle.f_terms.specs.ReadTerm.{spanned, term_of};
@@ -12,36 +12,64 @@ ghost use Rattle.t_terms.specs.ReadProgram.{spanned_program};
 ghost use Rattle.t_rules.specs.Faults as checking;
 ghost use Rattle.t_check.specs.Verdict as assembly;
 ghost use Rattle.talc_core.specs.FirstFault.{AProgram, AnAssembly, IsParsed, IsChecked, IsAssembly};
-ghost use Rattle.talc_core.specs.Steps.{IsBare, IsFinding};
+ghost use Rattle.talc_core.specs.Steps.{IsBare, IsFinding, told_of};
+ghost use Rattle.talc_core.specs.AtOdds.{with_no_value};
 
 use crate::fault::Fault;
+use crate::fault::wanted::could_stand;
 use crate::refusal::Refusal;
 use f_check::{Typed, check, each_fault_says_what_is_at_odds, mismatch_of};
 use f_parser::{closed_terms, parse};
 use f_terms::{Code, FFault, FTerm};
-use idx_core::OutOfMemory;
-use mismatch_text::{assembly_line, not_int_line, source_line};
+use fault_hint::Form;
+use idx_core::{OutOfMemory, Span};
+use mismatch_text::{assembly_line, form_of, found_form, not_int_line, source_line, value_place};
 use std::alloc::Global;
 use t_check::check_salted;
 use t_reader::{read_salted, salt_of};
 use t_terms::{TFault, TProgram};
+
+/// What is told of a fault besides its code and its place.
+#[derive(Drop)]
+pub(crate) struct Told {
+    /// What is at odds, or what could stand at the place, in lines without the last line end; or nothing.
+    pub(crate) lines: Vec<u8>,
+    /// The form of the type that is found.
+    pub(crate) form: Form,
+    /// The place of the value of a whole that is no program.
+    pub(crate) value: Option<Span>,
+}
 
 /// What is found of a text that is looked at for its first fault.
 #[derive(Drop)]
 pub(crate) enum Finding {
     /// It is what is looked for.
     NoFault,
-    /// It has this first fault, with a line on the types that are at odds, if any are.
-    Fault(Fault, Vec<u8>),
+    /// It has this first fault.
+    Fault(Fault, Told),
 }
 
-// Of a text that is not read no types are at odds.
-fn bare(alloc: Global, refusal: Refusal) -> Result<Finding, OutOfMemory>
-    ensures { IfOk result (IsBare refusal) }
+// Of a text that is not read no more is told than what could stand at the place.
+fn bare(alloc: Global, text: &[u8], refusal: Refusal) -> Result<Finding, OutOfMemory>
+    ensures { IfOk result (IsBare text.now refusal) }
 {
     match refusal {
-        Refusal::Fault(fault) => Ok(Finding::Fault(fault, Vec::new(alloc))),
+        Refusal::Fault(fault) => {
+            let wanted = could_stand(alloc, text, fault)?;
+            Ok(Finding::Fault(fault, only(wanted, Form::Untold)))
+        }
         Refusal::Memory => Err(OutOfMemory),
+    }
+}
+
+// These lines and this form, with no second place.
+fn only(lines: Vec<u8>, form: Form) -> Told
+    ensures { told_of result ≡ with_no_value lines.items form }
+{
+    Told {
+        lines,
+        form,
+        value: None,
     }
 }
 
@@ -56,8 +84,9 @@ fn find_in_refused(alloc: Global, term: &FTerm, fault: FFault) -> Result<Finding
     match fault {
         FFault::Refused { code, span } => {
             let mismatch = mismatch_of(alloc, term)?;
-            let types = source_line(alloc, &mismatch)?;
-            Ok(Finding::Fault(Fault::Source(code, span), types))
+            let lines = source_line(alloc, &mismatch)?;
+            let told = only(lines, found_form(&mismatch));
+            Ok(Finding::Fault(Fault::Source(code, span), told))
         }
         FFault::Memory => Err(OutOfMemory),
     }
@@ -71,8 +100,12 @@ fn find_in_typed(alloc: Global, typed: Typed) -> Result<Finding, OutOfMemory>
     match typed.program() {
         Ok(_) => Ok(Finding::NoFault),
         Err((typed, span)) => {
-            let types = not_int_line(alloc, typed.ty())?;
-            Ok(Finding::Fault(Fault::Source(Code::E15, span), types))
+            let told = Told {
+                lines: not_int_line(alloc, typed.ty())?,
+                form: form_of(typed.ty()),
+                value: value_place(typed.term()),
+            };
+            Ok(Finding::Fault(Fault::Source(Code::E15, span), told))
         }
     }
 }
@@ -87,7 +120,7 @@ pub(crate) fn find_in_source(alloc: Global, text: &[u8]) -> Result<Finding, OutO
             Ok(typed) => find_in_typed(alloc, typed),
             Err((term, fault)) => find_in_refused(alloc, &term, fault),
         },
-        Err(fault) => bare(alloc, Refusal::from(fault)),
+        Err(fault) => bare(alloc, text, Refusal::from(fault)),
     }
 }
 
@@ -100,8 +133,8 @@ fn find_in_program(alloc: Global, program: &TProgram, fault: TFault) -> Result<F
     match fault {
         TFault::Refused { code, span } => {
             let mismatch = t_check::mismatch_of(alloc, program)?;
-            let types = assembly_line(alloc, &mismatch)?;
-            Ok(Finding::Fault(Fault::Tal(code, span), types))
+            let lines = assembly_line(alloc, &mismatch)?;
+            Ok(Finding::Fault(Fault::Tal(code, span), only(lines, Form::Untold)))
         }
         TFault::Memory => Err(OutOfMemory),
     }
@@ -117,6 +150,6 @@ pub(crate) fn find_in_assembly(alloc: Global, text: &[u8]) -> Result<Finding, Ou
             Ok(_) => Ok(Finding::NoFault),
             Err((program, fault)) => find_in_program(alloc, &program, fault),
         },
-        Err(fault) => bare(alloc, Refusal::from(fault)),
+        Err(fault) => bare(alloc, text, Refusal::from(fault)),
     }
 }

@@ -12,8 +12,10 @@ ghost use Rattle.talc_core.specs.Composition.{UpgradedTracesTheSame, UpgradedNev
 ghost use Rattle.talc_core.specs.Composition.{OneCompiledText, OneUpgrade, OneWrittenText};
 ghost use Rattle.talc_core.specs.Composition.{OneForm, ShownAssemblyIsCompiled, ShownSourceIsTheSame};
 ghost use Rattle.talc_core.specs.Composition.{ShownSourceIsTaken, ShownSourceShowsTheSame, ShownSourceIsKept};
+ghost use Rattle.talc_core.specs.CostLaws.{OneCost, CostEndsAsRun};
 ghost use Rattle.talc_core.specs.Exact.{HeadlineIsExact};
-ghost use Rattle.talc_core.specs.Explained.{OneExplanation, TakenIsExplained};
+ghost use Rattle.talc_core.specs.Explained.{CheckedIsExplained, OneExplanation, TakenIsExplained};
+ghost use Rattle.talc_core.specs.Listed.{OneListing};
 ghost use Rattle.talc_core.specs.TextLaws.{MismatchLaws, TextLaws};
 ghost use Rattle.talc_core.specs.Traced.{LinesShowKinds, OneLine};
 ghost use Rattle.talc_core.specs.TraceLaws.{OneTrace, TraceEndsAsRun};
@@ -27,6 +29,7 @@ use t_machine::seldom_runs_are_covered;
 use t_rules::{
     accepted_or_fault, accepted_programs_are_never_stuck, accepted_programs_go_on,
     erased_words_are_of_their_kind, no_fault_where_accepted, places_are_known, runs_are_unique,
+    runs_count_alike,
 };
 use t_text::{at_most_one_program, program_or_fault};
 
@@ -59,7 +62,7 @@ pub(crate) fn texts_keep_laws()
     accepted_programs_are_never_stuck();
 }
 
-// And what laws of the types that are at odds in faults stand on.
+// And what laws of the types that are at odds in faults, and of what could stand at their places, stand on.
 fn mismatches_keep_laws()
     ensures { MismatchLaws }
 {
@@ -67,6 +70,8 @@ fn mismatches_keep_laws()
     f_check::faults_have_one_mismatch();
     t_mismatch::mismatch_is_of_the_fault();
     t_mismatch::at_most_one_mismatch();
+    f_wanted::one_line();
+    t_wanted::one_line();
 }
 
 /// Two first faults of one text are equal, where the same is needed of it.
@@ -290,6 +295,20 @@ pub fn trace_ends_as_run()
     ensures { TraceEndsAsRun }
 {}
 
+/// What `cost` shows of a text, and the status that it ends with, are told by the text and the fuel.
+pub fn one_cost()
+    ensures { OneCost }
+{
+    texts_keep_laws();
+    runs_count_alike();
+}
+
+/// The last line that `cost` shows of a text is what `run` shows of it within as many instructions, with the same
+/// status.
+pub fn cost_ends_as_run()
+    ensures { CostEndsAsRun }
+{}
+
 /// Of each text that `check` takes `explain` shows that there is no fault: its first token is the word `tal`.
 pub fn taken_is_explained()
     ensures { TakenIsExplained }
@@ -297,12 +316,29 @@ pub fn taken_is_explained()
     text_kind::assembly_begins_so();
 }
 
-/// What `explain` shows of a text is told by the text.
+/// Of each text whose first token is the word `tal`, `explain` shows that there is no fault where `check` takes it, and
+/// a page on the fault for which `check` refuses it, and of no other text and on no other fault.
+pub fn checked_is_explained()
+    ensures { CheckedIsExplained }
+{
+    t_mismatch::each_fault_says();
+    t_lexer::no_token_fault_where_cut();
+}
+
+/// What `explain` shows of a text is told by its name and the text.
 pub fn one_explanation()
     ensures { OneExplanation }
 {
     texts_keep_laws();
     mismatches_keep_laws();
+}
+
+/// What `listing` shows of a text is told by the text.
+pub fn one_listing()
+    ensures { OneListing }
+{
+    texts_keep_laws();
+    places_are_known();
 }
 
 /// What `show` shows of a text in a form is one text.

@@ -1,11 +1,12 @@
 -- What `clap` takes by the description is a command.
-use Rattle.std.proofs.Common.{◌≡◌, ◌≤◌, ◌||◌, ℕ, Bool, true, false, not, cond, List, [], ◌∷◌, drop, Option, Some, None}
-use Rattle.std.proofs.Common.{IsSome, IfSome, MatchOption, is_some, option_map, refl, sym, subst, inl, inr, codes}
+use Rattle.std.proofs.Common.{◌≡◌, ◌≤◌, ◌||◌, ℕ, Bool, true, false, not, cond, List, [], ◌∷◌, drop, find, Option, Some}
+use Rattle.std.proofs.Common.{None, IsSome, IfSome, MatchOption, is_some, option_map, refl, sym, subst, inl, inr, codes}
 use Rattle.std.specs.Option.{option_map_or}
+use Rattle.std.specs.List.{AllByRecursion}
 use Rattle.std.proofs.lemmas.Slice.Eq.{bytes_eq-Decides}
 use Rattle.clap.specs.Walk.{Row, Rule, Text, Held, answers_to, finished, rows_after, settled, walk, walk_from}
 use Rattle.clap.specs.Walk.{nothing_held}
-use Rattle.clap.specs.Simple.{App, Shape, built, entered, names_of, rows_at, subcommand_of}
+use Rattle.clap.specs.Simple.{App, Shape, built, entered, label_of, names_of, rows_at, subcommand_of}
 use Rattle.clap.specs.Takes.{is_given}
 use Rattle.clap.specs.Words.{first_of, one_of}
 use Rattle.clap.specs.Faults as f
@@ -14,7 +15,8 @@ use Rattle.clap.specs.Kinds.{Kinds}
 use Rattle.clap.specs.declared.error.kind.ErrorKind.TheVariants.{MissingRequiredArgument}
 use Rattle.words.specs.Description.{talc_app}
 use Rattle.words.specs.declared.form.Form.{Form}
-use Rattle.words.specs.Command.{Asked, CompilesWithin, EnoughRegisters, Evaluates, Generates, NamesForm, Runs, Shows}
+use Rattle.words.specs.Command.{Asked, Checks, CompilesWithin, Costs, EnoughRegisters, Evaluates, Explains, Generates}
+use Rattle.words.specs.Command.{Lists, NamesForm, Runs, Shows, Types}
 use Rattle.words.specs.Command.{asked_between, asked_in, asked_of, asked_with, asked_within, command_of, form_in}
 use Rattle.words.specs.Command.{number_in, number_of, where_none}
 use Rattle.words.specs.Laws.{CommandWhereTaken, RegistersAreEnough}
@@ -56,6 +58,12 @@ show_leaf = leaf (drop 8 (built talc_app).subs)
 abbrev explain_leaf : Shape
 explain_leaf = leaf (drop 9 (built talc_app).subs)
 
+abbrev cost_leaf : Shape
+cost_leaf = leaf (drop 10 (built talc_app).subs)
+
+abbrev listing_leaf : Shape
+listing_leaf = leaf (drop 11 (built talc_app).subs)
+
 -- the argument takes a value at each use or asks for help, and has no default
 abbrev IsOrdinary : Rule → Type 0
 IsOrdinary a = IsPlain a × (a.defaults ≡ [])
@@ -92,6 +100,12 @@ show_ordinary = ((inl (refl, refl), refl), ((inl (refl, refl), refl), ((inr refl
 explain_ordinary : Each IsOrdinary explain_leaf.rules
 explain_ordinary = ((inl (refl, refl), refl), ((inr refl, refl), tt))
 
+cost_ordinary : Each IsOrdinary cost_leaf.rules
+cost_ordinary = ((inl (refl, refl), refl), ((inl (refl, refl), refl), ((inr refl, refl), tt)))
+
+listing_ordinary : Each IsOrdinary listing_leaf.rules
+listing_ordinary = ((inl (refl, refl), refl), ((inr refl, refl), tt))
+
 compile_numbers : Each (IsRegistersIf (codes "registers")) compile_leaf.rules
 compile_numbers = (λ named. cc, (λ named. cc, (λ named. (refl, refl), (λ named. cc, tt))))
 
@@ -109,6 +123,9 @@ first_numbers = (λ named. cc, (λ named. (refl, refl), (λ named. cc, (λ named
 
 last_numbers : Each (IsNumberIf (codes "to")) trace_leaf.rules
 last_numbers = (λ named. cc, (λ named. cc, (λ named. (refl, refl), (λ named. cc, tt))))
+
+cost_numbers : Each (IsNumberIf (codes "fuel")) cost_leaf.rules
+cost_numbers = (λ named. cc, (λ named. (refl, refl), (λ named. cc, tt)))
 
 -- nothing that is required is missing
 all_given : (a b c : Bool) → cond (not a || (not b || (not c || false))) (MissingRequiredArgument ∷ []) [] ≡ [] →
@@ -162,17 +179,22 @@ upgrade_asks rows held none =
     let output = first_given upgrade_leaf.rules (codes "OUT") rows held given.1 in
     rw (input.1, output.1) tt
 
+-- a file alone
+file_asks : (asks : Text → Asked) → ((t : Text) → EnoughRegisters (asks t)) → (s : Shape) (rows : List Row) →
+    AreRows s.rules rows → is_given (codes "IN") rows ≡ true → Asks (option_map asks (first_of (codes "IN") rows))
+file_asks asks free s rows held given =
+    let input = first_given s.rules (codes "IN") rows held given in
+    rw input.1 (free input.0)
+
 check_asks : (rows : List Row) → AreRows check_leaf.rules rows → f.check_fault check_leaf rows false ≡ [] →
     Asks (asked_in (codes "check") rows)
 check_asks rows held none =
-    let input = first_given check_leaf.rules (codes "IN") rows held (one_given (is_given (codes "IN") rows) none) in
-    rw input.1 tt
+    file_asks Checks (λ t. tt) check_leaf rows held (one_given (is_given (codes "IN") rows) none)
 
 typeof_asks : (rows : List Row) → AreRows typeof_leaf.rules rows → f.check_fault typeof_leaf rows false ≡ [] →
     Asks (asked_in (codes "typeof") rows)
 typeof_asks rows held none =
-    let input = first_given typeof_leaf.rules (codes "IN") rows held (one_given (is_given (codes "IN") rows) none) in
-    rw input.1 tt
+    file_asks Types (λ t. tt) typeof_leaf rows held (one_given (is_given (codes "IN") rows) none)
 
 numbered : (asks : Text → ℕ → Asked) → ((t : Text) (n : ℕ) → EnoughRegisters (asks t n)) →
     (input : Text) (number : Option ℕ) → IsSome number → Asks (asked_with asks (Some input) number)
@@ -238,8 +260,21 @@ show_asks rows held none form =
 explain_asks : (rows : List Row) → AreRows explain_leaf.rules rows → f.check_fault explain_leaf rows false ≡ [] →
     Asks (asked_in (codes "explain") rows)
 explain_asks rows held none =
-    let input = first_given explain_leaf.rules (codes "IN") rows held (one_given (is_given (codes "IN") rows) none) in
-    rw input.1 tt
+    file_asks Explains (λ t. tt) explain_leaf rows held (one_given (is_given (codes "IN") rows) none)
+
+cost_asks : (rows : List Row) → AreRows cost_leaf.rules rows → f.check_fault cost_leaf rows false ≡ [] →
+    Asks (asked_in (codes "cost") rows)
+cost_asks rows held none =
+    let given = both_given (is_given (codes "IN") rows) (is_given (codes "fuel") rows) none in
+    let input = first_given cost_leaf.rules (codes "IN") rows held given.0 in
+    let fuel = number_given cost_leaf.rules (codes "fuel") rows
+    (each (IsNumberIf (codes "fuel")) cost_leaf.rules cost_numbers) held given.1 in
+    rw input.1 (numbered Costs (λ t n. tt) input.0 (number_in (codes "fuel") rows) fuel)
+
+listing_asks : (rows : List Row) → AreRows listing_leaf.rules rows → f.check_fault listing_leaf rows false ≡ [] →
+    Asks (asked_in (codes "listing") rows)
+listing_asks rows held none =
+    file_asks Lists (λ t. tt) listing_leaf rows held (one_given (is_given (codes "IN") rows) none)
 
 -- a level of the parse of a subcommand, no error in it, and a form that has its name
 level_asks : (s : Shape) → Each IsOrdinary s.rules →
@@ -260,63 +295,51 @@ formless_asks : (s : Shape) → Each IsOrdinary s.rules →
     Asks (asked_of (Some (rows_at s words)))
 formless_asks s ordinary asks = level_asks s ordinary (λ rows held none form. asks rows held none)
 
--- the first subcommand for which its test holds
-abbrev chosen : (compiles checks runs types evaluates generates upgrades traces shows explains : Bool) → Option Shape
-chosen compiles checks runs types evaluates generates upgrades traces shows explains =
-    cond compiles (Some compile_leaf)
-    (cond checks (Some check_leaf)
-    (cond runs (Some run_leaf)
-    (cond types (Some typeof_leaf)
-    (cond evaluates (Some eval_leaf)
-    (cond generates (Some gen_leaf)
-    (cond upgrades (Some upgrade_leaf)
-    (cond traces (Some trace_leaf)
-    (cond shows (Some show_leaf) (cond explains (Some explain_leaf) None)))))))))
+-- the words of a subcommand in which no error is found are a command
+abbrev LeafAsks : Shape → Type 0
+LeafAsks s = (words : List Text) → f.level_fault s [] nothing_held words false [] ≡ [] →
+    NamesForm (Some (rows_at s words)) → Asks (asked_of (Some (rows_at s words)))
 
-entered_asks : (compiles checks runs types evaluates generates upgrades traces shows explains : Bool)
-    (words : List Text) →
-    option_map_or (λ s. f.level_fault s [] nothing_held words false [])
-    (chosen compiles checks runs types evaluates generates upgrades traces shows explains) [] ≡ []
-    → NamesForm (option_map (λ s. rows_at s words)
-    (chosen compiles checks runs types evaluates generates upgrades traces shows explains))
-    →
-    (is_some (option_map (λ s. rows_at s words)
-    (chosen compiles checks runs types evaluates generates upgrades traces shows explains)) ≡ true) →
-    Asks (asked_of
-    (option_map (λ s. rows_at s words)
-    (chosen compiles checks runs types evaluates generates upgrades traces shows explains)))
-entered_asks true b1 b2 b3 b4 b5 b6 b7 b8 b9 words none form entered =
-    formless_asks compile_leaf compile_ordinary compile_asks words none form
-entered_asks false true b2 b3 b4 b5 b6 b7 b8 b9 words none form entered =
-    formless_asks check_leaf check_ordinary check_asks words none form
-entered_asks false false true b3 b4 b5 b6 b7 b8 b9 words none form entered =
-    formless_asks run_leaf run_ordinary run_asks words none form
-entered_asks false false false true b4 b5 b6 b7 b8 b9 words none form entered =
-    formless_asks typeof_leaf typeof_ordinary typeof_asks words none form
-entered_asks false false false false true b5 b6 b7 b8 b9 words none form entered =
-    formless_asks eval_leaf eval_ordinary eval_asks words none form
-entered_asks false false false false false true b6 b7 b8 b9 words none form entered =
-    formless_asks gen_leaf gen_ordinary gen_asks words none form
-entered_asks false false false false false false true b7 b8 b9 words none form entered =
-    formless_asks upgrade_leaf upgrade_ordinary upgrade_asks words none form
-entered_asks false false false false false false false true b8 b9 words none form entered =
-    formless_asks trace_leaf trace_ordinary trace_asks words none form
-entered_asks false false false false false false false false true b9 words none form entered =
-    level_asks show_leaf show_ordinary (λ rows held given named. show_asks rows held given (named refl)) words none
-    form
-entered_asks false false false false false false false false false true words none form entered =
-    formless_asks explain_leaf explain_ordinary explain_asks words none form
-entered_asks false false false false false false false false false false words none form entered = cc
+both : {A B : Type 0} → A → B → A × B
+both a b = (a, b)
+
+each_asks : AllByRecursion LeafAsks (built talc_app).subs
+each_asks =
+    both (formless_asks compile_leaf compile_ordinary compile_asks)
+    (both (formless_asks check_leaf check_ordinary check_asks)
+    (both (formless_asks run_leaf run_ordinary run_asks)
+    (both (formless_asks typeof_leaf typeof_ordinary typeof_asks)
+    (both (formless_asks eval_leaf eval_ordinary eval_asks)
+    (both (formless_asks gen_leaf gen_ordinary gen_asks)
+    (both (formless_asks upgrade_leaf upgrade_ordinary upgrade_asks)
+    (both (formless_asks trace_leaf trace_ordinary trace_asks)
+    (both (level_asks show_leaf show_ordinary (λ rows held given named. show_asks rows held given (named refl)))
+    (both (formless_asks explain_leaf explain_ordinary explain_asks)
+    (both (formless_asks cost_leaf cost_ordinary cost_asks)
+    (both (formless_asks listing_leaf listing_ordinary listing_asks) tt)))))))))))
+
+-- so it is for the first subcommand for which a test holds, where there is one
+abbrev FoundAsks : Option Shape → List Text → Type 0
+FoundAsks found words =
+    option_map_or (λ s. f.level_fault s [] nothing_held words false []) found [] ≡ [] →
+    NamesForm (option_map (λ s. rows_at s words) found) →
+    is_some (option_map (λ s. rows_at s words) found) ≡ true → Asks (asked_of (option_map (λ s. rows_at s words) found))
+
+chosen_asks : (p : Shape → Bool) (subs : List Shape) → AllByRecursion LeafAsks subs → (words : List Text) →
+    FoundAsks (find p subs) words
+chosen_asks p [] asks words = λ none form entered. cc
+chosen_asks p (s ∷ rest) asks words = go (p s) (chosen_asks p rest asks.1 words)
+  where
+    go : (b : Bool) → FoundAsks (find p rest) words → FoundAsks (cond b (Some s) (find p rest)) words
+    go true later = λ none form entered. asks.0 words none form
+    go false later = later
 
 stopped_asks : (stop : Option (Text × List Text)) → entered_fault (built talc_app) stop ≡ [] →
     NamesForm (entered (built talc_app) stop) → is_some (entered (built talc_app) stop) ≡ true →
     Asks (asked_of (entered (built talc_app) stop))
 stopped_asks None none form entered = cc
 stopped_asks (Some p) none form entered =
-    entered_asks (answers_to p.0 (codes "compile", [])) (answers_to p.0 (codes "check", []))
-    (answers_to p.0 (codes "run", [])) (answers_to p.0 (codes "typeof", [])) (answers_to p.0 (codes "eval", []))
-    (answers_to p.0 (codes "gen", [])) (answers_to p.0 (codes "upgrade", [])) (answers_to p.0 (codes "trace", []))
-    (answers_to p.0 (codes "show", [])) (answers_to p.0 (codes "explain", [])) p.1 none form entered
+    chosen_asks (λ s. answers_to p.0 (label_of s)) (built talc_app).subs each_asks p.1 none form entered
 
 -- a subcommand is required
 met : (rows : List Row) (has : Bool) → f.check_fault (built talc_app).top rows has ≡ [] → has ≡ true

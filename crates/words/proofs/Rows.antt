@@ -2,8 +2,8 @@
 use Rattle.std.proofs.Common.{◌≡◌, [], ◌∷◌, Some, None, refl}
 use Rattle.std.specs.Prelude.{codes}
 use Rattle.clap.proofs.OnLiterals.{clap_on_literals}
-use Rattle.words.specs.Command.{Checks, Compiles, CompilesWithin, Evaluates, Explains, Generates, Runs, Shows, Traces}
-use Rattle.words.specs.Command.{Types, Upgrades, command_of}
+use Rattle.words.specs.Command.{Checks, Compiles, CompilesWithin, Costs, Evaluates, Explains, Generates, Lists, Runs}
+use Rattle.words.specs.Command.{Shows, Traces, Types, Upgrades, command_of}
 use Rattle.words.specs.declared.form.Form.TheVariants as form
 
 -- talc compile x.f x.tal
@@ -331,6 +331,38 @@ explain_missing_file = refl
 explain_form : command_of (codes "talc" ∷ codes "explain" ∷ codes "x.f" ∷ codes "--form" ∷ codes "cps" ∷ []) ≡ None
 unfolding command_of clap_on_literals
 explain_form = refl
+
+-- talc cost x.tal --fuel 100, the option first, and without it or the file
+cost_words : command_of (codes "talc" ∷ codes "cost" ∷ codes "x.tal" ∷ codes "--fuel" ∷ codes "100" ∷ [])
+    ≡ Some (Costs (codes "x.tal") 100)
+unfolding command_of clap_on_literals
+cost_words = refl
+
+cost_first : command_of (codes "talc" ∷ codes "cost" ∷ codes "--fuel=0" ∷ codes "x.tal" ∷ [])
+    ≡ Some (Costs (codes "x.tal") 0)
+unfolding command_of clap_on_literals
+cost_first = refl
+
+cost_missing_fuel : command_of (codes "talc" ∷ codes "cost" ∷ codes "x.tal" ∷ []) ≡ None
+unfolding command_of clap_on_literals
+cost_missing_fuel = refl
+
+cost_missing_file : command_of (codes "talc" ∷ codes "cost" ∷ codes "--fuel" ∷ codes "100" ∷ []) ≡ None
+unfolding command_of clap_on_literals
+cost_missing_file = refl
+
+-- talc listing x.tal, without the file, and with an option of another command
+listing_words : command_of (codes "talc" ∷ codes "listing" ∷ codes "x.tal" ∷ []) ≡ Some (Lists (codes "x.tal"))
+unfolding command_of clap_on_literals
+listing_words = refl
+
+listing_missing_file : command_of (codes "talc" ∷ codes "listing" ∷ []) ≡ None
+unfolding command_of clap_on_literals
+listing_missing_file = refl
+
+listing_fuel : command_of (codes "talc" ∷ codes "listing" ∷ codes "x.tal" ∷ codes "--fuel" ∷ codes "1" ∷ []) ≡ None
+unfolding command_of clap_on_literals
+listing_fuel = refl
 
 -- no command
 other_words : command_of (codes "talc" ∷ codes "link" ∷ codes "x.tal" ∷ codes "y.tal" ∷ []) ≡ None

@@ -15,7 +15,9 @@ use Rattle.words.specs.Description.{talc_app, whole_number}
 -- the source text of IN, to evaluate it within so many turns, to put the source of a seed through all of that and
 -- write it to the file OUT, to write the program of the TAL text of IN to the file OUT in the newest version of the
 -- language, to run the TAL text of IN and show its states from one number of instructions to another, to show a form
--- of the program of the source text of IN, or to show what is wrong with the source or TAL text of IN
+-- of the program of the source text of IN, to show what is wrong with the source or TAL text of IN, to run the TAL
+-- text of IN for so many instructions and show what the run cost, or to show the TAL text of IN with the types of the
+-- registers at each place
 pub data Asked : Type 0 where
   Compiles : (input output : Text) → Asked
   CompilesWithin : (input output : Text) (registers : ℕ) → Asked
@@ -28,6 +30,8 @@ pub data Asked : Type 0 where
   Traces : (input : Text) (from to : ℕ) → Asked
   Shows : (input : Text) (form : Form) → Asked
   Explains : (input : Text) → Asked
+  Costs : (input : Text) (fuel : ℕ) → Asked
+  Lists : (input : Text) → Asked
 
 -- the number that a text writes, where `clap`'s reader of whole numbers takes it: decimal digits, perhaps after a plus,
 -- of a number below 2 ^ 64
@@ -85,7 +89,9 @@ asked_in name rows =
     asked_between input (number_in (codes "from") rows) (number_in (codes "to") rows)
     else (if bytes_eq name (codes "show") then asked_with Shows input (form_in rows)
     else (if bytes_eq name (codes "explain") then option_map Explains input
-    else None)))))))))
+    else (if bytes_eq name (codes "cost") then asked_with Costs input (number_in (codes "fuel") rows)
+    else (if bytes_eq name (codes "listing") then option_map Lists input
+    else None)))))))))))
 
 abbrev pub asked_of : Option (Text × List Row) → Option Asked
 asked_of entered = option_and_then (λ p. asked_in p.0 p.1) entered

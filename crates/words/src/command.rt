@@ -63,6 +63,15 @@ pub enum Command<'a> {
     Explain {
         input: &'a str,
     },
+    /// `cost IN --fuel N`: runs the assembly text of a file for a number of instructions, and shows what the run cost.
+    Cost {
+        input: &'a str,
+        fuel: u64,
+    },
+    /// `listing IN`: shows the assembly text of a file with the types of its registers.
+    Listing {
+        input: &'a str,
+    },
 }
 
 /// Why words come to no command.

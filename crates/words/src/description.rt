@@ -4,7 +4,7 @@ ghost use Rattle.std.specs.Result.{IsOkAnd};
 ghost use Rattle.clap.specs.Words.{app_of, rule_of, with_subcommand};
 ghost use Rattle.words.specs.Description.{file_rule, number_rule, registers_rule, compile_app, check_app, run_app};
 ghost use Rattle.words.specs.Description.{typeof_app, eval_app, gen_app, upgrade_app, trace_app};
-ghost use Rattle.words.specs.Description.{explain_app, form_rule, show_app};
+ghost use Rattle.words.specs.Description.{cost_app, explain_app, form_rule, listing_app, show_app};
 ghost use Rattle.words.specs.Description.{bare_app, talc_app};
 
 use clap::builder::ValueParser;
@@ -155,6 +155,23 @@ fn explain_words<'a>(alloc: Global) -> Result<Command<'a>, AllocError>
         .arg(file(alloc, "IN", "The file to read"))
 }
 
+fn cost_words<'a>(alloc: Global) -> Result<Command<'a>, AllocError>
+    ensures { IfOk result (λ c. app_of c ≡ cost_app) }
+{
+    Command::new(alloc, "cost")
+        .about("Runs the TAL text IN for at most N instructions, and shows what the run cost")
+        .arg(file(alloc, "IN", "The file to read"))?
+        .arg(number(alloc, "fuel", "The most instructions to make"))
+}
+
+fn listing_words<'a>(alloc: Global) -> Result<Command<'a>, AllocError>
+    ensures { IfOk result (λ c. app_of c ≡ listing_app) }
+{
+    Command::new(alloc, "listing")
+        .about("Shows the TAL text IN with the types of the registers at each place")
+        .arg(file(alloc, "IN", "The file to read"))
+}
+
 // The command line without its subcommands: one must be given, and there is no `help` among them.
 fn bare_words<'a>(alloc: Global) -> Command<'a>
     ensures { app_of result ≡ bare_app }
@@ -190,6 +207,8 @@ pub(crate) fn talc_words<'a>(alloc: Global) -> Result<Command<'a>, AllocError>
     let upgrade = with_words(generate, upgrade_words(alloc))?;
     let trace = with_words(upgrade, trace_words(alloc))?;
     let show = with_words(trace, show_words(alloc))?;
-    let all = with_words(show, explain_words(alloc))?;
+    let explain = with_words(show, explain_words(alloc))?;
+    let cost = with_words(explain, cost_words(alloc))?;
+    let all = with_words(cost, listing_words(alloc))?;
     Ok(all)
 }

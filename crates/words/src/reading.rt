@@ -4,7 +4,7 @@ ghost use Rattle.std.specs.Option.{option_map};
 ghost use Rattle.clap.specs.Words.{first_of, found_of, kind_of, one_of, rows_of, subcommand_rows_of};
 ghost use Rattle.clap.specs.declared.error.kind.ErrorKind.TheVariants.{OutOfMemory};
 ghost use Rattle.words.specs.Command.{asked_between, asked_in, asked_of, asked_with, asked_within, form_in, number_in};
-ghost use Rattle.words.specs.Command.{Evaluates, Generates, Runs, Shows, Upgrades};
+ghost use Rattle.words.specs.Command.{Costs, Evaluates, Generates, Runs, Shows, Upgrades};
 ghost use Rattle.words.specs.Reads.{asked_by, AsksFor, Reads};
 
 use crate::command::{Command, NoCommand};
@@ -118,44 +118,46 @@ fn showing<'a>(matches: &ArgMatches<'a>) -> Option<Command<'a>>
     Some(Command::Show { input, form })
 }
 
+// What `cost` asks for.
+fn costing<'a>(matches: &ArgMatches<'a>) -> Option<Command<'a>>
+    ensures { option_map asked_by result ≡ asked_with Costs (first_of (codes "IN") (rows_of (found_of matches.now)))
+        (number_in (codes "fuel") (rows_of (found_of matches.now))) }
+{
+    let (input, fuel) = (value(matches, "IN")?, number(matches, "fuel")?);
+    Some(Command::Cost { input, fuel })
+}
+
 // What the subcommand that was entered asks for.
 fn entered<'a>(name: &str, matches: &ArgMatches<'a>) -> Option<Command<'a>>
     ensures { option_map asked_by result ≡ asked_in name.now (rows_of (found_of matches.now)) }
 {
-    if name == "compile" {
-        return compiling(matches);
+    match name {
+        "compile" => compiling(matches),
+        "check" => {
+            let input = value(matches, "IN")?;
+            Some(Command::Check { input })
+        }
+        "run" => running(matches),
+        "typeof" => {
+            let input = value(matches, "IN")?;
+            Some(Command::Typeof { input })
+        }
+        "eval" => evaluating(matches),
+        "gen" => generating(matches),
+        "upgrade" => upgrading(matches),
+        "trace" => tracing(matches),
+        "show" => showing(matches),
+        "explain" => {
+            let input = value(matches, "IN")?;
+            Some(Command::Explain { input })
+        }
+        "cost" => costing(matches),
+        "listing" => {
+            let input = value(matches, "IN")?;
+            Some(Command::Listing { input })
+        }
+        _ => None,
     }
-    if name == "check" {
-        let input = value(matches, "IN")?;
-        return Some(Command::Check { input });
-    }
-    if name == "run" {
-        return running(matches);
-    }
-    if name == "typeof" {
-        let input = value(matches, "IN")?;
-        return Some(Command::Typeof { input });
-    }
-    if name == "eval" {
-        return evaluating(matches);
-    }
-    if name == "gen" {
-        return generating(matches);
-    }
-    if name == "upgrade" {
-        return upgrading(matches);
-    }
-    if name == "trace" {
-        return tracing(matches);
-    }
-    if name == "show" {
-        return showing(matches);
-    }
-    if name == "explain" {
-        let input = value(matches, "IN")?;
-        return Some(Command::Explain { input });
-    }
-    None
 }
 
 // What the subcommand of a parse asks for.

@@ -10,14 +10,12 @@ if exists(":CompilerSet") != 2
   command -nargs=* CompilerSet setlocal <args>
 endif
 
-" The file is shown first, since the program does not name it.
-let s:make = "echo %:S':'; c='$*'; " . get(g:, 'talc_program', 'talc') . ' ${c:-explain} %:S'
+let s:make = "c='$*'; " . get(g:, 'talc_program', 'talc') . ' ${c:-explain} %:S'
 execute 'CompilerSet makeprg=' . escape(s:make, ' \|"')
 
-" The file; a page of `explain`, without the line that it shows; the line of a fault of another command; the rest.
+" A page of `explain`, without the lines that it shows; the line of a fault of another command; the rest.
 CompilerSet errorformat=
-      \%P%f:,
-      \%E%m:\ line\ %l\\,\ column\ %c\ (bytes\ %.%#),
+      \%E%f:%l:%c:\ %m\ (bytes\ %.%#),
       \%-C%*\\d\ \|%.%#,
       \%-C\ %#\|%.%#,
       \%+C%.%#,

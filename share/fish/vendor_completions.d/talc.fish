@@ -27,3 +27,8 @@ complete -c talc -n '__fish_seen_subcommand_from show' -l form -x -a 'source cps
 complete -c talc -n '__fish_seen_subcommand_from show' -k -a '(__fish_complete_suffix .f)'
 complete -c talc -n __fish_use_subcommand -a explain -d 'Shows what is wrong with the source text or TAL text IN'
 complete -c talc -n '__fish_seen_subcommand_from explain' -F
+complete -c talc -n __fish_use_subcommand -a cost -d 'Runs the TAL text IN for at most N instructions, and shows what the run cost'
+complete -c talc -n '__fish_seen_subcommand_from cost' -l fuel -x -d 'The most instructions to make'
+complete -c talc -n '__fish_seen_subcommand_from cost' -k -a '(__fish_complete_suffix .tal)'
+complete -c talc -n __fish_use_subcommand -a listing -d 'Shows the TAL text IN with the types of the registers at each place'
+complete -c talc -n '__fish_seen_subcommand_from listing' -k -a '(__fish_complete_suffix .tal)'

@@ -125,3 +125,17 @@ fn explain_has_its_value(rt: HostRuntime) -> Result<(), Fail> {
         Command::Explain { input },
     )
 }
+
+#[test]
+fn cost_has_its_values(rt: HostRuntime) -> Result<(), Fail> {
+    let (input, fuel) = ("x.tal", 100);
+    let line = "talc cost x.tal --fuel 100";
+    asks(&rt, rt.alloc(), line, Command::Cost { input, fuel })
+}
+
+#[test]
+fn listing_has_its_value(rt: HostRuntime) -> Result<(), Fail> {
+    let input = "x.tal";
+    let line = "talc listing x.tal";
+    asks(&rt, rt.alloc(), line, Command::Listing { input })
+}

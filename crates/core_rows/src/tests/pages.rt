@@ -19,10 +19,12 @@ fn long_text(alloc: Global) -> Result<Vec<u8>, AllocFailed<u8>> {
 // The page of a place in the long text, line by line.
 fn is_shown(rt: &impl Abort, alloc: Global, place: Span, lines: [&str; 3]) -> Result<(), Fail> {
     let note = Note {
+        name: b"",
         code: "C",
         words: "w",
         place,
-        types: b"",
+        value: None,
+        odds: b"",
         hint: "h",
     };
     let text = long_text(alloc)?;
@@ -38,7 +40,7 @@ fn is_shown(rt: &impl Abort, alloc: Global, place: Span, lines: [&str; 3]) -> Re
 fn the_begin(rt: HostRuntime) -> Result<(), Fail> {
     let place = Span { start: 1, end: 2 };
     let lines = [
-        "C w: line 2, column 1 (bytes 1..2)",
+        "2:1: C w (bytes 1..2)",
         "2 | 0123456789012345678901234567890123456789012345678901234567890123456789012345678901234567890123456789..",
         "  | ^",
     ];
@@ -53,7 +55,7 @@ fn the_middle(rt: HostRuntime) -> Result<(), Fail> {
         end: 154,
     };
     let lines = [
-        "C w: line 2, column 151 (bytes 151..154)",
+        "2:151: C w (bytes 151..154)",
         "2 | ..0123456789012345678901234567890123456789012345678901234567890123456789012345678901234567890123456789..",
         "  |                                                     ^^^",
     ];
@@ -68,7 +70,7 @@ fn the_end(rt: HostRuntime) -> Result<(), Fail> {
         end: 301,
     };
     let lines = [
-        "C w: line 2, column 300 (bytes 300..301)",
+        "2:300: C w (bytes 300..301)",
         "2 | ..0123456789012345678901234567890123456789012345678901234567890123456789012345678901234567890123456789",
         "  |                                                                                                      ^",
     ];
@@ -83,7 +85,7 @@ fn the_line_end(rt: HostRuntime) -> Result<(), Fail> {
         end: 302,
     };
     let lines = [
-        "C w: line 2, column 301 (bytes 301..302)",
+        "2:301: C w (bytes 301..302)",
         "2 | ..0123456789012345678901234567890123456789012345678901234567890123456789012345678901234567890123456789",
         "  |                                                                                                       ^",
     ];
@@ -98,7 +100,7 @@ fn more_than_is_shown(rt: HostRuntime) -> Result<(), Fail> {
         end: 261,
     };
     let lines = [
-        "C w: line 2, column 121 (bytes 121..261)",
+        "2:121: C w (bytes 121..261)",
         "2 | ..0123456789012345678901234567890123456789012345678901234567890123456789012345678901234567890123456789..",
         "  |                                                     ^^^^^^^^^^^^^^^^^^^^^^^^^^^^^^^^^^^^^^^^^^^^^^^^^^",
     ];
@@ -110,7 +112,7 @@ fn more_than_is_shown(rt: HostRuntime) -> Result<(), Fail> {
 fn fifty_bytes_before(rt: HostRuntime) -> Result<(), Fail> {
     let place = Span { start: 51, end: 52 };
     let lines = [
-        "C w: line 2, column 51 (bytes 51..52)",
+        "2:51: C w (bytes 51..52)",
         "2 | 0123456789012345678901234567890123456789012345678901234567890123456789012345678901234567890123456789..",
         "  |                                                   ^",
     ];
@@ -122,7 +124,7 @@ fn fifty_bytes_before(rt: HostRuntime) -> Result<(), Fail> {
 fn fifty_one_bytes_before(rt: HostRuntime) -> Result<(), Fail> {
     let place = Span { start: 52, end: 53 };
     let lines = [
-        "C w: line 2, column 52 (bytes 52..53)",
+        "2:52: C w (bytes 52..53)",
         "2 | ..1234567890123456789012345678901234567890123456789012345678901234567890123456789012345678901234567890..",
         "  |                                                     ^",
     ];

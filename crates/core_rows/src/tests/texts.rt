@@ -97,7 +97,7 @@ fn texts_are_refused(rt: HostRuntime) -> Result<(), Fail> {
 
 #[test]
 fn texts_are_explained_without_files(rt: HostRuntime) -> Result<(), Fail> {
-    let reply = explain_text(rt.alloc(), SEVEN)?;
+    let reply = explain_text(rt.alloc(), b"x.f", SEVEN)?;
     assert!(rt; reply.ending == Ending::Ends);
     assert!(rt; reply.line.as_slice() == b"no fault\n".as_slice());
     Ok(())

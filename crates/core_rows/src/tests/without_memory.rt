@@ -16,7 +16,7 @@ const COMPILE: &str = "talc compile x.f x.tal";
 struct FilesWithoutMemory;
 
 impl Files for FilesWithoutMemory {
-    ghost state = { λ _. record { told = None; reads = 0; writes = 0 } };
+    ghost state = { λ _. record { told = None; reads = 0; writes = 0; calls = None } };
 
     fn read_all(&mut self, _alloc: Global, _name: &str) -> Result<Vec<u8>, Stop> {
         Err(Stop::Memory)

@@ -9,8 +9,8 @@ use Rattle.a_uses.proofs.Telling.{popped, pushed, if_holds, if_gone}
 use Rattle.a_uses.proofs.Sets.{listed_mem}
 use Rattle.a_uses.proofs.ahead.before_if.Goals as goal
 
-pub returns : goal.returns
-returns c = λ ts h.
+pub returns-clause-told : goal.returns-clause-told
+returns-clause-told c = λ ts h.
     let vs = a_values c.args.values.now in
     let x = top no_term ts in
     let y = top no_term (others ts) in

@@ -8,8 +8,8 @@ use Rattle.a_uses.specs.Uses.{has, mem}
 use Rattle.a_uses.proofs.Telling.{popped, pushed, let_holds, let_gone}
 use Rattle.a_uses.proofs.ahead.before_let.Goals as goal
 
-pub returns : goal.returns
-returns c = λ ts h.
+pub returns-clause-told : goal.returns-clause-told
+returns-clause-told c = λ ts h.
     let vs = a_values c.args.values.now in
     let f = c.args.form.now in
     let e = top no_term ts in

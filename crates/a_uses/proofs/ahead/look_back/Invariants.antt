@@ -1,5 +1,6 @@
 use Rattle.std.proofs.Common.{◌≤◌, [], length, drop}
 use Rattle.a_terms.specs.NodeTrees.{a_onto}
+use Rattle.a_terms.specs.Arity.{ARow}
 use Rattle.a_uses.specs.Uses.{newest, back, AllHold, Told}
 use Rattle.a_uses.proofs.ahead.look_back.Given as goal
 
@@ -8,6 +9,7 @@ invariant-loop-left l = record {
   few : l.left ≤ length l.nodes;
   sets : AllHold (newest l.sets.items) (a_onto (drop l.left l.nodes) []);
   told : Told (drop l.left l.nodes) (back l.made.items);
+  row : ARow (drop l.left l.nodes) (length l.sets.items);
 }
 
 abbrev pub decreases-loop-left : goal.decreases-loop-left

@@ -1,4 +1,4 @@
-use Rattle.std.proofs.Common.{◌≤◌, refl, sym, ◌∙◌, subst, arith, true≢false}
+use Rattle.std.proofs.Common.{◌≤◌, inl, inr, refl, sym, ◌∙◌, subst, arith, true≢false}
 use Rattle.std.proofs.Math.Bridge.{le_prop}
 use Rattle.std.proofs.Math.Logic.{∥∥₁_elim, ∥∥₁_map, ∥∥₁_map₂, ∥∥₁_prop}
 use Rattle.f_check.specs.Typed.{program_term}
@@ -14,7 +14,7 @@ use Rattle.pipeline.specs.Work.{WorkWithin}
 use Rattle.pipeline.proofs.Bounded.{bounded}
 use Rattle.pipeline.proofs.Framed.{flat, types_few, reach_within}
 use Rattle.pipeline.proofs.Shallow.{shallow}
-use Rattle.pipeline.proofs.Weighing.{stays, framed}
+use Rattle.pipeline.proofs.Weighing.{framed}
 use Rattle.pipeline.proofs.compiling.compile_within.Goals as goal
 
 pub seal-requires : goal.seal-requires
@@ -42,14 +42,18 @@ returns-then-is_within-clause-compiled c =
     subst (λ (x : TProgram). ∥ IsCompilationWithin k e (program x) ∥₁) (sym c.seal.ensures)
     (∥∥₁_map₂ c.in_ok-made.ensures.compiled c.in_ok-made.ensures.entered (λ made entered.
     let spills = c.few_registers_may_stay.ensures k P c.in_ok-made.made.whole made.accepted within in
-    bounded k e P P (λ (p : Place). p) times seldom made entered spills (λ h. refl) (λ above. absurd (above within))))
+    bounded k e P P (λ (p : Place). p) times seldom made entered spills (λ h. refl) (λ above. absurd (above within))
+    (record {
+      stays = λ h. (c.in_ok-made.ensures.work, c.in_ok-made.ensures.weights);
+      framed = λ above. absurd (above within);
+    })))
 
 pub returns-then-is_within-clause-work : goal.returns-then-is_within-clause-work
 returns-then-is_within-clause-work c =
     let e = source.term_of (program_term c.args.program.now) in
     let made = c.in_ok-made.ensures in
     subst (λ (x : TProgram). WorkWithin e (program x)) (sym c.seal.ensures)
-    (stays e (program c.in_ok-made.made) made.work made.weights)
+    (inl (made.work, made.weights))
 
 pub returns-then-is_within-clause-shallow : goal.returns-then-is_within-clause-shallow
 returns-then-is_within-clause-shallow c =
@@ -72,7 +76,11 @@ returns-clause-compiled c =
     subst (λ (x : TProgram). ∥ IsCompilationWithin k e (program x) ∥₁) (sym c.seal-2.ensures)
     (∥∥₁_elim c.in_ok-framed.ensures.spills ∥∥₁_prop (λ spills.
     ∥∥₁_map₂ c.in_ok-made.ensures.compiled c.in_ok-made.ensures.entered (λ made entered.
-    bounded k e P Q (origin k P) times seldom made entered spills (λ h. absurd (above h)) (λ h. is))))
+    bounded k e P Q (origin k P) times seldom made entered spills (λ h. absurd (above h)) (λ h. is)
+    (record {
+      stays = λ h. absurd (above h);
+      framed = λ h. framed k e P Q is c.in_ok-made.ensures.work c.in_ok-made.ensures.weights;
+    }))))
 
 pub returns-clause-shallow : goal.returns-clause-shallow
 returns-clause-shallow c =
@@ -92,4 +100,4 @@ returns-clause-work c =
     let Q = program c.in_ok-framed.framed in
     let made = c.in_ok-made.ensures in
     subst (λ (x : TProgram). WorkWithin e (program x)) (sym c.seal-2.ensures)
-    (framed c.args.k e P Q c.in_ok-framed.ensures.is made.work made.weights)
+    (inr (framed c.args.k e P Q c.in_ok-framed.ensures.is made.work made.weights))

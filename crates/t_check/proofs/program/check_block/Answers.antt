@@ -92,12 +92,13 @@ returns-in_err-check_instr-clause-block c =
     let lt : l.step-index < length b.body.items =
     subst (λ (ys : List (Instr × Span)). l.step-index < length ys) c.deref-step-items.ensures.value
     c.loop-step-test.true in
-    rw (q.1, q.2) (says_map e _ (BlockFaultWith P (spanned b))
+    let us = c.check_instr.new.types in
+    rw (q.1, q.2) (says_map us e _ (BlockFaultWith P (spanned b))
     (left_fault P (end_of b.«end») b.end_span b.owes k.names (lookup (file b.regs.regs.items)) h b.body.items
     l.step-index x lt
     (subst (λ (ys : List (Instr × Span)). x ≡ get_or ys l.step-index x) c.deref-step-items.ensures.value
     c.step-item.is) items)
-    (subst (λ (p : TProgram). SaysWith e (InstrFaultWith (program p) k.names h x.1 (instr x.0))) l.invariant.same
+    (subst (λ (p : TProgram). SaysWith us e (InstrFaultWith (program p) k.names h x.1 (instr x.0))) l.invariant.same
     c.in_err-check_instr.ensures.step))
 
 pub loop-step-preserved : goal.loop-step-preserved
@@ -160,9 +161,10 @@ returns-clause-block c =
     (λ (ys : List (Instr × Span)). IsLeft P (end_of b.«end») b.end_span b.owes k.names
     (lookup (file b.regs.regs.items)) h ys (drop l.step-index ys)) c.deref-step-items.ensures.value
     l.invariant.left in
-    let last = subst (λ (p : TProgram). IsEnd (program p) k.names h b.end_span (end_of b.«end») c.check_end.result)
+    let us = c.check_end.new.types in
+    let last = subst (λ (p : TProgram). IsEnd (program p) us k.names h b.end_span (end_of b.«end») c.check_end.result)
     l.invariant.same c.check_end.ensures.ended in
     block_end P b k.names h l.step-index
     (subst (λ (ys : List (Instr × Span)). length ys ≤ l.step-index) c.deref-step-items.ensures.value
     c.loop-step-test.false) (regs_below 0 b.owes (file b.regs.regs.items) c.requires.formed.1) items
-    c.check_end.result last
+    us c.check_end.result last

@@ -43,7 +43,7 @@ returns-in_err-check_block c =
     let P = program c.args.program.now in
     let x = c.index-blocks-i.result in
     rw (p.1, p.2)
-    (says_map c.in_err-check_block.field-0.0 (BlockFaultWith P (spanned x))
+    (says_map c.check_block.new.types c.in_err-check_block.field-0.0 (BlockFaultWith P (spanned x))
     (BlocksFaultWith P (spanned_blocks c.args.blocks.now))
     (block_fault P c.args.blocks.now c.loop-i.i x c.loop-i-test.true c.index-blocks-i.is c.loop-i.invariant.left)
     c.in_err-check_block.ensures.block)

@@ -39,11 +39,12 @@ returns-in_err-check_data-clause-heap c =
     let P = program c.args.program.now in
     let x = c.tuple-item.result in
     rw (p.1, p.2)
-    (says_map c.in_err-check_data.field-0.0 (DataFaultWith P (spanned_data x).fields)
+    (says_map c.check_data.new.types c.in_err-check_data.field-0.0 (DataFaultWith P (spanned_data x).fields)
     (HeapFaultWith P (spanned_heap c.args.heap.now))
     (data_fault P c.args.heap.now c.loop-tuple.tuple-index x c.loop-tuple-test.true c.tuple-item.is
     c.loop-tuple.invariant.left)
-    (subst (λ (xs : List Field). SaysWith c.in_err-check_data.field-0.0 (DataFaultWith P (data_fields xs)))
+    (subst (λ (xs : List Field). SaysWith c.check_data.new.types c.in_err-check_data.field-0.0
+    (DataFaultWith P (data_fields xs)))
     c.deref.ensures.value c.in_err-check_data.ensures.words))
 
 pub returns-in_err-check_data-clause-grown : goal.returns-in_err-check_data-clause-grown

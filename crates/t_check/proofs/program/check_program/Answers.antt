@@ -24,7 +24,7 @@ returns-then-not-takes_nothing c =
     let p = c.args.program.now in
     let some = p.whole.0 in
     let lt : 0 < length p.blocks.items = omega (arith, blocks_count p.blocks.items) in
-    subst (λ (r : Result (Unit {0}) Refusal). IsProgram (spanned_program p) r) (sym c.refused.ensures)
+    subst (λ (r : Result (Unit {0}) Refusal). IsProgram (spanned_program p) c.args.types.now r) (sym c.refused.ensures)
     (first_fault p c.index-first.result.now lt c.index-first.ensures
     (λ h. true≢false (sym (c.if-not-takes_nothing.ensures.1 h))))
 
@@ -37,8 +37,9 @@ returns c =
     (c.if-not-takes_nothing.ensures.0 refl) in
     let heap = subst (λ (xs : List Data). HeapAccepted (program p) (data_of xs)) c.deref.ensures.value
     c.in_ok-check_heap.ensures.heap in
-    program_is p first heap c.check_blocks.result
-    (subst (λ (bs : List Block). AreBlocks (program p) (spanned_blocks bs) c.check_blocks.result)
+    let us = c.check_blocks.new.types in
+    program_is p first heap us c.check_blocks.result
+    (subst (λ (bs : List Block). AreBlocks (program p) us (spanned_blocks bs) c.check_blocks.result)
     c.deref-2.ensures.value c.check_blocks.ensures)
 
 pub returns-in_err-check_heap : goal.returns-in_err-check_heap
@@ -50,7 +51,8 @@ returns-in_err-check_heap c =
     (c.if-not-takes_nothing.ensures.0 refl) in
     let q = err_from_is_err_and c.from_residual-in_err-check_heap.result c.from_residual-in_err-check_heap.ensures.1 in
     let e = c.in_err-check_heap.field-0.0 in
+    let us = c.check_heap.new.types in
     rw (q.1, q.2)
-    (heap_fault p first e
-    (subst (λ (xs : List Data). SaysWith e (HeapFaultWith (program p) (spanned_heap xs))) c.deref.ensures.value
+    (heap_fault p first us e
+    (subst (λ (xs : List Data). SaysWith us e (HeapFaultWith (program p) (spanned_heap xs))) c.deref.ensures.value
     c.in_err-check_heap.ensures.heap))

@@ -27,5 +27,5 @@ returns-clause-fit c = λ f e.
     let code = subst (λ (o : Option CodeParts). IsCode ts c.args.code o) c.in-Some.is c.in_ok-parts.ensures in
     let both : CodeTy p.owes (regs_at ts p.regs.items) ≡ CodeTy 0 f = sym code.0 ∙ e in
     let is : regs_at ts p.regs.items ≡ f = cc in
-    subst (λ (x : TFile). IsFileFit k.names (known ts k) c.args.span x c.check_file.result)
+    subst (λ (x : TFile). IsFileFit c.check_file.new.types k.names (known ts k) c.args.span x c.check_file.result)
     (ap (regs_at ts) c.deref.ensures.value ∙ is) c.check_file.ensures.fit

@@ -43,9 +43,10 @@ returns-in_err-check_reg-clause-fit c =
     let below = reg_below (length ts) xs l.reg-index x lt is c.requires.regs in
     let p = err_from_is_err_and c.from_residual.result c.from_residual.ensures.1 in
     let e = c.in_err-check_reg.field-0.0 in
+    let us = c.check_reg.new.types in
     let told = reg_grown ts l.types l.invariant.grown k c.requires.sound k.names s x.0 x.1 below
-    (Err e) c.in_err-check_reg.ensures.fit in
-    rw (p.1, p.2) (reg_fault k.names (known ts k) s ts xs l.reg-index x is lt l.invariant.left e told)
+    us (Err e) c.in_err-check_reg.ensures.fit in
+    rw (p.1, p.2) (reg_fault k.names (known ts k) s ts xs l.reg-index x is lt l.invariant.left us e told)
 
 pub loop-reg-preserved : goal.loop-reg-preserved
 loop-reg-preserved c =
@@ -59,7 +60,7 @@ loop-reg-preserved c =
     let is = item xs l.reg-index (0, 0) lt in
     let below = reg_below (length ts) xs l.reg-index x lt is c.requires.regs in
     let told = reg_grown ts l.types l.invariant.grown k c.requires.sound k.names s x.0 x.1 below
-    (Ok tt) c.in_ok-check_reg.ensures.fit in
+    c.check_reg.new.types (Ok tt) c.in_ok-check_reg.ensures.fit in
     record {
       grown = grown_next _ _ _ l.invariant.grown c.in_ok-check_reg.ensures.grown;
       left = reg_more k.names (known ts k) s ts xs l.reg-index x is lt told l.invariant.left;

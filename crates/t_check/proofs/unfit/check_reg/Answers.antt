@@ -1,18 +1,22 @@
-use Rattle.std.proofs.Common.{◌∙◌, ap, sym, subst, refl, List, true≢false}
+use Rattle.std.proofs.Common.{◌∙◌, ap, sym, subst, refl, arith, length, List, Result, true≢false}
 use Rattle.t_types.specs.Tree.{Ty}
 use Rattle.t_types.specs.Fits.{Fits}
 use Rattle.t_intern.specs.Nodes.{at}
-use Rattle.t_intern.proofs.Growing.{grown_at}
+use Rattle.t_intern.proofs.Growing.{grown_at, grown_length}
 use Rattle.t_registers.specs.Known.{known, seen}
 use Rattle.t_check.proofs.Missing.{missing, other_type}
+use Rattle.t_check.specs.Verdict.{IsRegFit}
+use Rattle.t_mismatch.specs.declared.refusal.Refusal.{Refusal}
 use Rattle.t_check.proofs.unfit.check_reg.Goals as goal
 
 pub returns-in-None-clause-fit : goal.returns-in-None-clause-fit
 returns-in-None-clause-fit c =
     let ts = c.args.types.now in
     let k = c.args.registers.now in
-    missing k.names (known ts k) c.args.span c.args.register (at ts c.args.wanted) c.register_at_odds.result
-    (c.in-None.ensures.found ts c.requires.sound) c.register_at_odds.ensures
+    subst (λ (r : Result (Unit {0}) Refusal). IsRegFit ts k.names (known ts k) c.args.span c.args.register
+    (at ts c.args.wanted) r) (sym c.at_odds.ensures)
+    (missing k.names (known ts k) c.args.span c.args.register (at ts c.args.wanted) ts c.args.wanted c.requires.wanted
+    refl (c.in-None.ensures.found ts c.requires.sound))
 
 pub returns-then-fits_once-clause-fit : goal.returns-then-fits_once-clause-fit
 returns-then-fits_once-clause-fit c =
@@ -45,10 +49,15 @@ returns-clause-fit c =
     let own = ap (λ (xs : List Ty). at xs n) same ∙ c.in_ok-found.ensures.number.1 in
     let kept = grown_at ts us c.in_ok-found.ensures.grown w c.requires.wanted in
     let is = ap (λ (xs : List Ty). at xs w) same ∙ kept in
-    other_type k.names (known ts k) c.args.span c.args.register (at ts w) c.register_at_odds-2.result u (at vs n)
-    (at vs w) found.0 own is
+    let there = c.in_ok-found.ensures.number.0 in
+    let old = c.requires.wanted in
+    let longer = grown_length ts us c.in_ok-found.ensures.grown in
+    let as_long = ap (λ (xs : List Ty). length xs) same in
+    subst (λ (r : Result (Unit {0}) Refusal). IsRegFit vs k.names (known ts k) c.args.span c.args.register (at ts w) r)
+    (sym c.at_odds-2.ensures)
+    (other_type k.names (known ts k) c.args.span c.args.register (at ts w) vs w (omega arith) is n u (omega arith)
+    found.0 own
     (λ f. true≢false
     (sym (c.if-fits_once.ensures.fit.1
     (subst (λ (t : Ty). Fits t (at us w)) (sym c.in_ok-found.ensures.number.1)
-    (subst (Fits u) (sym kept) f)))))
-    c.register_at_odds-2.ensures
+    (subst (Fits u) (sym kept) f))))))

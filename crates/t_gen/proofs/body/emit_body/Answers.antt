@@ -3,8 +3,8 @@ use Rattle.std.proofs.lemmas.List.{drop_all}
 use Rattle.a_terms.specs.NodeTrees.{a_onto, a_tree}
 use Rattle.a_uses.proofs.Telling.{next_told}
 use Rattle.t_gen.specs.declared.state.Place.{Place}
-use Rattle.t_gen.proofs.Walking.{walk_begins, walk_arity, walk_fit, walk_keeps, walk_count, walk_goes, walk_stuck}
-use Rattle.t_gen.proofs.Walking.{walk_ends, next_node}
+use Rattle.t_gen.proofs.Walking.{walk_begins, walk_arity, walk_fit, walk_keeps, walk_held, walk_count, walk_goes}
+use Rattle.t_gen.proofs.Walking.{walk_stuck, walk_ends, next_node}
 use Rattle.a_scope.specs.Scope.{homes}
 use Rattle.a_scope.specs.declared.scope.Entry.{Entry}
 use Rattle.gen_law.specs.Gen.{used}
@@ -44,6 +44,8 @@ step-requires c =
       vars = walk_count _ _ _ _ _ _ _ _ _ _ _ _ is c.in-Some.ensures.items c.truncate.ensures.items
           c.loop-node.invariant.walked;
       fit = walk_fit _ _ _ _ _ _ _ _ _ _ _ _ is c.in-Some.ensures.items c.truncate.ensures.items
+          c.loop-node.invariant.walked;
+      held = walk_held _ _ _ _ _ _ _ _ _ _ _ _ is c.in-Some.ensures.items c.truncate.ensures.items
           c.loop-node.invariant.walked;
     }
 

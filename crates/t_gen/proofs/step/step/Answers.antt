@@ -20,6 +20,7 @@ step_let-requires c = record {
       subst (λ xs. AArity c.args.node.now.form (a_values xs)) (sym c.as_slice-values.ensures.value) c.requires.arity;
   vars = c.requires.vars;
   fit = (length (blocks_of c.args.out.now.items), c.requires.fit);
+  held = c.requires.held;
 }
 
 pub step_call-requires : goal.step_call-requires

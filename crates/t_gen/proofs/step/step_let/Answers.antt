@@ -14,6 +14,13 @@ use Rattle.t_gen.specs.Keeps.{Keeps}
 use Rattle.t_gen.specs.declared.state.Place.{Place}
 use Rattle.t_gen.proofs.step.step_let.Goals as goal
 
+pub choose-requires-clause-held : goal.choose-requires-clause-held
+choose-requires-clause-held c = (
+  c.requires.held.0,
+  subst (λ (xs : List Entry). Keeps c.args.place.registers (homes xs) c.requires.held.0) (sym c.deref.ensures.value)
+      c.requires.held.1,
+)
+
 pub declare-requires-clause-under : goal.declare-requires-clause-under
 declare-requires-clause-under c =
     subst (Under c.args.place.names)

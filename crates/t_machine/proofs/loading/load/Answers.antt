@@ -1,9 +1,9 @@
-use Rattle.std.proofs.Common.{List, ◌∙◌, ap, sym, subst, map}
+use Rattle.std.proofs.Common.{ℕ, List, length, ◌∙◌, ap, sym, subst, map}
 use Rattle.std.proofs.Math.Logic.{∥∥₁_map}
 use Rattle.t_terms.specs.ReadProgram.{program}
 use Rattle.t_terms.specs.declared.program.TProgram.{TProgram}
 use Rattle.t_terms.specs.declared.data.Data.{Data}
-use Rattle.t_terms.specs.Read.{blocks_of}
+use Rattle.t_terms.specs.Read.{blocks_of, data_of}
 use Rattle.t_rules.specs.Erase.{erase_block, erase_blocks}
 use Rattle.t_collect.specs.Cells.{cells_of}
 use Rattle.t_machine.specs.Code.{all_moved}
@@ -12,7 +12,35 @@ use Rattle.t_machine.specs.Heap.{AllStarted}
 use Rattle.t_machine.specs.Laid.{IsLaid, IsNamed}
 use Rattle.t_machine.specs.State.{Shows}
 use Rattle.t_machine.proofs.Starting.{tuples_of, starts}
+use Rattle.t_terms.specs.Whole.{WellFormedBlocks, WellFormedHeap}
+use Rattle.t_machine.proofs.There.{data_count}
 use Rattle.t_machine.proofs.loading.load.Goals as goal
+
+pub load_blocks-requires : goal.load_blocks-requires
+load_blocks-requires c =
+    let p = c.program-program.result.now in
+    let P = program p in
+    let count = data_count p.heap.items c.in_ok-starts.starts.items (c.in_ok-starts.ensures
+    ∙ ap (λ (ds : List Data). starts_from 0 (tuples_of ds)) c.deref.ensures.value)
+    ∙ ap (λ (ss : List ℕ). length ss) (sym c.deref-3.ensures.value) in (
+      length P.blocks,
+      subst (λ q. WellFormedBlocks (length P.blocks) q (blocks_of c.deref-2.result.now)) count
+          (subst (λ bs. WellFormedBlocks (length P.blocks) (length P.heap) (blocks_of bs))
+          (sym c.deref-2.ensures.value) p.whole.1),
+    )
+
+pub load_heap-requires : goal.load_heap-requires
+load_heap-requires c =
+    let p = c.program-program.result.now in
+    let P = program p in
+    let count = data_count p.heap.items c.in_ok-starts.starts.items (c.in_ok-starts.ensures
+    ∙ ap (λ (ds : List Data). starts_from 0 (tuples_of ds)) c.deref.ensures.value)
+    ∙ ap (λ (ss : List ℕ). length ss) (sym c.deref-5.ensures.value) in (
+      length P.blocks,
+      subst (λ q. WellFormedHeap (length P.blocks) q (data_of c.deref-4.result.now)) count
+          (subst (λ xs. WellFormedHeap (length P.blocks) (length P.heap) (data_of xs))
+          (sym c.deref-4.ensures.value) p.whole.2),
+    )
 
 pub invariant_of-result : goal.invariant_of-result
 invariant_of-result c =

@@ -14,7 +14,21 @@ use Rattle.t_machine.specs.declared.code.Instruction.{Instruction}
 use Rattle.t_machine.proofs.Laying.{size_of_end, adds_none, adds_both}
 use Rattle.t_machine.proofs.Addresses.{moved_push, no_data}
 use Rattle.t_machine.proofs.Loads.{extends_same, extends_both, filled_more, loaded_none, loaded_more, loaded_all}
+use Rattle.t_terms.specs.Whole.{WellFormedSeq}
+use Rattle.t_machine.proofs.There.{instr_there}
 use Rattle.t_machine.proofs.loading.load_block.Goals as goal
+
+pub load_instr-requires : goal.load_instr-requires
+load_instr-requires c =
+    let b = c.args.block.now in
+    let q = length c.args.starts.now in
+    let p = c.requires.0 in
+    let xs = c.deref-step-items.result.now in
+    let whole = subst (λ (ys : List (Instr × Span)). WellFormedSeq p q b.owes (seq_of (body ys) (end_of b.«end»)))
+    (sym c.deref-step-items.ensures.value) c.requires.1.2 in
+    let there = instr_there p q b.owes xs (end_of b.«end») c.loop-step.step-index c.step-item.result
+    c.loop-step-test.true c.step-item.is whole in
+    (p, there.0, there.1)
 
 pub loop-step-init : goal.loop-step-init
 loop-step-init c =

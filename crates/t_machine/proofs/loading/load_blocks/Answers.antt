@@ -8,7 +8,15 @@ use Rattle.t_machine.specs.Laid.{IsNamed}
 use Rattle.t_machine.specs.Lowering.{IsFilled}
 use Rattle.t_machine.proofs.Laying.{named_more}
 use Rattle.t_machine.proofs.Loads.{blocks_taken}
+use Rattle.t_machine.proofs.There.{block_there}
 use Rattle.t_machine.proofs.loading.load_blocks.Goals as goal
+
+pub load_block-requires : goal.load_block-requires
+load_block-requires c = (
+  c.requires.0,
+  block_there c.requires.0 _ c.args.blocks.now c.loop-block.block-index c.block-item.result c.loop-block-test.true
+      c.block-item.is c.requires.1,
+)
 
 pub loop-block-preserved : goal.loop-block-preserved
 loop-block-preserved c =

@@ -1,4 +1,5 @@
-use Rattle.std.proofs.Common.{List, ◌∷◌, [], ◌++◌, ◌∙◌, map, take, ap, sym, subst}
+use Rattle.std.proofs.Common.{List, ◌∷◌, [], ◌++◌, ◌∙◌, length, map, take, ap, sym, subst}
+use Rattle.t_terms.specs.Whole.{WellFormedData}
 use Rattle.std.proofs.lemmas.List.{take_all}
 use Rattle.std.proofs.lemmas.List.Elements.{All-same, All-nil}
 use Rattle.idx_core.specs.declared.span.Span.{Span}
@@ -12,7 +13,19 @@ use Rattle.t_collect.specs.Cells.{cells_of}
 use Rattle.t_machine.specs.Heap.{IsHeap, Started}
 use Rattle.t_machine.specs.Words.{word}
 use Rattle.t_machine.proofs.Loads.{data_taken}
+use Rattle.t_machine.proofs.There.{tuple_there}
 use Rattle.t_machine.proofs.loading.load_heap.Goals as goal
+
+pub load_tuple-requires : goal.load_tuple-requires
+load_tuple-requires c =
+    let p = c.requires.0 in
+    let q = length c.args.starts.now in (
+      p,
+      subst (λ (ys : List (Value × TType × Span)). WellFormedData p q (plain_fields (data_fields ys)))
+          (sym c.deref.ensures.value)
+          (tuple_there p q c.args.tuples.now c.loop-tuple.tuple-index c.tuple-item.result c.loop-tuple-test.true
+          c.tuple-item.is c.requires.1),
+    )
 
 pub loop-tuple-init : goal.loop-tuple-init
 loop-tuple-init c =

@@ -1,11 +1,28 @@
-use Rattle.std.proofs.Common.{OnOk, ap, sym, subst}
+use Rattle.std.proofs.Common.{OnOk, length, ap, sym, subst}
 use Rattle.t_terms.specs.Read.{instr as instr_tree}
 use Rattle.t_rules.specs.Erase.{erase_instr}
 use Rattle.t_terms.specs.declared.instr.Instr.{Instr}
 use Rattle.t_machine.specs.Action.{Action}
 use Rattle.t_machine.specs.Code.{IsInstr}
 use Rattle.t_machine.specs.Laid.{InInstr, Adds}
+use Rattle.t_terms.specs.Whole.{WellFormedInstr}
 use Rattle.t_machine.proofs.loading.load_instr.Goals as goal
+
+pub load_move-requires : goal.load_move-requires
+load_move-requires c =
+    let p = c.requires.0 in
+    let n = c.requires.1 in
+    let whole = subst (λ (i : Instr). WellFormedInstr p (length c.args.starts.now) n (instr_tree i)) c.in-Mov.is
+    c.requires.2 in
+    (p, n, whole.1)
+
+pub load_move-requires-in-Unpack : goal.load_move-requires-in-Unpack
+load_move-requires-in-Unpack c =
+    let p = c.requires.0 in
+    let n = c.requires.1 in
+    let whole = subst (λ (i : Instr). WellFormedInstr p (length c.args.starts.now) n (instr_tree i)) c.in-Unpack.is
+    c.requires.2 in
+    (p, n, whole.1)
 
 pub returns-in_ok-v-in-Arith-clause-same : goal.returns-in_ok-v-in-Arith-clause-same
 returns-in_ok-v-in-Arith-clause-same c =

@@ -1,4 +1,4 @@
-use Rattle.std.proofs.Common.{List, ◌∷◌, [], ◌++◌, ◌∙◌, map, take, ap, sym, append_assoc}
+use Rattle.std.proofs.Common.{List, ◌∷◌, [], ◌++◌, ◌∙◌, length, map, take, ap, sym, append_assoc}
 use Rattle.std.proofs.lemmas.List.{map-append, append-nil, take_all}
 use Rattle.std.proofs.lemmas.List.Elements.{All-same, All-push}
 use Rattle.idx_core.specs.declared.span.Span.{Span}
@@ -13,7 +13,14 @@ use Rattle.t_machine.specs.Words.{word}
 use Rattle.t_collect.specs.declared.word.Word.{Word}
 use Rattle.t_machine.proofs.Tuples.{tuple_added}
 use Rattle.t_machine.proofs.Loads.{words_taken}
+use Rattle.t_machine.proofs.There.{field_there}
 use Rattle.t_machine.proofs.loading.load_tuple.Goals as goal
+
+pub load_word-requires : goal.load_word-requires
+load_word-requires c =
+    let there = field_there c.requires.0 (length c.args.starts.now) c.args.fields.now c.loop-field.field-index
+    c.field-item.result c.loop-field-test.true c.field-item.is c.requires.1 in
+    (c.requires.0, 0, there.0)
 
 pub loop-field-init : goal.loop-field-init
 loop-field-init c =

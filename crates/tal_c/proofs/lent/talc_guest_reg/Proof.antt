@@ -32,9 +32,9 @@ use denote.Triple.Table.{framed}
 use denote.Triple.Walked.{Stays, walk_of, stay_dropped, Goes-dropped, ends_at}
 use Rattle.tal_c.specs.declared.guest.Guest.{Guest}
 use Rattle.tal_c.specs.contracts.guest.Guest.{the_row as R}
-use Rattle.tal_c.specs.contracts.answer.RegisterWord.{the_row as A}
-use Rattle.tal_c.specs.declared.answer.RegisterWord.{RegisterWord}
-use Rattle.tal_c.proofs.answer.RegisterWord.TheLaws.{the_row_laws as answer_laws}
+use Rattle.tal_c.specs.contracts.answer.HostWord.{the_row as A}
+use Rattle.tal_c.specs.declared.answer.HostWord.{HostWord}
+use Rattle.tal_c.proofs.answer.HostWord.TheLaws.{the_row_laws as answer_laws}
 use Rattle.tal_c.specs.Guests.{GuestReg}
 use Rattle.tal_c.specs.Places.{guest_at}
 use Rattle.tal_c.proofs.Loan.{lent}
@@ -66,18 +66,18 @@ talc_guest_reg_spec 𝓤 𝓛 𝓜 𝓡 wired =
     lft_new ! tt (λ α. let κ = α ∷ [] in move ! (1 ∷ []) $
     use1 𝓛 (later (some (λ (γ : ℕ). ‵ ((MutRef (named 0) κ R).own_val (lent b o γ old) (vptr b o ∷ [])) ⊛ ‵ (flent κ (Body (mem R) b o γ)))))
     (lends_ref 𝓛 R (named 0) κ old b o) $ await ! tt $ pick ! (λ γ. split ! $
-    -- [the loan; the lendenumbers part; the token of α]
+    -- [the loan; the lender's part; the token of α]
     let G = triple_of 𝓛 g.signature (g.spec 𝓛 𝓜.mem 𝓡.returns) in
     let z : G.Ghost = (((κ, tt), (full_share, tt), tt, (lent b o γ old, (number, tt)), (vptr b o ∷ [], (vint w64 number ∷ [], tt))), tt) in
     nothing ! $ owned ! u64 (Is u64) (uint_Makes 𝓛 w64) number _ (refl, fits) $ fjoin ! $ move ! (1 ∷ 0 ∷ []) $ fjoin ! $
     nothing ! $ move ! (3 ∷ 0 ∷ []) $ join ! $ join ! $ nothing ! $ move ! (1 ∷ 0 ∷ []) $ join ! $ use1 𝓛 (raw (G.pre z)) (id⊢ 𝓤 (G.pre z)) $
     calls_at ! (framed 𝓤 𝓛.H 𝓜 (tables 𝓤 𝓛.H 𝓜 𝓡 𝓡.env)) G (met 𝓤 𝓛 𝓜 𝓡 (code.calls-tal_c::guest::reg_in 𝓡.env wired)) z
     (and_then ! (get ! refl) (and_then ! (get ! refl) (no_more !))) (λ v.
-    use1 𝓛 (later (some (λ (r : RegisterWord). ((‵ (flft κ full_share) ⊛ ‵ ftrue) ⊛ ‵ (A.own_val r (v ∷ []))) ⊛
+    use1 𝓛 (later (some (λ (r : HostWord). ((‵ (flft κ full_share) ⊛ ‵ ftrue) ⊛ ‵ (A.own_val r (v ∷ []))) ⊛
     some (λ (ws : Lasts g.ended z.0.0 z.0.3). ‵ (lasts g.ended z.0.0 z.0.3 ws) ⊛ raw (fact 𝓤 (GuestReg number old ws.0 r)))))) (id⊢ 𝓤 _) $
     await ! tt $ pick ! (λ r. split ! $ split ! $ split ! $ lft_end ! tt $ move ! (3 ∷ []) $ pick ! (λ ws. split ! $ move ! (1 ∷ []) $ heard ! (GuestReg number old ws.0 r) (λ says.
     fsplit ! $ fsplit ! $
-    -- [the loan's last value; its borrow; nothing; α is over; nothing; the result; the lendenumbers part]
+    -- [the loan's last value; its borrow; nothing; α is over; nothing; the result; the lender's part]
     move ! (3 ∷ 6 ∷ 0 ∷ []) $ use3 𝓛 (later (‵ (part_at R full_share ws.0 b o))) (ref_back 𝓛 R κ γ ws.0 b o) $ await ! tt $
     -- [the guest; its borrow; nothing; nothing; the result]
     move ! (4 ∷ []) $ peeks ! A (Is A) (shows 𝓛 A) r (v ∷ []) (λ is. let good = ((answer_laws.lawful 𝓛).typed r (v ∷ []) is).0 in

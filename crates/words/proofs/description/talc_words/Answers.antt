@@ -24,4 +24,6 @@ returns c =
     let upgrade = added _ _ _ _ _ c.in_ok-upgrade.ensures generate c.upgrade_words.ensures refl in
     let trace = added _ _ _ _ _ c.in_ok-trace.ensures upgrade c.trace_words.ensures refl in
     let show = added _ _ _ _ _ c.in_ok-show.ensures trace c.show_words.ensures refl in
-    added _ _ _ _ _ c.in_ok-all.ensures show c.explain_words.ensures refl
+    let explain = added _ _ _ _ _ c.in_ok-explain.ensures show c.explain_words.ensures refl in
+    let cost = added _ _ _ _ _ c.in_ok-cost.ensures explain c.cost_words.ensures refl in
+    added _ _ _ _ _ c.in_ok-all.ensures cost c.listing_words.ensures refl

@@ -24,7 +24,7 @@ returns-in_err-check_datum-clause-words c =
     let P = program c.args.self.now.program.now in
     let p = err_from_is_err_and c.from_residual.result c.from_residual.ensures.1 in
     rw (p.1, p.2)
-    (says_map c.in_err-check_datum.field-0.0 (DatumFaultWith P (datum c.field-item.result))
+    (says_map c.check_datum.new.types c.in_err-check_datum.field-0.0 (DatumFaultWith P (datum c.field-item.result))
     (DataFaultWith P (data_fields c.args.fields.now))
     (word_fault P c.args.fields.now c.loop-field.field-index c.field-item.result c.loop-field-test.true c.field-item.is
     c.loop-field.invariant.left) c.in_err-check_datum.ensures.word)

@@ -1,4 +1,4 @@
-use Rattle.std.proofs.Common.{ap, sym, subst, refl, ◌∙◌, List, true≢false}
+use Rattle.std.proofs.Common.{ap, sym, subst, refl, ◌∙◌, arith, length, List, Result, true≢false}
 use Rattle.std.proofs.lemmas.Result.{err_from_is_err_and}
 use Rattle.t_types.specs.Tree.{Ty}
 use Rattle.t_types.specs.Fits.{Fits}
@@ -7,10 +7,11 @@ use Rattle.t_terms.specs.Read.{datum}
 use Rattle.t_terms.specs.ReadProgram.{program}
 use Rattle.t_terms.specs.declared.fault.TCode.TheVariants.{T13}
 use Rattle.t_intern.specs.Nodes.{at}
-use Rattle.t_intern.proofs.Growing.{grown_at}
+use Rattle.t_intern.proofs.Growing.{grown_at, grown_length}
 use Rattle.t_registers.specs.Known.{known}
 use Rattle.t_mismatch.specs.Mismatch.{DatumFaultWith}
-use Rattle.t_check.specs.Verdict.{FormedValue}
+use Rattle.t_check.specs.Verdict.{FormedValue, IsDatum}
+use Rattle.t_mismatch.specs.declared.refusal.Refusal.{Refusal}
 use Rattle.t_registers.proofs.Noting.{empty_known}
 use Rattle.t_check.proofs.Typing.{says_types, datum_ok, datum_unfit, datum_fault}
 use Rattle.t_check.proofs.checker.Checker.check_datum.Goals as goal
@@ -50,12 +51,17 @@ returns-clause-word c =
     let same = c.if-fits_once.ensures.same in
     let own = grown_at us vs c.in_ok-wanted.ensures.grown n typed.0 in
     let wanted = c.in_ok-wanted.ensures.number.1 in
-    says_types c.types_at_odds.result T13 0 x.span (DatumFaultWith P x) (at ws m) (at ws n) x.ty (at us n)
-    (ap (λ (xs : List Ty). at xs m) same ∙ wanted) (ap (λ (xs : List Ty). at xs n) same ∙ own) c.types_at_odds.ensures
+    let there = c.in_ok-wanted.ensures.number.0 in
+    let before = typed.0 in
+    let longer = grown_length us vs c.in_ok-wanted.ensures.grown in
+    let as_long = ap (λ (xs : List Ty). length xs) same in
+    subst (λ (r : Result (Unit {0}) Refusal). IsDatum P ws x r) (sym c.at_odds.ensures)
+    (says_types ws T13 0 x.span (DatumFaultWith P x) m n x.ty (at us n) (omega arith) (omega arith)
+    (ap (λ (xs : List Ty). at xs m) same ∙ wanted) (ap (λ (xs : List Ty). at xs n) same ∙ own)
     (datum_unfit P k.names (known ts k) c.requires.names (empty_known ts k c.requires.empty) x (at us n) typed.1
     (λ h. true≢false
     (sym (c.if-fits_once.ensures.fit.1
-    (subst (λ (t : Ty). Fits t (at vs m)) (sym own) (subst (Fits (at us n)) (sym wanted) h))))))
+    (subst (λ (t : Ty). Fits t (at vs m)) (sym own) (subst (Fits (at us n)) (sym wanted) h)))))))
 
 pub returns-in_err-found-clause-word : goal.returns-in_err-found-clause-word
 returns-in_err-found-clause-word c =
@@ -64,5 +70,5 @@ returns-in_err-found-clause-word c =
     let p = err_from_is_err_and c.from_residual.result c.from_residual.ensures.1 in
     rw (p.1, p.2)
     (datum_fault (program c.args.self.now.program.now) k.names (known ts k) c.requires.names
-    (empty_known ts k c.requires.empty) (datum c.args.field.now) c.in_err-found.field-0.0
+    (empty_known ts k c.requires.empty) (datum c.args.field.now) c.type_of_value.new.types c.in_err-found.field-0.0
     c.in_err-found.ensures.typed)

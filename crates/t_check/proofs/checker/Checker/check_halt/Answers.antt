@@ -23,7 +23,7 @@ returns-else-is_int c =
     let k = c.args.self.now.registers in
     let e = c.in-Some.entry in
     let found = c.in-Some.ensures.found ts c.requires in
-    subst (λ (r : Result (Unit {0}) Refusal). IsEnd (program c.args.self.now.program.now) k.names
+    subst (λ (r : Result (Unit {0}) Refusal). IsEnd (program c.args.self.now.program.now) ts k.names
     (known ts k) c.args.span Halt r) (sym c.refused.ensures)
     (no_halt (known ts k) (k.names - e.names) c.args.span (own ts e) found.0
     (λ h. true≢false (sym (c.if-is_int.ensures.1 (unmarked_int ts e.marks (at ts e.ty) h)))))

@@ -1,4 +1,4 @@
-use Rattle.std.proofs.Common.{◌∙◌, ap, sym, subst, arith, List, true≢false}
+use Rattle.std.proofs.Common.{◌∙◌, ap, sym, subst, arith, length, Bool, List, Result, true≢false}
 use Rattle.t_types.specs.Tree.{Ty}
 use Rattle.t_types.specs.Fits.{Fits}
 use Rattle.t_terms.specs.declared.fault.TCode.TheVariants.{T13}
@@ -9,6 +9,8 @@ use Rattle.t_mismatch.specs.Mismatch.{StoreFaultWith, register, fitting}
 use Rattle.t_check.proofs.Loads.{field_follows, unfit}
 use Rattle.t_registers.proofs.Noting.{seen_grown, entry_grown}
 use Rattle.t_check.proofs.Typing.{says_types}
+use Rattle.t_check.specs.Verdict.{IsStored}
+use Rattle.t_mismatch.specs.declared.refusal.Refusal.{Refusal}
 use Rattle.t_check.proofs.checker.Checker.check_stored.Goals as goal
 
 pub shown-requires-clause-entry : goal.shown-requires-clause-entry
@@ -65,12 +67,16 @@ returns-then-not-fits_once-clause-stored c =
     let own = c.in_ok-found.ensures.number.1 ∙ seen_grown ts us c.in_ok-wanted.ensures.grown n e found.1 in
     let kept = grown_at us vs c.in_ok-found.ensures.grown w h.4 in
     let same = c.fits_once.ensures.same in
-    says_types c.types_at_odds.result T13 n s (StoreFaultWith n g s c.args.rd c.args.field c.args.rs) (at ws w)
-    (at ws m) (at us w) t
-    (ap (λ (xs : List Ty). at xs w) same ∙ kept) (ap (λ (xs : List Ty). at xs m) same ∙ own) c.types_at_odds.ensures
+    let there = c.in_ok-found.ensures.number.0 in
+    let before = h.4 in
+    let longer = grown_length us vs c.in_ok-found.ensures.grown in
+    let as_long = ap (λ (xs : List Ty). length xs) same in
+    subst (λ (r : Result Bool Refusal). IsStored ws n g c.args.rd c.args.field c.args.rs s r) (sym c.at_odds.ensures)
+    (says_types ws T13 n s (StoreFaultWith n g s c.args.rd c.args.field c.args.rs) w m (at us w) t (omega arith)
+    (omega arith) (ap (λ (xs : List Ty). at xs w) same ∙ kept) (ap (λ (xs : List Ty). at xs m) same ∙ own)
     (field_follows g c.args.rd c.args.field s (λ fs u flag. register g c.args.rs s (λ x. fitting T13 n s u x)) h.0 h.1
     (at us w) c.in_ok-wanted.is_initialised _ s h.2
     (unfit T13 n g c.args.rs s t (at us w) found.0
     (λ f. true≢false
     (sym (c.fits_once.ensures.fit.1 (subst (λ (u : Ty). Fits u (at vs w)) (sym own) (subst (Fits t) (sym kept) f)))
-    ∙ c.if-not-fits_once.true))))
+    ∙ c.if-not-fits_once.true)))))

@@ -20,7 +20,7 @@ returns-then-not-owes_nothing-clause-entered c =
     let g = known c.args.types.now k in
     let us = c.type_of_value.new.types in
     let v = value c.args.v.now in
-    subst (λ (r : Result (Unit {0}) Refusal). IsEntered P k.names g c.args.span v r) (sym c.refused.ensures)
+    subst (λ (r : Result (Unit {0}) Refusal). IsEntered P us k.names g c.args.span v r) (sym c.refused.ensures)
     (enter_none P k.names g c.args.span v (at us c.in_ok-found.found) c.in_ok-found.ensures.typed.1
     (λ f e. true≢false (sym (c.owes_nothing.ensures.1 (f, e)) ∙ c.if-not-owes_nothing.true)))
 
@@ -83,10 +83,11 @@ returns-clause-entered c =
     let all = grown_next ts us vs c.in_ok-found.ensures.grown c.in_ok-fit.ensures.grown in
     let is = same_known vs k h same ∙ known_grown ts vs all k c.requires.place.sound in
     let f : (f : TFile) × (at us n ≡ CodeTy 0 f) = c.owes_nothing.ensures.0 c.if-not-owes_nothing.false in
+    let ws = c.check_code.new.types in
     let file = c.check_code.ensures.fit f.0 (grown_at us vs c.in_ok-fit.ensures.grown n typed.0 ∙ f.1) in
-    enter_is P k.names (known ts k) s (value c.args.v.now) (at us n) typed.1 f.0 f.1 c.check_code.result
-    (subst (λ (m : ℕ). IsFileFit m (known ts k) s f.0 c.check_code.result) same.1
-    (subst (λ (x : RegTypes). IsFileFit h.names x s f.0 c.check_code.result) is file))
+    enter_is P k.names (known ts k) s (value c.args.v.now) (at us n) typed.1 f.0 f.1 ws c.check_code.result
+    (subst (λ (m : ℕ). IsFileFit ws m (known ts k) s f.0 c.check_code.result) same.1
+    (subst (λ (x : RegTypes). IsFileFit ws h.names x s f.0 c.check_code.result) is file))
 
 pub returns-clause-known : goal.returns-clause-known
 returns-clause-known c = λ ts. same_known ts c.args.self.now.registers c.fit.new.self c.in_ok-fit.ensures.same

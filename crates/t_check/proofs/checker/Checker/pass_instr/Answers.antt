@@ -1,9 +1,8 @@
-use Rattle.std.proofs.Common.{subst, None, Some}
+use Rattle.std.proofs.Common.{subst, None}
 use Rattle.std.proofs.Math.Logic.{∥∥₁_elim}
 use Rattle.t_terms.specs.Read.{instr}
-use Rattle.t_mismatch.specs.Mismatch.{InstrFaultWith}
-use Rattle.t_mismatch.specs.ReadMismatch.{mismatch}
-use Rattle.t_mismatch.specs.Refusals.{SaysWith}
+use Rattle.t_mismatch.specs.Mismatch.{InstrFaultWith, told}
+use Rattle.t_mismatch.specs.Refusals.{SaysWith, odds_at}
 use Rattle.t_check.specs.Verdict.{program_in, known_at}
 use Rattle.t_mismatch.specs.declared.refusal.Refusal.{Refusal}
 use Rattle.t_mismatch.proofs.FirstWith.{instr_beside}
@@ -20,7 +19,8 @@ unreachable-requires c =
     let none : IsProp ⊥ = hlevel in
     let code = c.in-Err-Refused.field-0-0 in
     let span = c.in-Err-Refused.field-0-1 in
-    let fault = subst (λ (f : Refusal). SaysWith f (InstrFaultWith P n g s i)) c.in-Err-Refused.field-0-is
+    let fault = subst (λ (f : Refusal). SaysWith c.check_instr.new.types f (InstrFaultWith P n g s i))
+    c.in-Err-Refused.field-0-is
     c.in-Err-Refused.ensures.step in
     ∥∥₁_elim c.requires.typed none
     (λ t. c.no_fault_where_typed.ensures P n g i t.0 s code span t.1
@@ -35,26 +35,12 @@ unreachable-requires-in-Err-AtOdds c =
     let i = instr c.args.i.now in
     let s = c.args.span in
     let none : IsProp ⊥ = hlevel in
-    let odds = c.in-Err-AtOdds.field-0-0.value in
-    let fault = subst (λ (f : Refusal). SaysWith f (InstrFaultWith P n g s i)) c.in-Err-AtOdds.field-0-is
+    let code = c.in-Err-AtOdds.field-0-0 in
+    let span = c.in-Err-AtOdds.field-0-1 in
+    let odds = c.in-Err-AtOdds.field-0-2 in
+    let fault = subst (λ (f : Refusal). SaysWith c.check_instr.new.types f (InstrFaultWith P n g s i))
+    c.in-Err-AtOdds.field-0-is
     c.in-Err-AtOdds.ensures.step in
     ∥∥₁_elim c.requires.typed none
-    (λ t. c.no_fault_where_typed.ensures P n g i t.0 s odds.code odds.span t.1
-    ((instr_beside P n g s i).forget odds.code (Some (mismatch odds.mismatch)) odds.span fault))
-
-pub unreachable-requires-in-Err-Untold : goal.unreachable-requires-in-Err-Untold
-unreachable-requires-in-Err-Untold c =
-    let k = c.args.self.now in
-    let P = program_in k in
-    let n = k.registers.names in
-    let g = known_at c.args.types.now k in
-    let i = instr c.args.i.now in
-    let s = c.args.span in
-    let none : IsProp ⊥ = hlevel in
-    let code = c.in-Err-Untold.field-0-0 in
-    let span = c.in-Err-Untold.field-0-1 in
-    let fault = subst (λ (f : Refusal). SaysWith f (InstrFaultWith P n g s i)) c.in-Err-Untold.field-0-is
-    c.in-Err-Untold.ensures.step in
-    ∥∥₁_elim c.requires.typed none
     (λ t. c.no_fault_where_typed.ensures P n g i t.0 s code span t.1
-    ((instr_beside P n g s i).forget code fault.0 span fault.1))
+    ((instr_beside P n g s i).forget code (told (odds_at c.check_instr.new.types odds)) span fault.1))

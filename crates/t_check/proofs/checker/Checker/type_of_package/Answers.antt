@@ -1,15 +1,17 @@
-use Rattle.std.proofs.Common.{sym, subst, ◌∙◌, ap, ap₂, Some, List, true≢false}
+use Rattle.std.proofs.Common.{sym, subst, ◌∙◌, ap, ap₂, ℕ, arith, length, List, Result, true≢false}
 use Rattle.t_types.specs.Read.{tree}
 use Rattle.t_types.specs.Fits.{Fits}
 use Rattle.t_types.specs.Tree.{Ty, put, PutFits}
 use Rattle.t_terms.specs.declared.fault.TCode.TheVariants.{T15}
 use Rattle.t_intern.specs.Grown.{IsNumber}
 use Rattle.t_intern.specs.Nodes.{at}
-use Rattle.t_intern.proofs.Growing.{grown_at, grown_next, grown_number}
+use Rattle.t_intern.proofs.Growing.{grown_at, grown_next, grown_number, grown_length}
 use Rattle.t_types.specs.Bounds.{Shallow}
-use Rattle.t_mismatch.specs.Mismatch.{NoPackage, PackFaultWith}
+use Rattle.t_mismatch.specs.Mismatch.{PackFaultWith}
+use Rattle.t_mismatch.specs.declared.refusal.Refusal.{Refusal}
+use Rattle.t_check.specs.Verdict.{IsPacked}
 use Rattle.t_rules.proofs.Depth.{shallow, pack_put_fits}
-use Rattle.t_check.proofs.Typing.{says_noted, says_types, pack_unfit, pack_none}
+use Rattle.t_check.proofs.Typing.{says_package, says_types, pack_unfit, pack_none}
 use Rattle.t_check.proofs.checker.Checker.type_of_package.Goals as goal
 
 pub put-requires-clause-fits : goal.put-requires-clause-fits
@@ -56,9 +58,8 @@ returns-in-None-clause-packed c =
     let shape = tree c.args.shape.now in
     let t = at ts c.args.found in
     let is = c.in_ok-shape.ensures.number.1 in
-    says_noted c.no_package.result (T15, Some (NoPackage (at us c.in_ok-shape.shape) n)) s
-    (PackFaultWith n s hidden t shape) c.no_package.ensures
-    (subst (λ (u : Ty). PackFaultWith n s hidden t shape (T15, Some (NoPackage u n)) s) (sym is)
+    subst (λ (r : Result ℕ Refusal). IsPacked us n hidden t shape s r) (sym c.at_odds.ensures)
+    (says_package us n s (PackFaultWith n s hidden t shape) c.in_ok-shape.shape shape c.in_ok-shape.ensures.number.0 is
     (pack_none n s hidden t shape (λ body e. c.in-None.ensures body (is ∙ e))))
 
 pub returns-then-not-fits_once-clause-packed : goal.returns-then-not-fits_once-clause-packed
@@ -84,11 +85,15 @@ returns-then-not-fits_once-clause-packed c =
     let body = at us c.in-Some.body in
     let own = grown_at ts vs all m c.requires.found in
     let same = c.fits_once.ensures.same in
-    says_types c.types_at_odds.result T15 n s (PackFaultWith n s hidden t shape) (at xs w) (at xs m)
-    (put 0 hidden body) t
-    (ap (λ (ys : List Ty). at ys w) same ∙ wanted) (ap (λ (ys : List Ty). at ys m) same ∙ own) c.types_at_odds.ensures
+    let there = c.in_ok-wanted.ensures.number.0 in
+    let before = c.requires.found in
+    let longer = grown_length ts vs all in
+    let as_long = ap (λ (ys : List Ty). length ys) same in
+    subst (λ (r : Result ℕ Refusal). IsPacked xs n hidden t shape s r) (sym c.at_odds-then-not-fits_once.ensures)
+    (says_types xs T15 n s (PackFaultWith n s hidden t shape) w m (put 0 hidden body) t (omega arith) (omega arith)
+    (ap (λ (ys : List Ty). at ys w) same ∙ wanted) (ap (λ (ys : List Ty). at ys m) same ∙ own)
     (pack_unfit n s hidden t shape body is
     (λ h. true≢false
     (sym (c.fits_once.ensures.fit.1
     (subst (λ (u : Ty). Fits u (at vs w)) (sym own) (subst (Fits t) (sym wanted) h)))
-    ∙ c.if-not-fits_once.true)))
+    ∙ c.if-not-fits_once.true))))

@@ -5,12 +5,12 @@ use Rattle.t_gen.proofs.Gapped.{clash}
 use Rattle.t_gen.proofs.registers.Registers.pick.Goals as goal
 
 pub returns-then-is_free : goal.returns-then-is_free
-returns-then-is_free c = λ m u k one.
+returns-then-is_free c = λ m u k.
     let free = sym (c.is_free.ensures (λ r. busy r m u) k) ∙ c.if-is_free.true in
-    picked_is m u c.args.wanted c.args.from c.args.wanted one (λ e. refl) (λ e. absurd (clash free e))
+    picked_is m u c.args.wanted c.args.from c.args.wanted c.requires.one (λ e. refl) (λ e. absurd (clash free e))
 
 pub returns : goal.returns
-returns c = λ m u k one.
+returns c = λ m u k.
     let held = sym (c.is_free.ensures (λ r. busy r m u) k) ∙ c.if-is_free.false in
-    picked_is m u c.args.wanted c.args.from c.in_ok-first.first one (λ e. absurd (clash e held))
-    (λ e. c.in_ok-first.ensures (λ r. busy r m u) k one)
+    picked_is m u c.args.wanted c.args.from c.least.result c.requires.one (λ e. absurd (clash e held))
+    (λ e. c.least.ensures (λ r. busy r m u) k)

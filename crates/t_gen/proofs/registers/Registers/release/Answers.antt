@@ -21,3 +21,10 @@ returns-else-remove c = λ h k.
       gaps = gaps_same c.args.self.now.gaps h (λ q. h q && not (c.args.r == q)) k.gaps
           (λ q le lt. same_less h c.args.r q (λ e. ap h (sym e) ∙ none));
     }
+
+pub returns-in_default : goal.returns-in_default
+returns-in_default c = λ h k. record {
+  busy = busy_less c.args.self.now.busy c.remove.new.self h c.args.r c.remove.ensures.updates.0 k.busy;
+  gaps = gaps_same c.args.self.now.gaps h (λ q. h q && not (c.args.r == q)) k.gaps
+      (λ q le lt. same_less h c.args.r q (λ e. absurd (c.in_default.ensures (omega (arith, lt, e)))));
+}

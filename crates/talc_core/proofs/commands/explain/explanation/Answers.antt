@@ -1,5 +1,5 @@
-use Rattle.std.proofs.Common.{◌∙◌, ap, inl, inr}
-use Rattle.talc_core.specs.Explained.{explained}
+use Rattle.std.proofs.Common.{inl, inr}
+use Rattle.talc_core.specs.Steps.{told_of}
 use Rattle.talc_core.proofs.commands.explain.explanation.Goals as goal
 
 pub returns-in_ok-line-in-NoFault : goal.returns-in_ok-line-in-NoFault
@@ -13,7 +13,7 @@ returns-in_ok-page-in-Fault c =
     inl (record {
       fault = c.in-Fault.fault;
       first = found.0;
-      types = c.in-Fault.types.items;
+      told = told_of c.in-Fault.told;
       at_odds = found.1;
-      is = c.in_ok-page-in-Fault.ensures ∙ ap (explained c.args.text.now c.in-Fault.fault) c.deref.ensures.value;
+      is = c.in_ok-page-in-Fault.ensures;
     })

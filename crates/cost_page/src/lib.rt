@@ -1,0 +1,10 @@
+//! The page on what a run of an assembly program made: how many steps of which kind, what they allocated, and which
+//! places were executed most.
+#![tactic(auto)]
+
+mod most;
+mod page;
+mod places;
+mod totals;
+
+pub use page::{Made, page_of};

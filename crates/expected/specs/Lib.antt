@@ -1,0 +1,4 @@
+pub mod Listing
+pub mod Owing
+pub mod Standing
+pub mod Wanted

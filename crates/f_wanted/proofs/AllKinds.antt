@@ -1,0 +1,153 @@
+-- Each token is told as one that is listed.
+use Rattle.std.proofs.Common.{◌≡◌, ℕ, ℤ, pos, negsuc, slice_get, refl, Some}
+use Rattle.idx_core.specs.declared.span.Span.{Span}
+use Rattle.f_lexer.specs.declared.kind.Kind.{Kind}
+use Rattle.f_lexer.specs.declared.kind.Kind.TheVariants as k
+use Rattle.f_grammar.specs.declared.cursor.Wanted.{Wanted}
+use Rattle.f_grammar.specs.declared.cursor.Wanted.TheVariants as want
+use Rattle.f_grammar.specs.Grammar.{tok}
+use Rattle.f_grammar.specs.Machine as m
+use Rattle.f_grammar.specs.Machine.{table, Line, fits, after}
+use Rattle.expected.proofs.Same.{same_takes}
+use Rattle.f_wanted.specs.Words.{kinds, sample}
+use Rattle.f_wanted.specs.Text.{IsTold, AllAreTold}
+
+-- a token of the very kind
+told_at : (i : ℕ) (kind : Kind) (s : Span) → slice_get kinds i ≡ Some kind → IsTold (tok kind s)
+told_at i kind s e = (i, kind, e, λ st. same_takes table (tok kind s) (sample kind) (λ c. refl) (λ n. refl) st)
+
+-- numbers are told apart by their sign alone
+plain_fits : (y z : ℤ) (c : Wanted) → fits c (k.Plain y) ≡ fits c (k.Plain z)
+plain_fits y z want.Name = refl
+plain_fits y z want.Number = refl
+plain_fits y z want.LeftParen = refl
+plain_fits y z want.RightParen = refl
+plain_fits y z want.RightAngle = refl
+plain_fits y z want.LeftBracket = refl
+plain_fits y z want.RightBracket = refl
+plain_fits y z want.Comma = refl
+plain_fits y z want.Dot = refl
+plain_fits y z want.Colon = refl
+plain_fits y z want.Equals = refl
+plain_fits y z want.In = refl
+plain_fits y z want.As = refl
+plain_fits y z want.Assign = refl
+plain_fits y z want.Arrow = refl
+plain_fits y z want.Star = refl
+plain_fits y z want.Fix = refl
+plain_fits y z want.Gen = refl
+plain_fits y z want.Let = refl
+plain_fits y z want.Pack = refl
+plain_fits y z want.Open = refl
+
+plain_after : (y z : ℤ) (n : Line) → after n (k.Plain y) ≡ after n (k.Plain z)
+plain_after y z m.LE = refl
+plain_after y z m.LP = refl
+plain_after y z m.LParam = refl
+plain_after y z m.LBranches = refl
+plain_after y z m.LFields = refl
+plain_after y z m.LHidden = refl
+plain_after y z m.LNames = refl
+plain_after y z m.MoreParts = refl
+plain_after y z m.MoreFactors = refl
+plain_after y z m.MoreSums = refl
+plain_after y z m.MoreAssign = refl
+plain_after y z m.MoreFields = refl
+plain_after y z m.LT = refl
+plain_after y z m.LU = refl
+plain_after y z m.LTypes = refl
+plain_after y z m.MoreArrow = refl
+plain_after y z m.MoreTypes = refl
+
+negative_fits : (y z : ℤ) (c : Wanted) → fits c (k.Negative y) ≡ fits c (k.Negative z)
+negative_fits y z want.Name = refl
+negative_fits y z want.Number = refl
+negative_fits y z want.LeftParen = refl
+negative_fits y z want.RightParen = refl
+negative_fits y z want.RightAngle = refl
+negative_fits y z want.LeftBracket = refl
+negative_fits y z want.RightBracket = refl
+negative_fits y z want.Comma = refl
+negative_fits y z want.Dot = refl
+negative_fits y z want.Colon = refl
+negative_fits y z want.Equals = refl
+negative_fits y z want.In = refl
+negative_fits y z want.As = refl
+negative_fits y z want.Assign = refl
+negative_fits y z want.Arrow = refl
+negative_fits y z want.Star = refl
+negative_fits y z want.Fix = refl
+negative_fits y z want.Gen = refl
+negative_fits y z want.Let = refl
+negative_fits y z want.Pack = refl
+negative_fits y z want.Open = refl
+
+negative_after : (y z : ℤ) (n : Line) → after n (k.Negative y) ≡ after n (k.Negative z)
+negative_after y z m.LE = refl
+negative_after y z m.LP = refl
+negative_after y z m.LParam = refl
+negative_after y z m.LBranches = refl
+negative_after y z m.LFields = refl
+negative_after y z m.LHidden = refl
+negative_after y z m.LNames = refl
+negative_after y z m.MoreParts = refl
+negative_after y z m.MoreFactors = refl
+negative_after y z m.MoreSums = refl
+negative_after y z m.MoreAssign = refl
+negative_after y z m.MoreFields = refl
+negative_after y z m.LT = refl
+negative_after y z m.LU = refl
+negative_after y z m.LTypes = refl
+negative_after y z m.MoreArrow = refl
+negative_after y z m.MoreTypes = refl
+
+told : (kind : Kind) (s : Span) → IsTold (tok kind s)
+told k.In s = told_at 0 k.In s refl
+told k.As s = told_at 1 k.As s refl
+told k.RightParen s = told_at 2 k.RightParen s refl
+told k.RightAngle s = told_at 3 k.RightAngle s refl
+told k.RightBracket s = told_at 4 k.RightBracket s refl
+told k.Comma s = told_at 5 k.Comma s refl
+told k.Dot s = told_at 6 k.Dot s refl
+told k.Colon s = told_at 7 k.Colon s refl
+told k.Equals s = told_at 8 k.Equals s refl
+told k.Arrow s = told_at 9 k.Arrow s refl
+told k.Assign s = told_at 10 k.Assign s refl
+told k.Star s = told_at 11 k.Star s refl
+told k.Plus s = told_at 12 k.Plus s refl
+told k.Minus s = told_at 13 k.Minus s refl
+told k.LeftBracket s = told_at 14 k.LeftBracket s refl
+told k.Int s = told_at 15 k.Int s refl
+told k.All s = told_at 16 k.All s refl
+told k.Some s = told_at 17 k.Some s refl
+told k.Name s = told_at 18 k.Name s refl
+told (k.Plain z) s = (
+  19,
+  k.Plain (pos 1),
+  refl,
+  λ st.
+      same_takes table (tok (k.Plain z) s) (sample (k.Plain (pos 1))) (plain_fits z (pos 1))
+      (plain_after z (pos 1)) st,
+)
+told (k.Negative z) s = (
+  20,
+  k.Negative (negsuc 0),
+  refl,
+  λ st.
+      same_takes table (tok (k.Negative z) s) (sample (k.Negative (negsuc 0))) (negative_fits z (negsuc 0))
+      (negative_after z (negsuc 0)) st,
+)
+told k.LeftParen s = told_at 21 k.LeftParen s refl
+told k.LeftAngle s = told_at 22 k.LeftAngle s refl
+told k.Hash s = told_at 23 k.Hash s refl
+told k.Bang s = told_at 24 k.Bang s refl
+told k.If0 s = told_at 25 k.If0 s refl
+told k.Ref s = told_at 26 k.Ref s refl
+told k.Fix s = told_at 27 k.Fix s refl
+told k.Let s = told_at 28 k.Let s refl
+told k.Gen s = told_at 29 k.Gen s refl
+told k.Open s = told_at 30 k.Open s refl
+told k.Pack s = told_at 31 k.Pack s refl
+
+pub all_are_told : AllAreTold
+all_are_told c = told c.kind c.span

@@ -1,0 +1,18 @@
+use Rattle.std.proofs.Common.{◌∙◌, sym, ap}
+use Rattle.expected.specs.Owing.{from_top}
+use Rattle.f_wanted.proofs.Walking.{line_before, line_behind}
+use Rattle.f_wanted.proofs.source.line_of.Goals as goal
+
+pub returns-in-Some : goal.returns-in-Some
+returns-in-Some c =
+    let s = c.in_ok-stand.ensures in
+    c.in_ok-line-in-Some.ensures s.state (ap (λ x. from_top x) c.deref.ensures.value ∙ s.owns)
+    ∙ sym (line_before c.args.text.now c.args.at c.args.tokens.now c.in_ok-stand.stand.read
+    c.in_ok-stand.stand.owed.items c.in-Some.token s (sym c.peek.ensures ∙ c.in-Some.is))
+
+pub returns : goal.returns
+returns c =
+    let s = c.in_ok-stand.ensures in
+    c.in_ok-line-in-None.ensures s.state (ap (λ x. from_top x) c.deref-in-None.ensures.value ∙ s.owns)
+    ∙ sym (line_behind c.args.text.now c.args.at c.args.tokens.now c.in_ok-stand.stand.read
+    c.in_ok-stand.stand.owed.items s (sym c.peek.ensures ∙ c.in-None.is))

@@ -1,0 +1,19 @@
+use Rattle.std.proofs.Common.{◌∙◌, ap, inl, inr}
+use Rattle.f_lexer.proofs.Exact.{no_fault_where_cut}
+use Rattle.f_wanted.specs.Text.{wanted_line}
+use Rattle.f_wanted.proofs.source.source_wanted.Goals as goal
+
+pub returns-in_ok-line-in-Ok : goal.returns-in_ok-line-in-Ok
+returns-in_ok-line-in-Ok c =
+    inl (
+      c.in-Ok.tokens.items,
+      c.in-Ok.ensures.right,
+      c.in_ok-line-in-Ok.ensures ∙ ap (λ w. wanted_line c.args.text.now c.args.at w) c.deref.ensures.value,
+    )
+
+pub returns-in-Err-Refused : goal.returns-in-Err-Refused
+returns-in-Err-Refused c =
+    inr (
+      λ w x. no_fault_where_cut _ w _ _ x (rw c.in-Err-Refused.field-0-is at c.in-Err-Refused.ensures.right),
+      c.new.ensures.items,
+    )

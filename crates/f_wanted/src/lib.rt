@@ -1,0 +1,12 @@
+//! What could stand at the first unexpected token of a source text, or at its end.
+#![tactic(auto)]
+
+mod laws;
+mod source;
+mod table;
+mod words;
+
+pub use laws::{
+    all_are_told, cut_short_is_told, few_bytes, one_line, takes_what_goes_on, unexpected_is_told,
+};
+pub use source::source_wanted;

@@ -1,0 +1,4 @@
+pub mod Around
+pub mod Words
+pub mod Sentences
+pub mod Hints

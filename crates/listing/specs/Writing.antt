@@ -1,0 +1,36 @@
+-- What the steps of making a listing do.
+use Rattle.std.specs.Prelude.{◌≡◌, ◌≤◌, ℕ, List, ◌++◌, Some, length, take}
+use Rattle.fault_page.specs.Spot.{lines}
+use Rattle.t_terms.specs.Tree.{TProg, TSeq}
+use Rattle.t_rules.specs.Known.{code_at}
+use Rattle.t_check.specs.Walks.{IsWalk, walked}
+use Rattle.listing.specs.declared.place.Place.{Place}
+use Rattle.listing.specs.declared.lister.Lister.{Lister}
+
+-- the number is that of the line of the byte at which the place stands
+pub record IsPlace (p : Place) : Type 0 where
+  pub bound : p.at ≤ length p.text.now
+  pub number : p.number ≡ lines (take p.at p.text.now)
+
+-- the text and the program that a listing is made of
+abbrev pub text_of : Lister → List ℕ
+text_of l = l.place.text.now
+
+abbrev pub program_of : Lister → TProg
+program_of l = walked l.walk
+
+pub record IsLister (l : Lister) : Type 0 where
+  pub place : IsPlace l.place
+  pub walk : IsWalk l.walk
+
+-- both make the listing of the same
+abbrev pub OfTheSame : Lister → Lister → Type 0
+OfTheSame a b = (text_of b ≡ text_of a) × (program_of b ≡ program_of a)
+
+-- such rows are put behind those that there are
+abbrev pub Adds : (List ℕ → Type 0) → List ℕ → List ℕ → Type 0
+Adds AreRows old new = (rows : List ℕ) × AreRows rows × (new ≡ old ++ rows)
+
+-- each place of a block is there, of so many instructions
+abbrev pub HasPlaces : TProg → (block count : ℕ) → Type 0
+HasPlaces P block count = (i : ℕ) → i ≤ count → (c : TSeq) × (code_at P block i ≡ Some c)

@@ -1,0 +1,386 @@
+-- Each token is told as one that is listed.
+use Rattle.std.proofs.Common.{◌≡◌, ◌⊎◌, ◌<◌, ◌≤◌, ◌==◌, inl, inr, ℕ, zero, suc, pos, negsuc, slice_get, refl, Some}
+use Rattle.std.proofs.Common.{false, arith}
+use Rattle.std.proofs.lemmas.Bool.{ne_eqb}
+use Rattle.idx_core.specs.declared.span.Span.{Span}
+use Rattle.t_text.specs.declared.token.Kind.{Kind}
+use Rattle.t_text.specs.declared.token.Kind.TheVariants as k
+use Rattle.t_text.specs.declared.token.Token.{Token}
+use Rattle.t_text.specs.declared.wanted.Wanted.{Wanted}
+use Rattle.t_text.specs.declared.wanted.Wanted.TheVariants as want
+use Rattle.t_text.specs.GrammarTable as m
+use Rattle.t_text.specs.GrammarTable.{table, Line, fits, after}
+use Rattle.expected.proofs.Same.{same_takes}
+use Rattle.t_wanted.specs.Words.{kinds, sample}
+use Rattle.t_wanted.specs.Text.{IsTold, AllAreTold}
+
+abbrev tok : Kind → Span → Token
+tok kind s = record { kind = kind; span = s }
+
+-- a token of a kind between which and a sample the table makes no difference
+told_as : (i : ℕ) (kind listed : Kind) (s : Span) → slice_get kinds i ≡ Some listed →
+    ((c : Wanted) → fits c kind ≡ fits c listed) → ((n : Line) → after n kind ≡ after n listed) → IsTold (tok kind s)
+told_as i kind listed s e f a = (i, listed, e, λ st. same_takes table (tok kind s) (sample listed) f a st)
+
+-- large numbers have no value that is told
+far : (m n : ℕ) → n < m → (m == n) ≡ false
+far m n h = ne_eqb m n (λ e. omega arith)
+
+large_flag : (m : ℕ) → 3 ≤ m → fits want.Flag (k.Plain (pos m)) ≡ fits want.Flag (k.Plain (pos 3))
+large_flag m h =
+    let none : (m == 0) ≡ false = far m 0 (omega arith) in
+    let one : (m == 1) ≡ false = far m 1 (omega arith) in
+    rw (none, one) refl
+
+large_head : (v : ℕ) → 3 ≤ v → after m.LHeader (k.Plain (pos v)) ≡ after m.LHeader (k.Plain (pos 3))
+large_head v h =
+    let one : (v == 1) ≡ false = far v 1 (omega arith) in
+    let two : (v == 2) ≡ false = far v 2 (omega arith) in
+    rw (one, two) refl
+
+told_at : (i : ℕ) (kind : Kind) (s : Span) → slice_get kinds i ≡ Some kind → IsTold (tok kind s)
+told_at i kind s e = told_as i kind kind s e (λ c. refl) (λ n. refl)
+
+large_fits : (n : ℕ) (c : Wanted) → fits c (k.Plain (pos (suc (suc (suc n))))) ≡ fits c (k.Plain (pos 3))
+large_fits n want.Name = refl
+large_fits n want.Register = refl
+large_fits n want.Number = refl
+large_fits n want.Flag = large_flag (suc (suc (suc n))) (omega arith)
+large_fits n want.LeftBracket = refl
+large_fits n want.RightBracket = refl
+large_fits n want.LeftBrace = refl
+large_fits n want.RightBrace = refl
+large_fits n want.RightAngle = refl
+large_fits n want.Comma = refl
+large_fits n want.Dot = refl
+large_fits n want.Colon = refl
+large_fits n want.Caret = refl
+large_fits n want.Tal = refl
+large_fits n want.Code = refl
+large_fits n want.As = refl
+large_fits n want.Int = refl
+
+large_after : (n : ℕ) (l : Line) → after l (k.Plain (pos (suc (suc (suc n))))) ≡ after l (k.Plain (pos 3))
+large_after n m.LProgram = refl
+large_after n m.LHeader = large_head (suc (suc (suc n))) (omega arith)
+large_after n m.LBlock = refl
+large_after n m.LMoreBlocks = refl
+large_after n m.LSomeItems = refl
+large_after n m.LFirst = refl
+large_after n m.LMoreItems = refl
+large_after n m.LItem = refl
+large_after n m.LTuple = refl
+large_after n m.LDatums = refl
+large_after n m.LMoreDatums = refl
+large_after n m.LBinds = refl
+large_after n m.LNames = refl
+large_after n m.LMoreNames = refl
+large_after n m.LFile = refl
+large_after n m.LRegs = refl
+large_after n m.LMoreRegs = refl
+large_after n m.LT = refl
+large_after n m.LFields = refl
+large_after n m.LMoreFields = refl
+large_after n m.LTypes = refl
+large_after n m.LTypeList = refl
+large_after n m.LSomeTypes = refl
+large_after n m.LMoreTypes = refl
+large_after n m.LV = refl
+large_after n m.LArgs = refl
+large_after n m.LPacked = refl
+large_after n m.LW = refl
+large_after n m.LWordArgs = refl
+large_after n m.LWordPacked = refl
+large_after n m.LTo = refl
+large_after n m.LAt = refl
+large_after n m.LIndex = refl
+large_after n m.LTarget = refl
+large_after n m.LInt = refl
+large_after n m.LI = refl
+large_after n m.LMoreSteps = refl
+large_after n m.LEnd = refl
+
+odd_fits : (n : ℕ) (c : Wanted) → fits c (k.Plain (negsuc n)) ≡ fits c (k.Plain (pos 3))
+odd_fits n want.Name = refl
+odd_fits n want.Register = refl
+odd_fits n want.Number = refl
+odd_fits n want.Flag = refl
+odd_fits n want.LeftBracket = refl
+odd_fits n want.RightBracket = refl
+odd_fits n want.LeftBrace = refl
+odd_fits n want.RightBrace = refl
+odd_fits n want.RightAngle = refl
+odd_fits n want.Comma = refl
+odd_fits n want.Dot = refl
+odd_fits n want.Colon = refl
+odd_fits n want.Caret = refl
+odd_fits n want.Tal = refl
+odd_fits n want.Code = refl
+odd_fits n want.As = refl
+odd_fits n want.Int = refl
+
+odd_after : (n : ℕ) (l : Line) → after l (k.Plain (negsuc n)) ≡ after l (k.Plain (pos 3))
+odd_after n m.LProgram = refl
+odd_after n m.LHeader = refl
+odd_after n m.LBlock = refl
+odd_after n m.LMoreBlocks = refl
+odd_after n m.LSomeItems = refl
+odd_after n m.LFirst = refl
+odd_after n m.LMoreItems = refl
+odd_after n m.LItem = refl
+odd_after n m.LTuple = refl
+odd_after n m.LDatums = refl
+odd_after n m.LMoreDatums = refl
+odd_after n m.LBinds = refl
+odd_after n m.LNames = refl
+odd_after n m.LMoreNames = refl
+odd_after n m.LFile = refl
+odd_after n m.LRegs = refl
+odd_after n m.LMoreRegs = refl
+odd_after n m.LT = refl
+odd_after n m.LFields = refl
+odd_after n m.LMoreFields = refl
+odd_after n m.LTypes = refl
+odd_after n m.LTypeList = refl
+odd_after n m.LSomeTypes = refl
+odd_after n m.LMoreTypes = refl
+odd_after n m.LV = refl
+odd_after n m.LArgs = refl
+odd_after n m.LPacked = refl
+odd_after n m.LW = refl
+odd_after n m.LWordArgs = refl
+odd_after n m.LWordPacked = refl
+odd_after n m.LTo = refl
+odd_after n m.LAt = refl
+odd_after n m.LIndex = refl
+odd_after n m.LTarget = refl
+odd_after n m.LInt = refl
+odd_after n m.LI = refl
+odd_after n m.LMoreSteps = refl
+odd_after n m.LEnd = refl
+
+below_fits : (n : ℕ) (c : Wanted) → fits c (k.Negative (negsuc n)) ≡ fits c (k.Negative (negsuc 0))
+below_fits n want.Name = refl
+below_fits n want.Register = refl
+below_fits n want.Number = refl
+below_fits n want.Flag = refl
+below_fits n want.LeftBracket = refl
+below_fits n want.RightBracket = refl
+below_fits n want.LeftBrace = refl
+below_fits n want.RightBrace = refl
+below_fits n want.RightAngle = refl
+below_fits n want.Comma = refl
+below_fits n want.Dot = refl
+below_fits n want.Colon = refl
+below_fits n want.Caret = refl
+below_fits n want.Tal = refl
+below_fits n want.Code = refl
+below_fits n want.As = refl
+below_fits n want.Int = refl
+
+below_after : (n : ℕ) (l : Line) → after l (k.Negative (negsuc n)) ≡ after l (k.Negative (negsuc 0))
+below_after n m.LProgram = refl
+below_after n m.LHeader = refl
+below_after n m.LBlock = refl
+below_after n m.LMoreBlocks = refl
+below_after n m.LSomeItems = refl
+below_after n m.LFirst = refl
+below_after n m.LMoreItems = refl
+below_after n m.LItem = refl
+below_after n m.LTuple = refl
+below_after n m.LDatums = refl
+below_after n m.LMoreDatums = refl
+below_after n m.LBinds = refl
+below_after n m.LNames = refl
+below_after n m.LMoreNames = refl
+below_after n m.LFile = refl
+below_after n m.LRegs = refl
+below_after n m.LMoreRegs = refl
+below_after n m.LT = refl
+below_after n m.LFields = refl
+below_after n m.LMoreFields = refl
+below_after n m.LTypes = refl
+below_after n m.LTypeList = refl
+below_after n m.LSomeTypes = refl
+below_after n m.LMoreTypes = refl
+below_after n m.LV = refl
+below_after n m.LArgs = refl
+below_after n m.LPacked = refl
+below_after n m.LW = refl
+below_after n m.LWordArgs = refl
+below_after n m.LWordPacked = refl
+below_after n m.LTo = refl
+below_after n m.LAt = refl
+below_after n m.LIndex = refl
+below_after n m.LTarget = refl
+below_after n m.LInt = refl
+below_after n m.LI = refl
+below_after n m.LMoreSteps = refl
+below_after n m.LEnd = refl
+
+above_fits : (n : ℕ) (c : Wanted) → fits c (k.Negative (pos (suc n))) ≡ fits c (k.Negative (negsuc 0))
+above_fits n want.Name = refl
+above_fits n want.Register = refl
+above_fits n want.Number = refl
+above_fits n want.Flag = far (suc n) 0 (omega arith)
+above_fits n want.LeftBracket = refl
+above_fits n want.RightBracket = refl
+above_fits n want.LeftBrace = refl
+above_fits n want.RightBrace = refl
+above_fits n want.RightAngle = refl
+above_fits n want.Comma = refl
+above_fits n want.Dot = refl
+above_fits n want.Colon = refl
+above_fits n want.Caret = refl
+above_fits n want.Tal = refl
+above_fits n want.Code = refl
+above_fits n want.As = refl
+above_fits n want.Int = refl
+
+above_after : (n : ℕ) (l : Line) → after l (k.Negative (pos (suc n))) ≡ after l (k.Negative (negsuc 0))
+above_after n m.LProgram = refl
+above_after n m.LHeader = refl
+above_after n m.LBlock = refl
+above_after n m.LMoreBlocks = refl
+above_after n m.LSomeItems = refl
+above_after n m.LFirst = refl
+above_after n m.LMoreItems = refl
+above_after n m.LItem = refl
+above_after n m.LTuple = refl
+above_after n m.LDatums = refl
+above_after n m.LMoreDatums = refl
+above_after n m.LBinds = refl
+above_after n m.LNames = refl
+above_after n m.LMoreNames = refl
+above_after n m.LFile = refl
+above_after n m.LRegs = refl
+above_after n m.LMoreRegs = refl
+above_after n m.LT = refl
+above_after n m.LFields = refl
+above_after n m.LMoreFields = refl
+above_after n m.LTypes = refl
+above_after n m.LTypeList = refl
+above_after n m.LSomeTypes = refl
+above_after n m.LMoreTypes = refl
+above_after n m.LV = refl
+above_after n m.LArgs = refl
+above_after n m.LPacked = refl
+above_after n m.LW = refl
+above_after n m.LWordArgs = refl
+above_after n m.LWordPacked = refl
+above_after n m.LTo = refl
+above_after n m.LAt = refl
+above_after n m.LIndex = refl
+above_after n m.LTarget = refl
+above_after n m.LInt = refl
+above_after n m.LI = refl
+above_after n m.LMoreSteps = refl
+above_after n m.LEnd = refl
+
+register_fits : (n : ℕ) (c : Wanted) → fits c (k.Register n) ≡ fits c (k.Register 1)
+register_fits n want.Name = refl
+register_fits n want.Register = refl
+register_fits n want.Number = refl
+register_fits n want.Flag = refl
+register_fits n want.LeftBracket = refl
+register_fits n want.RightBracket = refl
+register_fits n want.LeftBrace = refl
+register_fits n want.RightBrace = refl
+register_fits n want.RightAngle = refl
+register_fits n want.Comma = refl
+register_fits n want.Dot = refl
+register_fits n want.Colon = refl
+register_fits n want.Caret = refl
+register_fits n want.Tal = refl
+register_fits n want.Code = refl
+register_fits n want.As = refl
+register_fits n want.Int = refl
+
+register_after : (n : ℕ) (l : Line) → after l (k.Register n) ≡ after l (k.Register 1)
+register_after n m.LProgram = refl
+register_after n m.LHeader = refl
+register_after n m.LBlock = refl
+register_after n m.LMoreBlocks = refl
+register_after n m.LSomeItems = refl
+register_after n m.LFirst = refl
+register_after n m.LMoreItems = refl
+register_after n m.LItem = refl
+register_after n m.LTuple = refl
+register_after n m.LDatums = refl
+register_after n m.LMoreDatums = refl
+register_after n m.LBinds = refl
+register_after n m.LNames = refl
+register_after n m.LMoreNames = refl
+register_after n m.LFile = refl
+register_after n m.LRegs = refl
+register_after n m.LMoreRegs = refl
+register_after n m.LT = refl
+register_after n m.LFields = refl
+register_after n m.LMoreFields = refl
+register_after n m.LTypes = refl
+register_after n m.LTypeList = refl
+register_after n m.LSomeTypes = refl
+register_after n m.LMoreTypes = refl
+register_after n m.LV = refl
+register_after n m.LArgs = refl
+register_after n m.LPacked = refl
+register_after n m.LW = refl
+register_after n m.LWordArgs = refl
+register_after n m.LWordPacked = refl
+register_after n m.LTo = refl
+register_after n m.LAt = refl
+register_after n m.LIndex = refl
+register_after n m.LTarget = refl
+register_after n m.LInt = refl
+register_after n m.LI = refl
+register_after n m.LMoreSteps = refl
+register_after n m.LEnd = refl
+
+told : (kind : Kind) (s : Span) → IsTold (tok kind s) ⊎ (kind ≡ k.Negative (pos 0))
+told (k.Plain (pos zero)) s = inl (told_at 15 (k.Plain (pos 0)) s refl)
+told (k.Plain (pos (suc zero))) s = inl (told_at 16 (k.Plain (pos 1)) s refl)
+told (k.Plain (pos (suc (suc zero)))) s = inl (told_at 17 (k.Plain (pos 2)) s refl)
+told (k.Plain (pos (suc (suc (suc n))))) s =
+    inl (told_as 20 (k.Plain (pos (suc (suc (suc n))))) (k.Plain (pos 3)) s refl (large_fits n) (large_after n))
+told (k.Plain (negsuc n)) s =
+    inl (told_as 20 (k.Plain (negsuc n)) (k.Plain (pos 3)) s refl (odd_fits n) (odd_after n))
+told (k.Negative (pos zero)) s = inr refl
+told (k.Negative (pos (suc n))) s =
+    inl (told_as 21 (k.Negative (pos (suc n))) (k.Negative (negsuc 0)) s refl (above_fits n) (above_after n))
+told (k.Negative (negsuc n)) s =
+    inl (told_as 21 (k.Negative (negsuc n)) (k.Negative (negsuc 0)) s refl (below_fits n) (below_after n))
+told (k.Register n) s =
+    inl (told_as 18 (k.Register n) (k.Register 1) s refl (register_fits n) (register_after n))
+told k.As s = inl (told_at 0 k.As s refl)
+told k.Code s = inl (told_at 1 k.Code s refl)
+told k.Data s = inl (told_at 2 k.Data s refl)
+told k.RightBracket s = inl (told_at 3 k.RightBracket s refl)
+told k.RightBrace s = inl (told_at 4 k.RightBrace s refl)
+told k.RightAngle s = inl (told_at 5 k.RightAngle s refl)
+told k.Comma s = inl (told_at 6 k.Comma s refl)
+told k.Dot s = inl (told_at 7 k.Dot s refl)
+told k.Colon s = inl (told_at 8 k.Colon s refl)
+told k.Caret s = inl (told_at 9 k.Caret s refl)
+told k.Jmp s = inl (told_at 10 k.Jmp s refl)
+told k.Halt s = inl (told_at 11 k.Halt s refl)
+told k.LeftBracket s = inl (told_at 12 k.LeftBracket s refl)
+told k.LeftBrace s = inl (told_at 13 k.LeftBrace s refl)
+told k.Tal s = inl (told_at 14 k.Tal s refl)
+told k.Name s = inl (told_at 19 k.Name s refl)
+told k.Int s = inl (told_at 22 k.Int s refl)
+told k.All s = inl (told_at 23 k.All s refl)
+told k.Some s = inl (told_at 24 k.Some s refl)
+told k.LeftAngle s = inl (told_at 25 k.LeftAngle s refl)
+told k.Pack s = inl (told_at 26 k.Pack s refl)
+told k.Add s = inl (told_at 27 k.Add s refl)
+told k.Sub s = inl (told_at 28 k.Sub s refl)
+told k.Mul s = inl (told_at 29 k.Mul s refl)
+told k.Bnz s = inl (told_at 30 k.Bnz s refl)
+told k.Ld s = inl (told_at 31 k.Ld s refl)
+told k.St s = inl (told_at 32 k.St s refl)
+told k.Mov s = inl (told_at 33 k.Mov s refl)
+told k.Malloc s = inl (told_at 34 k.Malloc s refl)
+told k.Unpack s = inl (told_at 35 k.Unpack s refl)
+
+pub all_are_told : AllAreTold
+all_are_told c = told c.kind c.span

@@ -1,0 +1,4 @@
+pub mod AllKinds
+pub mod Rows
+mod Texts
+pub mod Walking

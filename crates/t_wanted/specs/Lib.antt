@@ -1,0 +1,4 @@
+pub mod Stands
+pub mod Table
+pub mod Text
+pub mod Words

@@ -1,0 +1,35 @@
+// What the definition of a line says in all.
+ghost use Rattle.t_text.specs.GrammarTable.{table};
+ghost use Rattle.expected.specs.Wanted.{TakesWhatGoesOn, UnexpectedIsTold, CutShortIsTold, FewBytes};
+ghost use Rattle.t_wanted.specs.Words.{assembly_kinds};
+ghost use Rattle.t_wanted.specs.Text.{OneLine, AllAreTold};
+
+/// The kinds of tokens that are told are exactly those with which some program of the grammar goes on there.
+pub fn takes_what_goes_on()
+    ensures { TakesWhatGoesOn table }
+{}
+
+/// Each token is told as its kind is, so no kind of tokens is left out, but for `~0` in place of a flag.
+pub fn all_are_told()
+    ensures { AllAreTold }
+{}
+
+/// There is a line at each first unexpected token of a text.
+pub fn unexpected_is_told()
+    ensures { UnexpectedIsTold table assembly_kinds }
+{}
+
+/// There is a line at the end of each text that is cut short.
+pub fn cut_short_is_told()
+    ensures { CutShortIsTold table assembly_kinds }
+{}
+
+/// No line has more than 100 bytes.
+pub fn few_bytes()
+    ensures { FewBytes table assembly_kinds }
+{}
+
+/// A place in a text has one line.
+pub fn one_line()
+    ensures { OneLine }
+{}

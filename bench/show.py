@@ -1,10 +1,10 @@
-"""Showing: `talc show` on sources of up to 100000 nodes, the limit, in each of the six forms, and `talc listing` on what
-`compile` makes of them.
+"""Showing: `talc show` on sources of up to 100000 nodes, the limit, in each of the six forms, `talc types` on them, and
+`talc listing` on what `compile` makes of them.
 
-For each shape and form, and for the listing: processor seconds less those of the text `7`, bytes of the text shown a
+For each shape and form, for the types and for the listing: processor seconds less those of the text `7`, bytes of the text shown a
 node of the source, the time as a multiple of that of the half (wanted: at most 2.2), and as a multiple of that of
-`compile` (wanted: at most 1.5 for the forms on the way to the assembly text), or for the listing of that of `check`
-(wanted: at most 5). A text is shown as often as it takes to come to 0.05 seconds. A row that misses says so.
+`compile` (wanted: at most 1.5 for the forms on the way to the assembly text), for the types of that of `typeof`, or for the
+listing of that of `check` (wanted: at most 5 for both). A text is shown as often as it takes to come to 0.05 seconds. A row that misses says so.
 """
 from measure import Spent, best, checked, folder, program, ratio
 from shapes import branches, called_lets, calls, cells, functions, lets, ones, opens
@@ -20,7 +20,7 @@ SHAPES = [
     ("assignments in a row", cells),
 ]
 FORMS = ["source", "cps", "closed", "hoisted", "allocated", "assembly"]
-NODES, MOST_TIMES, MOST_OF_COMPILING, MOST_OF_CHECKING = 99000, 2.2, 1.5, 5
+NODES, MOST_TIMES, MOST_OF_COMPILING, MOST_OF_CHECKING, MOST_OF_TYPING = 99000, 2.2, 1.5, 5, 5
 
 
 def main():
@@ -44,7 +44,19 @@ def main():
                     f"{shape}, {form}: {runs[0].seconds:.3f} s, {size / NODES:.1f} bytes a node, times the half: "
                     f"{ratio(*runs, MOST_TIMES)}, times compiling: {ratio(runs[0], compiling, MOST_OF_COMPILING)}"
                 )
+            show_types(talc, shape, seven, [whole, half])
             list_compiled(talc, shape, seven, [whole, half])
+
+
+def show_types(talc, shape, seven, sources):
+    """The row of a shape for `types` on the sources, the whole one and the half."""
+    typing = Spent([talc, "typeof", sources[0]], best([talc, "typeof", seven], times=20))
+    base = best([talc, "types", seven], times=20)
+    runs = [Spent([talc, "types", name], base) for name in sources]
+    print(
+        f"{shape}, types: {runs[0].seconds:.3f} s, {len(runs[0].run.text) / NODES:.1f} bytes a node, times the half: "
+        f"{ratio(*runs, MOST_TIMES)}, times typing: {ratio(runs[0], typing, MOST_OF_TYPING)}"
+    )
 
 
 def list_compiled(talc, shape, seven, sources):

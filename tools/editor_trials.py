@@ -9,7 +9,7 @@ from pathlib import Path
 TOP = Path(__file__).resolve().parent.parent
 VIM = TOP / "editors" / "vim"
 VSCODE = TOP / "editors" / "vscode"
-DATA = TOP / "crates" / "example_runs" / "data"
+DATA = TOP / "crates" / "rows" / "data"
 LEXERS = {"source": "f_lexer", "tal": "t_lexer"}
 # What Vim is asked: the place and the first line of each fault that it finds.
 ASKED = "for i in getqflist() | echo i.lnum . ' ' . i.col . ' ' . split(i.text, '\\n')[0] | endfor"
@@ -87,7 +87,7 @@ def unlike_extension(run, changes):
 
 
 def unlike(run, changes):
-    """All that is not as it must be, by the commands of crates/example_runs and by CHANGELOG.md."""
+    """All that is not as it must be, by the commands of crates/rows and by CHANGELOG.md."""
     return [*(it for language in LEXERS for it in unlike_words(language)), *unlike_extension(run, changes)]
 
 

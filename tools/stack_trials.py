@@ -7,7 +7,7 @@ from pathlib import Path
 
 TOP = Path(__file__).resolve().parent.parent
 FOLDER = TOP / "examples" / "stack"
-DATA = TOP / "crates" / "example_runs" / "data"
+DATA = TOP / "crates" / "rows" / "data"
 OPERATIONS = {"+": lambda a, b: a + b, "-": lambda a, b: a - b, "*": lambda a, b: a * b}
 # How many random programs are tried, of how many words at least, and how many words each may do.
 PROGRAMS, WORDS, STEPS = 200, 12, 2000
@@ -93,23 +93,23 @@ def programs():
 
 
 def texts():
-    """The texts of examples/stack as crates/example_runs has them, by the name there."""
+    """The texts of examples/stack as crates/rows has them, by the name there."""
     read = ((it, it.read_text(encoding="utf-8")) for it in programs())
     return {f"stack-{path.stem}.tal": STACKC.compiled(text).encode() for path, text in read}
 
 
 def write_texts():
-    """Writes the texts for crates/example_runs anew."""
+    """Writes the texts for crates/rows anew."""
     for name, text in texts().items():
         (DATA / name).write_bytes(text)
 
 
 def unlike(shown):
-    """Programs of which crates/example_runs shows another line than the value that Python gives."""
+    """Programs of which crates/rows shows another line than the value that Python gives."""
     for path in programs():
         line = line_of(evaluated(path.read_text(encoding="utf-8"), 100000))
         if shown.get(f"stack-{path.stem}.tal", []) != ["accepted", line]:
-            yield f"examples/stack/{path.name}: crates/example_runs does not show `accepted` and `{line}`"
+            yield f"examples/stack/{path.name}: crates/rows does not show `accepted` and `{line}`"
 
 
 # Random programs

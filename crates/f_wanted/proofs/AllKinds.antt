@@ -19,87 +19,19 @@ told_at i kind s e = (i, kind, e, λ st. same_takes table (tok kind s) (sample k
 -- numbers are told apart by their sign alone
 plain_fits : (y z : ℤ) (c : Wanted) → fits c (k.Plain y) ≡ fits c (k.Plain z)
 plain_fits y z want.Name = refl
-plain_fits y z want.Number = refl
-plain_fits y z want.LeftParen = refl
-plain_fits y z want.RightParen = refl
-plain_fits y z want.RightAngle = refl
-plain_fits y z want.LeftBracket = refl
-plain_fits y z want.RightBracket = refl
-plain_fits y z want.Comma = refl
-plain_fits y z want.Dot = refl
-plain_fits y z want.Colon = refl
-plain_fits y z want.Equals = refl
-plain_fits y z want.In = refl
-plain_fits y z want.As = refl
-plain_fits y z want.Assign = refl
-plain_fits y z want.Arrow = refl
-plain_fits y z want.Star = refl
-plain_fits y z want.Fix = refl
-plain_fits y z want.Gen = refl
-plain_fits y z want.Let = refl
-plain_fits y z want.Pack = refl
-plain_fits y z want.Open = refl
+plain_fits y z _ = refl
 
 plain_after : (y z : ℤ) (n : Line) → after n (k.Plain y) ≡ after n (k.Plain z)
 plain_after y z m.LE = refl
-plain_after y z m.LP = refl
-plain_after y z m.LParam = refl
-plain_after y z m.LBranches = refl
-plain_after y z m.LFields = refl
-plain_after y z m.LHidden = refl
-plain_after y z m.LNames = refl
-plain_after y z m.MoreParts = refl
-plain_after y z m.MoreFactors = refl
-plain_after y z m.MoreSums = refl
-plain_after y z m.MoreAssign = refl
-plain_after y z m.MoreFields = refl
-plain_after y z m.LT = refl
-plain_after y z m.LU = refl
-plain_after y z m.LTypes = refl
-plain_after y z m.MoreArrow = refl
-plain_after y z m.MoreTypes = refl
+plain_after y z _ = refl
 
 negative_fits : (y z : ℤ) (c : Wanted) → fits c (k.Negative y) ≡ fits c (k.Negative z)
 negative_fits y z want.Name = refl
-negative_fits y z want.Number = refl
-negative_fits y z want.LeftParen = refl
-negative_fits y z want.RightParen = refl
-negative_fits y z want.RightAngle = refl
-negative_fits y z want.LeftBracket = refl
-negative_fits y z want.RightBracket = refl
-negative_fits y z want.Comma = refl
-negative_fits y z want.Dot = refl
-negative_fits y z want.Colon = refl
-negative_fits y z want.Equals = refl
-negative_fits y z want.In = refl
-negative_fits y z want.As = refl
-negative_fits y z want.Assign = refl
-negative_fits y z want.Arrow = refl
-negative_fits y z want.Star = refl
-negative_fits y z want.Fix = refl
-negative_fits y z want.Gen = refl
-negative_fits y z want.Let = refl
-negative_fits y z want.Pack = refl
-negative_fits y z want.Open = refl
+negative_fits y z _ = refl
 
 negative_after : (y z : ℤ) (n : Line) → after n (k.Negative y) ≡ after n (k.Negative z)
 negative_after y z m.LE = refl
-negative_after y z m.LP = refl
-negative_after y z m.LParam = refl
-negative_after y z m.LBranches = refl
-negative_after y z m.LFields = refl
-negative_after y z m.LHidden = refl
-negative_after y z m.LNames = refl
-negative_after y z m.MoreParts = refl
-negative_after y z m.MoreFactors = refl
-negative_after y z m.MoreSums = refl
-negative_after y z m.MoreAssign = refl
-negative_after y z m.MoreFields = refl
-negative_after y z m.LT = refl
-negative_after y z m.LU = refl
-negative_after y z m.LTypes = refl
-negative_after y z m.MoreArrow = refl
-negative_after y z m.MoreTypes = refl
+negative_after y z _ = refl
 
 told : (kind : Kind) (s : Span) → IsTold (tok kind s)
 told k.In s = told_at 0 k.In s refl

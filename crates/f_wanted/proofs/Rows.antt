@@ -12,22 +12,7 @@ use Rattle.f_wanted.specs.Table.{argument_after, binder_after}
 
 line_back : (n : m.Line) → line_of (kept_line n) ≡ n
 line_back m.LE = refl
-line_back m.LP = refl
-line_back m.LParam = refl
-line_back m.LBranches = refl
-line_back m.LFields = refl
-line_back m.LHidden = refl
-line_back m.LNames = refl
-line_back m.MoreParts = refl
-line_back m.MoreFactors = refl
-line_back m.MoreSums = refl
-line_back m.MoreAssign = refl
-line_back m.MoreFields = refl
-line_back m.LT = refl
-line_back m.LU = refl
-line_back m.LTypes = refl
-line_back m.MoreArrow = refl
-line_back m.MoreTypes = refl
+line_back _ = refl
 
 pub kept_is : IsKept table source_owes source_kept
 kept_is = record {

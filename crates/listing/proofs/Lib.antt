@@ -1,3 +1,4 @@
+mod Moved
 mod Staying
 mod Steps
 mod WorkedRows

@@ -10,7 +10,7 @@ use Rattle.t_types.specs.declared.types.TType.{TType}
 use Rattle.t_types.specs.Read.{file, tree}
 use Rattle.t_terms.specs.declared.block.Block.{Block}
 use Rattle.t_terms.specs.declared.instr.Instr.{Instr}
-use Rattle.t_terms.specs.Tree.{TEnd, TSeq, TBlock, TProg}
+use Rattle.t_terms.specs.Tree.{TInstr, TEnd, TSeq, TBlock, TProg}
 use Rattle.t_terms.specs.Spanned.{SBlock, plain, seq_of}
 use Rattle.t_terms.specs.Read.{body, instr, spanned, spanned_blocks}
 use Rattle.t_terms.specs.ReadProgram.{program}
@@ -18,7 +18,7 @@ use Rattle.t_terms.specs.declared.program.TProgram.{TProgram}
 use Rattle.t_terms.proofs.Items.{block_at}
 use Rattle.t_rules.specs.Known.{seq_from}
 use Rattle.listing.specs.Listing.{label_end, line_end, register_text, registers_text, set_by, text_row}
-use Rattle.listing.specs.Listing.{AreBlocks, AreSteps, IsBlock, IsFileRow, IsLastRow, IsSetRow}
+use Rattle.listing.specs.Listing.{AreBlocks, AreSteps, IsBegun, IsBlock, IsFileRow, IsLastRow, IsSetRow}
 use Rattle.listing.specs.Writing.{Adds, HasPlaces}
 
 -- ---- registers
@@ -26,8 +26,8 @@ use Rattle.listing.specs.Writing.{Adds, HasPlaces}
 seam : (a b c d : List ℕ) → ((a ++ b) ++ c) ++ d ≡ a ++ (b ++ (c ++ d))
 seam a b c d = simp append_assoc
 
-seams : (a b c d e f : List ℕ) → ((((a ++ b) ++ c) ++ d) ++ e) ++ f ≡ a ++ (b ++ (c ++ (d ++ (e ++ f))))
-seams a b c d e f = simp append_assoc
+seams : (a b c d e : List ℕ) → (((a ++ b) ++ c) ++ d) ++ e ≡ a ++ (b ++ (c ++ (d ++ e)))
+seams a b c d e = simp append_assoc
 
 pub one_more : (n i : ℕ) (t0 t1 t2 whole : List ℕ) (xs : List (ℕ × TType)) (x : ℕ × TType) → x ≡ get_or xs i x →
     i < length xs → t0 ++ registers_text n i (file (drop i xs)) ≡ whole → t1 ≡ t0 ++ separator i →
@@ -124,48 +124,49 @@ steps_last text P b old new steps i le left =
     subst (λ (ys : Steps). AreSteps text P b i (body ys) []) (sym (drop_of_length-le steps le)) refl in
     subst (Adds (AreSteps text P b 0 (body steps)) old) (append-nil new) (left [] none)
 
--- each place of a block is there, by the name that a walk has for its program
+-- each place of a block up to a number is there, by the name that a walk has for its program
 pub has_places_in : (P P' : TProg) (b : ℕ) (x : Block) (count : ℕ) → P' ≡ P →
-    slice_get P.blocks b ≡ Some (plain (spanned x)) → count ≡ length x.body.items → HasPlaces P' b count
-has_places_in P P' b x count same there is =
-    subst (λ (Q : TProg). HasPlaces Q b count) (sym same)
-    (subst (λ k. HasPlaces P b k) (sym is) (has_places P b x there))
+    slice_get P.blocks b ≡ Some (plain (spanned x)) → count ≤ length x.body.items → HasPlaces P' b count
+has_places_in P P' b x count same there few =
+    subst (λ (Q : TProg). HasPlaces Q b count) (sym same) (λ i le. has_places P b x there i (omega (arith, le, few)))
 
 -- rows of another name for the same program, or text
 pub as_known : (P P' : TProg) (b i : ℕ) (old new : List ℕ) → P' ≡ P → Adds (IsFileRow P' b i) old new →
     Adds (IsFileRow P b i) old new
 as_known P P' b i old new same row = subst (λ (Q : TProg). Adds (IsFileRow Q b i) old new) same row
 
-pub as_steps : (text text' : List ℕ) (P P' : TProg) (b : ℕ) (xs ys : Steps) (old new : List ℕ) → text' ≡ text →
-    P' ≡ P → ys ≡ xs → Adds (AreSteps text' P' b 0 (body ys)) old new → Adds (AreSteps text P b 0 (body xs)) old new
-as_steps text text' P P' b xs ys old new one same steps rows =
-    subst (λ (zs : Steps). Adds (AreSteps text P b 0 (body zs)) old new) steps
-    (subst (λ (Q : TProg). Adds (AreSteps text Q b 0 (body ys)) old new) same
-    (subst (λ (t : List ℕ). Adds (AreSteps t P' b 0 (body ys)) old new) one rows))
+pub as_steps : (text text' : List ℕ) (P P' : TProg) (b : ℕ) (xs : Steps) (old new : List ℕ) → text' ≡ text →
+    P' ≡ P → Adds (AreSteps text' P' b 0 (body xs)) old new → Adds (AreSteps text P b 0 (body xs)) old new
+as_steps text text' P P' b xs old new one same rows =
+    subst (λ (Q : TProg). Adds (AreSteps text Q b 0 (body xs)) old new) same
+    (subst (λ (t : List ℕ). Adds (AreSteps t P' b 0 (body xs)) old new) one rows)
 
-pub as_last : (P P' : TProg) (b : ℕ) (xs ys : Steps) (old new : List ℕ) → P' ≡ P → ys ≡ xs →
-    Adds (IsLastRow P' b (body ys)) old new → Adds (IsLastRow P b (body xs)) old new
-as_last P P' b xs ys old new same steps row =
-    subst (λ (zs : Steps). Adds (IsLastRow P b (body zs)) old new) steps
-    (subst (λ (Q : TProg). Adds (IsLastRow Q b (body ys)) old new) same row)
+pub as_last : (P P' : TProg) (b : ℕ) (xs : Steps) (old new : List ℕ) → P' ≡ P →
+    Adds (IsLastRow P' b (body xs)) old new → Adds (IsLastRow P b (body xs)) old new
+as_last P P' b xs old new same row = subst (λ (Q : TProg). Adds (IsLastRow Q b (body xs)) old new) same row
+
+-- of another name for the same instructions
+pub as_begun : (text : List ℕ) (P : TProg) (b : ℕ) (x : SBlock) (xs ys : Steps) (old new : List ℕ) → xs ≡ ys →
+    Adds (IsBegun text P b x (body xs)) old new → Adds (IsBegun text P b x (body ys)) old new
+as_begun text P b x xs ys old new same rows =
+    subst (λ (zs : Steps). Adds (IsBegun text P b x (body zs)) old new) same rows
 
 pub as_text : (text text' : List ℕ) (place : Span) (behind old new : List ℕ) → text' ≡ text →
     new ≡ old ++ text_row text' place behind → new ≡ old ++ text_row text place behind
 as_text text text' place behind old new one e = e ∙ ap (λ (t : List ℕ). old ++ text_row t place behind) one
 
--- the parts of a block, put behind one another
-pub block_parts : (text : List ℕ) (P : TProg) (b : ℕ) (x : SBlock) (t0 t1 t2 t3 t4 t5 : List ℕ) →
-    t1 ≡ t0 ++ text_row text x.name label_end → Adds (IsFileRow P b 0) t1 t2 → Adds (AreSteps text P b 0 x.body) t2 t3 →
-    Adds (IsLastRow P b x.body) t3 t4 → t5 ≡ t4 ++ text_row text x.last_span line_end → Adds (IsBlock text P b x) t0 t5
-block_parts text P b x t0 t1 t2 t3 t4 t5 name first steps last end =
+-- the parts of a block up to a place, put behind one another
+pub begun_parts : (text : List ℕ) (P : TProg) (b : ℕ) (x : SBlock) (before : List (TInstr × Span))
+    (t0 t1 t2 t3 t4 : List ℕ) → t1 ≡ t0 ++ text_row text x.name label_end → Adds (IsFileRow P b 0) t1 t2 →
+    Adds (AreSteps text P b 0 before) t2 t3 → Adds (IsLastRow P b before) t3 t4 →
+    Adds (IsBegun text P b x before) t0 t4
+begun_parts text P b x before t0 t1 t2 t3 t4 name first steps last =
     let label = text_row text x.name label_end in
-    let ending = text_row text x.last_span line_end in
-    let same : t5 ≡ t0 ++ (label ++ (first.0 ++ (steps.0 ++ (last.0 ++ ending)))) =
-    end ∙ ap (λ (t : List ℕ). t ++ ending)
-    (last.2 ∙ ap (λ (t : List ℕ). t ++ last.0)
-    (steps.2 ∙ ap (λ (t : List ℕ). t ++ steps.0) (first.2 ∙ ap (λ (t : List ℕ). t ++ first.0) name)))
-    ∙ seams t0 label first.0 steps.0 last.0 ending in (
-      label ++ (first.0 ++ (steps.0 ++ (last.0 ++ ending))),
+    let same : t4 ≡ t0 ++ (label ++ (first.0 ++ (steps.0 ++ last.0))) =
+    last.2 ∙ ap (λ (t : List ℕ). t ++ last.0)
+    (steps.2 ∙ ap (λ (t : List ℕ). t ++ steps.0) (first.2 ∙ ap (λ (t : List ℕ). t ++ first.0) name))
+    ∙ seams t0 label first.0 steps.0 last.0 in (
+      label ++ (first.0 ++ (steps.0 ++ last.0)),
       record {
         first = first.0;
         steps = steps.0;
@@ -176,6 +177,17 @@ block_parts text P b x t0 t1 t2 t3 t4 t5 name first steps last end =
         is = refl;
       },
       same,
+    )
+
+-- a block, and its end behind the rest of it
+pub block_parts : (text : List ℕ) (P : TProg) (b : ℕ) (x : SBlock) (t0 t1 t2 : List ℕ) →
+    Adds (IsBegun text P b x x.body) t0 t1 → t2 ≡ t1 ++ text_row text x.last_span line_end →
+    Adds (IsBlock text P b x) t0 t2
+block_parts text P b x t0 t1 t2 begun end =
+    let ending = text_row text x.last_span line_end in (
+      begun.0 ++ ending,
+      record { before = begun.0; begun = begun.1; is = refl },
+      end ∙ ap (λ (t : List ℕ). t ++ ending) begun.2 ∙ append_assoc t0 begun.0 ending,
     )
 
 -- ---- blocks

@@ -110,22 +110,28 @@ AreSteps text P b i (x ∷ xs) rows =
     (row rest : List ℕ) × IsSetRow P b (suc i) (set_by x.0) row × AreSteps text P b (suc i) xs rest
     × (rows ≡ text_row text x.1 line_end ++ (row ++ rest))
 
--- what is known of all registers before the end of a block, where instructions stand before it
+-- what is known of all registers behind these instructions of a block, where there are any
 abbrev pub IsLastRow : TProg → ℕ → List (TInstr × Span) → List ℕ → Type 0
 IsLastRow P b [] row = row ≡ []
 IsLastRow P b (x ∷ xs) row = IsFileRow P b (suc (length xs)) row
 
--- The rows of block b: its label; what is known of all registers at its start; its instructions; what is known of all
--- registers before its end; its end.
-pub record IsBlock (text : List ℕ) (P : TProg) (b : ℕ) (x : SBlock) (rows : List ℕ) : Type 0 where
+-- The rows of block b up to a place in it, before which it has these instructions: its label; what is known of all
+-- registers at its start; the instructions; what is known of all registers behind them.
+pub record IsBegun (text : List ℕ) (P : TProg) (b : ℕ) (x : SBlock) (before : List (TInstr × Span)) (rows : List ℕ) :
+    Type 0 where
   pub first : List ℕ
   pub steps : List ℕ
   pub last : List ℕ
   pub starts : IsFileRow P b 0 first
-  pub goes_on : AreSteps text P b 0 x.body steps
-  pub ends : IsLastRow P b x.body last
-  pub is : rows ≡ text_row text x.name label_end
-      ++ (first ++ (steps ++ (last ++ text_row text x.last_span line_end)))
+  pub goes_on : AreSteps text P b 0 before steps
+  pub ends : IsLastRow P b before last
+  pub is : rows ≡ text_row text x.name label_end ++ (first ++ (steps ++ last))
+
+-- the rows of block b: those up to its end, and its end
+pub record IsBlock (text : List ℕ) (P : TProg) (b : ℕ) (x : SBlock) (rows : List ℕ) : Type 0 where
+  pub before : List ℕ
+  pub begun : IsBegun text P b x x.body before
+  pub is : rows ≡ before ++ text_row text x.last_span line_end
 
 -- rows of blocks, of which the first is block b
 abbrev pub AreBlocks : List ℕ → TProg → ℕ → List SBlock → List ℕ → Type 0

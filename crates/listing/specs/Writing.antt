@@ -1,8 +1,12 @@
 -- What the steps of making a listing do.
-use Rattle.std.specs.Prelude.{◌≡◌, ◌≤◌, ℕ, List, ◌++◌, Some, length, take}
+use Rattle.std.specs.Prelude.{◌≡◌, ◌≤◌, ℕ, List, ◌++◌, Some, length, take, Bool, true, false}
+use Rattle.idx_core.specs.declared.span.Span.{Span}
 use Rattle.fault_page.specs.Spot.{lines}
 use Rattle.t_terms.specs.Tree.{TProg, TSeq}
+use Rattle.t_terms.specs.Spanned.{SBlock}
 use Rattle.t_rules.specs.Known.{code_at}
+use Rattle.t_cut.specs.Before.{in_block, steps_to}
+use Rattle.listing.specs.Listing.{IsBegun, IsBlock}
 use Rattle.t_check.specs.Walks.{IsWalk, walked}
 use Rattle.listing.specs.declared.place.Place.{Place}
 use Rattle.listing.specs.declared.lister.Lister.{Lister}
@@ -34,3 +38,9 @@ Adds AreRows old new = (rows : List ℕ) × AreRows rows × (new ≡ old ++ rows
 -- each place of a block is there, of so many instructions
 abbrev pub HasPlaces : TProg → (block count : ℕ) → Type 0
 HasPlaces P block count = (i : ℕ) → i ≤ count → (c : TSeq) × (code_at P block i ≡ Some c)
+
+-- the rows of a block that has the place, up to it, or of one that has not
+abbrev pub IsBlockTo : List ℕ → TProg → Span → ℕ → SBlock → Bool → List ℕ → Type 0
+IsBlockTo text P place b x true rows =
+    (in_block place x ≡ true) × IsBegun text P b x (steps_to place x.body) rows
+IsBlockTo text P place b x false rows = (in_block place x ≡ false) × IsBlock text P b x rows

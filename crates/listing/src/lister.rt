@@ -1,12 +1,13 @@
 // The making of a listing.
-ghost use Rattle.std.specs.Prelude.{◌≡◌, ◌++◌, Some, slice_get, length, IfOk, OnOk};
+ghost use Rattle.std.specs.Prelude.{◌≡◌, ◌≤◌, ◌++◌, Some, slice_get, length, IfOk, OnOk};
 ghost use Rattle.t_terms.specs.Tree.{TSeq};
 ghost use Rattle.t_terms.specs.Spanned.{plain};
 ghost use Rattle.t_terms.specs.Read.{body, instr, spanned};
 ghost use Rattle.t_terms.specs.ReadProgram.{program as plain_of, spanned_program};
 ghost use Rattle.t_rules.specs.Known.{code_at};
 ghost use Rattle.t_check.specs.Checked.{checked_program};
-ghost use Rattle.listing.specs.Listing.{AreSteps, IsBlock, IsFileRow, IsLastRow, IsListing, IsSetRow, set_by, text_row};
+ghost use Rattle.listing.specs.Listing.{AreSteps, IsBegun, IsBlock, IsFileRow, IsLastRow, IsListing, IsSetRow};
+ghost use Rattle.listing.specs.Listing.{set_by, text_row};
 ghost use Rattle.listing.specs.Writing.{Adds, HasPlaces, IsLister, OfTheSame, program_of, text_of};
 
 use crate::place::Place;
@@ -42,7 +43,11 @@ fn set_by(i: &Instr) -> Option<u64>
 
 impl<'a> Lister<'a> {
     // The start of a text and of its program.
-    fn first(alloc: Global, text: &'a [u8], program: &'a Checked) -> Result<Lister<'a>, OutOfMemory>
+    pub(crate) fn first(
+        alloc: Global,
+        text: &'a [u8],
+        program: &'a Checked,
+    ) -> Result<Lister<'a>, OutOfMemory>
         ensures lister { IfOk result IsLister }
         ensures text { IfOk result (λ l. text_of l ≡ text.now) }
         ensures program { IfOk result (λ l. program_of l ≡ plain_of (checked_program program.entry.now)) }
@@ -150,8 +155,31 @@ impl<'a> Lister<'a> {
         Ok(())
     }
 
+    // The rows of a block up to a place in it, before which it has these instructions.
+    pub(crate) fn write_begun(
+        &mut self,
+        page: &mut Vec<u8>,
+        number: u64,
+        block: &Block,
+        before: &[(Instr, Span)],
+    ) -> Result<(), OutOfMemory>
+        requires lister { IsLister self.old }
+        requires there { slice_get (program_of self.old).blocks number ≡ Some (plain (spanned block.now)) }
+        requires few { length before.now ≤ length block.now.body.items }
+        ensures lister { IsLister self.new }
+        ensures same { OfTheSame self.old self.new }
+        ensures rows { OnOk result (Adds (IsBegun (text_of self.old) (program_of self.old) number (spanned block.now)
+            (body before.now)) page.old.items page.new.items) }
+    {
+        self.write_text(page, block.name, b":\n")?;
+        self.write_known(page, number, 0)?;
+        self.write_steps(page, number, before)?;
+        self.write_last(page, number, before)?;
+        Ok(())
+    }
+
     // The rows of a block.
-    fn write_block(
+    pub(crate) fn write_block(
         &mut self,
         page: &mut Vec<u8>,
         number: u64,
@@ -164,10 +192,8 @@ impl<'a> Lister<'a> {
         ensures rows { OnOk result (Adds (IsBlock (text_of self.old) (program_of self.old) number (spanned block.now))
             page.old.items page.new.items) }
     {
-        self.write_text(page, block.name, b":\n")?;
-        self.write_known(page, number, 0)?;
-        self.write_steps(page, number, &block.body)?;
-        self.write_last(page, number, &block.body)?;
+        let steps = block.body.as_slice();
+        self.write_begun(page, number, block, steps)?;
         self.write_text(page, block.end_span, b"\n")?;
         Ok(())
     }

@@ -1,2 +1,4 @@
 mod ValueLemmas
+mod BelowLemmas
+mod PathLemmas
 mod Rows

@@ -1,11 +1,12 @@
 -- Worked lines, proved by computing.
 use Rattle.std.proofs.Common.{◌≡◌, [], refl, codes, None, Some, false}
 use Rattle.std.specs.Fmt.{digits}
-use Rattle.f_terms.specs.Ty.{TInt, TVar, TAll, TTuple, NoTys, MoreTys}
+use Rattle.f_terms.specs.Ty.{TInt, TVar, TArrow, TAll, TTuple, NoTys, MoreTys}
 use Rattle.f_check.specs.Mismatch.{WType, WFunction, WField, WOutside}
 use Rattle.t_types.specs.Tree.{IntTy, CodeTy, TupleTy, NoRegs, MoreRegs, NoFields, MoreFields}
 use Rattle.t_mismatch.specs.Mismatch.{Types, NoPackage, Register}
 use Rattle.mismatch_text.specs.Line.{source_line, not_int_line, assembly_line}
+use Rattle.mismatch_text.specs.Apart.{source_lines}
 
 none : source_line None ≡ []
 none = refl
@@ -39,6 +40,19 @@ escape = refl
 program : not_int_line (TAll TInt) ≡ codes "wanted int, found all t0. int"
 unfolding digits
 program = refl
+
+-- of an argument `all a. a -> int`, where `all a. a -> a` was wanted, inside one type name
+apart : source_lines
+    (Some (record { wanted = WType (TAll (TArrow (TVar 0) (TVar 0))); found = TAll (TArrow (TVar 0) TInt); names = 1 }))
+    ≡ codes "wanted all t1. t1 -> t1, found all t1. t1 -> int\nat the body, then the result: wanted t1, found int"
+unfolding digits
+apart = refl
+
+-- where they differ at the top there is no second line
+alone : source_lines (Some (record { wanted = WType TInt; found = TTuple NoTys; names = 0 }))
+    ≡ codes "wanted int, found <>"
+unfolding digits
+alone = refl
 
 no_types : assembly_line None ≡ []
 no_types = refl

@@ -1,3 +1,5 @@
 pub mod Line
 pub mod Form
 pub mod Value
+pub mod Apart
+pub mod Laws

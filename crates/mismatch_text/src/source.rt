@@ -21,7 +21,8 @@ fn write_type(alloc: Global, line: &mut Vec<u8>, ty: &FType, names: u64) -> Resu
     Ok(())
 }
 
-fn write_words(line: &mut Vec<u8>, words: &[u8]) -> Result<(), OutOfMemory>
+// Some words at the end of a line.
+pub(crate) fn write_words(line: &mut Vec<u8>, words: &[u8]) -> Result<(), OutOfMemory>
     ensures { OnOk result (line.new.items ≡ line.old.items ++ words.now) }
 {
     line.extend_from_slice(words)?;

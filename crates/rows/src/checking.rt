@@ -1,13 +1,14 @@
 // The commands of a row, each with what is wanted of it.
-use crate::case::Case;
 use crate::content::is_as_said;
-use crate::files::{are_left, files_before};
-use crate::row::Fails;
-use crate::text::{Text, bytes_of};
+use crate::files::{are_left, failing, files_before};
+use crate::keys::STEP;
+use crate::row::{Row, status_of, table_of};
+use crate::text::bytes_of;
 use crate::unlike::{Unlike, is_number, is_same, part_unlike};
 use io_core::{MemFiles, MemSink};
 use std::alloc::{AllocError, Global};
 use talc_core::talc;
+use toml::{Table, Value};
 
 // The words of a command line.
 fn words_of(alloc: Global, line: &str) -> Result<Vec<String>, AllocError> {
@@ -24,8 +25,8 @@ fn words_of(alloc: Global, line: &str) -> Result<Vec<String>, AllocError> {
 struct Command<'a> {
     words: &'a str,
     status: u8,
-    out: Option<&'a Text>,
-    err: Option<&'a Text>,
+    out: Option<&'a Value>,
+    err: Option<&'a Value>,
     any_err: bool,
 }
 
@@ -36,30 +37,10 @@ struct Outputs {
     err: MemSink,
 }
 
-// A sink whose puts fail that the list names.
-fn sink(alloc: Global, failing: &[(u64, u64)]) -> Result<MemSink, AllocError> {
-    Ok(MemSink::new(alloc, Vec::from_slice(alloc, failing)?))
-}
-
-fn outputs_of(alloc: Global, fails: Option<&Fails>) -> Result<Outputs, AllocError> {
-    match fails {
-        Some(fails) => {
-            let out = sink(alloc, &fails.out)?;
-            let err = sink(alloc, &fails.err)?;
-            Ok(Outputs { out, err })
-        }
-        None => {
-            let out = sink(alloc, &[])?;
-            let err = sink(alloc, &[])?;
-            Ok(Outputs { out, err })
-        }
-    }
-}
-
 // What is wanted on the error output.
 fn is_told(alloc: Global, command: &Command, came: &[u8]) -> Result<(), Unlike> {
+    let wanted = bytes_of(alloc, command.err)?;
     if !command.any_err {
-        let wanted = bytes_of(alloc, command.err)?;
         return is_same(alloc, "error output", &wanted, came);
     }
     if came.is_empty() {
@@ -68,51 +49,92 @@ fn is_told(alloc: Global, command: &Command, came: &[u8]) -> Result<(), Unlike> 
     Ok(())
 }
 
+// What came of a command is what is wanted of it.
+fn is_answer(
+    alloc: Global,
+    command: &Command,
+    outputs: &Outputs,
+    status: u8,
+) -> Result<(), Unlike> {
+    let wanted = bytes_of(alloc, command.out)?;
+    is_told(alloc, command, outputs.err.taken())?;
+    is_same(alloc, "output", &wanted, outputs.out.taken())?;
+    is_number(
+        alloc,
+        "status",
+        u64::from(command.status),
+        u64::from(status),
+    )
+}
+
 // Does the command over the files and these outputs.
 fn does(
     alloc: Global,
     files: &mut MemFiles,
-    outputs: &mut Outputs,
+    mut outputs: Outputs,
     command: &Command,
 ) -> Result<(), Unlike> {
     let words = words_of(alloc, command.words)?;
     let status = talc(alloc, &words, files, &mut outputs.out, &mut outputs.err);
-    let wanted = bytes_of(alloc, command.out)?;
-    is_told(alloc, command, outputs.err.taken())?;
-    is_same(alloc, "output", &wanted, outputs.out.taken())?;
-    let came = u64::from(status.number());
-    is_number(alloc, "status", u64::from(command.status), came)
+    is_answer(alloc, command, &outputs, status.number())
+}
+
+// A command that is done before that of the row.
+fn step_of(step: &Table) -> Result<Command<'_>, Unlike> {
+    let words = match step.get("words") {
+        Some(words) => words.as_str(),
+        None => None,
+    };
+    match words {
+        Some(words) => Ok(Command {
+            words,
+            status: status_of(step.get("status"))?,
+            out: step.get("out"),
+            err: step.get("err"),
+            any_err: false,
+        }),
+        None => Err(Unlike::Form),
+    }
+}
+
+fn does_step(alloc: Global, files: &mut MemFiles, step: &Value) -> Result<(), Unlike> {
+    let command = step_of(table_of(step, STEP)?)?;
+    let out = MemSink::new(alloc, Vec::new(alloc));
+    let err = MemSink::new(alloc, Vec::new(alloc));
+    does(alloc, files, Outputs { out, err }, &command)
 }
 
 // Does the commands before that of the row.
-fn does_first(alloc: Global, files: &mut MemFiles, case: &Case) -> Result<(), Unlike> {
-    for step in case.first {
-        let command = Command {
-            words: step.words.as_str(),
-            status: step.status.unwrap_or(0),
-            out: step.out.as_ref(),
-            err: step.err.as_ref(),
-            any_err: false,
-        };
-        let mut outputs = outputs_of(alloc, None)?;
-        does(alloc, files, &mut outputs, &command)?;
+fn does_first(alloc: Global, files: &mut MemFiles, row: &Row) -> Result<(), Unlike> {
+    for step in row.items("first")? {
+        does_step(alloc, files, step)?;
     }
     Ok(())
 }
 
+fn command_of<'a>(row: &Row<'a>) -> Result<Command<'a>, Unlike> {
+    Ok(Command {
+        words: row.string("words", "")?,
+        status: status_of(row.said("status"))?,
+        out: row.said("out"),
+        err: row.said("err"),
+        any_err: row.any_err()?,
+    })
+}
+
+// Does the command of the row.
+fn does_own(alloc: Global, files: &mut MemFiles, row: &Row) -> Result<(), Unlike> {
+    let command = command_of(row)?;
+    let out = MemSink::new(alloc, failing(alloc, row, "out")?);
+    let err = MemSink::new(alloc, failing(alloc, row, "err")?);
+    does(alloc, files, Outputs { out, err }, &command)
+}
+
 /// The row holds.
-pub fn check(alloc: Global, case: &Case) -> Result<(), Unlike> {
-    let mut files = files_before(alloc, case)?;
-    does_first(alloc, &mut files, case)?;
-    let command = Command {
-        words: case.words,
-        status: case.status,
-        out: case.out,
-        err: case.err,
-        any_err: case.any_err,
-    };
-    let mut outputs = outputs_of(alloc, case.fails)?;
-    does(alloc, &mut files, &mut outputs, &command)?;
-    are_left(alloc, &files, case)?;
-    is_as_said(alloc, &files, case)
+pub fn check(alloc: Global, row: &Row) -> Result<(), Unlike> {
+    let mut files = files_before(alloc, row)?;
+    does_first(alloc, &mut files, row)?;
+    does_own(alloc, &mut files, row)?;
+    are_left(alloc, &files, row)?;
+    is_as_said(alloc, &files, row)
 }

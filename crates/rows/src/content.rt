@@ -1,11 +1,14 @@
 // What is said of a file without its whole content.
-use crate::case::Case;
 use crate::files::held;
-use crate::row::{Part, Place};
+use crate::keys::PART;
+use crate::row::{Row, table_of};
+use crate::text::text_of;
 use crate::unlike::{Unlike, is_number, is_same, part_unlike};
+use crate::value::{count, names, registers};
 use io_core::MemFiles;
 use std::alloc::{AllocError, Global};
 use std::mem;
+use toml::{Table, Value};
 
 fn is_of_word(byte: u8) -> bool {
     byte.is_ascii_alphanumeric() || byte == b'_'
@@ -55,26 +58,27 @@ fn greatest_register(words: &[Vec<u8>]) -> u64 {
     greatest
 }
 
-fn are_counted(alloc: Global, files: &MemFiles, case: &Case) -> Result<(), Unlike> {
-    for (file, word, wanted) in case.counts {
-        let content = held(alloc, files, file)?;
-        let words = words_in(alloc, content)?;
-        is_number(alloc, word, *wanted, count_of(&words, word.as_bytes()))?;
-    }
-    Ok(())
+fn is_counted(alloc: Global, files: &MemFiles, said: &Value) -> Result<(), Unlike> {
+    let Some((file, word, wanted)) = count(said) else {
+        return Err(Unlike::Form);
+    };
+    let content = held(alloc, files, file)?;
+    let words = words_in(alloc, content)?;
+    is_number(alloc, word, wanted, count_of(&words, word.as_bytes()))
 }
 
-fn have_registers(alloc: Global, files: &MemFiles, case: &Case) -> Result<(), Unlike> {
-    for (file, least, most) in case.registers {
-        let content = held(alloc, files, file)?;
-        let words = words_in(alloc, content)?;
-        let register = greatest_register(&words);
-        if register < *least {
-            is_number(alloc, "greatest register, at least", *least, register)?;
-        }
-        if *most < register {
-            is_number(alloc, "greatest register, at most", *most, register)?;
-        }
+fn has_registers(alloc: Global, files: &MemFiles, said: &Value) -> Result<(), Unlike> {
+    let Some((file, least, most)) = registers(said) else {
+        return Err(Unlike::Form);
+    };
+    let content = held(alloc, files, file)?;
+    let words = words_in(alloc, content)?;
+    let register = greatest_register(&words);
+    if register < least {
+        is_number(alloc, "greatest register, at least", least, register)?;
+    }
+    if most < register {
+        is_number(alloc, "greatest register, at most", most, register)?;
     }
     Ok(())
 }
@@ -88,43 +92,77 @@ fn has_inside(text: &[u8], part: &[u8]) -> bool {
     false
 }
 
-fn has(text: &[u8], part: &[u8], place: Place) -> bool {
+// Whether a part stands at the place of this name, if it is one.
+fn has(text: &[u8], part: &[u8], place: &str) -> Option<bool> {
     match place {
-        Place::Begin => text.starts_with(part),
-        Place::End => text.ends_with(part),
-        Place::Inside => has_inside(text, part),
+        "begin" => Some(text.starts_with(part)),
+        "end" => Some(text.ends_with(part)),
+        "inside" => Some(has_inside(text, part)),
+        _ => None,
     }
 }
 
-fn has_part(alloc: Global, files: &MemFiles, part: &Part) -> Result<(), Unlike> {
-    let content = held(alloc, files, &part.file)?;
-    let wanted = part.text.bytes(alloc)?;
-    if has(content, &wanted, part.at) {
-        return Ok(());
-    }
-    Err(part_unlike(alloc, &part.file, &wanted, content)?)
+// A file, a place and a text.
+fn part_of(part: &Table) -> Option<(&str, &str, &Value)> {
+    let file = part.get("file")?.as_str()?;
+    let place = part.get("at")?.as_str()?;
+    Some((file, place, part.get("text")?))
 }
 
-fn have_parts(alloc: Global, files: &MemFiles, case: &Case) -> Result<(), Unlike> {
-    for part in case.parts {
-        has_part(alloc, files, part)?;
+fn has_part(alloc: Global, files: &MemFiles, part: &Table) -> Result<(), Unlike> {
+    let Some((file, place, text)) = part_of(part) else {
+        return Err(Unlike::Form);
+    };
+    let content = held(alloc, files, file)?;
+    let wanted = text_of(alloc, text)?;
+    match has(content, &wanted, place) {
+        Some(true) => Ok(()),
+        Some(false) => Err(part_unlike(alloc, file, &wanted, content)?),
+        None => Err(Unlike::Form),
+    }
+}
+
+fn is_same_file(alloc: Global, files: &MemFiles, said: &Value) -> Result<(), Unlike> {
+    let Some((name, other)) = names(said) else {
+        return Err(Unlike::Form);
+    };
+    let wanted = held(alloc, files, name)?;
+    let came = held(alloc, files, other)?;
+    is_same(alloc, other, wanted, came)
+}
+
+fn are_counted(alloc: Global, files: &MemFiles, row: &Row) -> Result<(), Unlike> {
+    for said in row.items("counts")? {
+        is_counted(alloc, files, said)?;
     }
     Ok(())
 }
 
-fn are_same(alloc: Global, files: &MemFiles, case: &Case) -> Result<(), Unlike> {
-    for (name, other) in case.same {
-        let wanted = held(alloc, files, name)?;
-        let came = held(alloc, files, other)?;
-        is_same(alloc, other, wanted, came)?;
+fn have_registers(alloc: Global, files: &MemFiles, row: &Row) -> Result<(), Unlike> {
+    for said in row.items("registers")? {
+        has_registers(alloc, files, said)?;
+    }
+    Ok(())
+}
+
+fn have_parts(alloc: Global, files: &MemFiles, row: &Row) -> Result<(), Unlike> {
+    for part in row.items("parts")? {
+        has_part(alloc, files, table_of(part, PART)?)?;
+    }
+    Ok(())
+}
+
+fn are_same(alloc: Global, files: &MemFiles, row: &Row) -> Result<(), Unlike> {
+    for said in row.items("same")? {
+        is_same_file(alloc, files, said)?;
     }
     Ok(())
 }
 
 /// What the row says of words, registers and parts of files, and of files that hold the same.
-pub fn is_as_said(alloc: Global, files: &MemFiles, case: &Case) -> Result<(), Unlike> {
-    are_counted(alloc, files, case)?;
-    have_registers(alloc, files, case)?;
-    have_parts(alloc, files, case)?;
-    are_same(alloc, files, case)
+pub fn is_as_said(alloc: Global, files: &MemFiles, row: &Row) -> Result<(), Unlike> {
+    are_counted(alloc, files, row)?;
+    have_registers(alloc, files, row)?;
+    have_parts(alloc, files, row)?;
+    are_same(alloc, files, row)
 }

@@ -1,23 +1,60 @@
 // The files of a row, before its commands and after them.
-use crate::case::Case;
-use crate::text::Text;
+use crate::row::Row;
+use crate::text::text_of;
 use crate::unlike::{Unlike, is_number, is_same, part_unlike};
+use crate::value::{list, numbers};
 use io_core::MemFiles;
-use std::alloc::{AllocError, Global};
+use std::alloc::Global;
 use std::collections::BTreeMap;
+use toml::{Table, Value};
 
-/// The file with the text of the row, if it has one.
-pub fn files_before(alloc: Global, case: &Case) -> Result<MemFiles, AllocError> {
-    let failing = match case.fails {
-        Some(fails) => Vec::from_slice(alloc, &fails.files)?,
-        None => Vec::new(alloc),
+// Adds the calls that a list of pairs of numbers names.
+fn add_calls(failing: &mut Vec<(u64, u64)>, calls: &[Value]) -> Result<(), Unlike> {
+    for call in calls {
+        match numbers(call) {
+            Some(call) => failing.push(call)?,
+            None => return Err(Unlike::Form),
+        }
+    }
+    Ok(())
+}
+
+// The list of calls that fail, of the files or of an output.
+fn calls_of<'a>(row: &Row<'a>, what: &str) -> Result<&'a [Value], Unlike> {
+    let Some(fails) = row.fails()? else {
+        return Ok(&[]);
     };
-    let mut files = BTreeMap::new(alloc);
-    if let Some(text) = case.text {
-        let name = String::from_str(alloc, case.file)?;
-        let content = text.bytes(alloc)?;
+    match fails.get(what) {
+        Some(calls) => list(calls).ok_or(Unlike::Form),
+        None => Ok(&[]),
+    }
+}
+
+/// The calls that fail, each by its number, with how many bytes it moves all the same: under `files` calls of the
+/// files, those of the steps counted, under `out` and `err` puts of the row's own command.
+pub fn failing(alloc: Global, row: &Row, what: &str) -> Result<Vec<(u64, u64)>, Unlike> {
+    let calls = calls_of(row, what)?;
+    let mut failing = Vec::new(alloc);
+    add_calls(&mut failing, calls)?;
+    Ok(failing)
+}
+
+// Adds the file with the text of the row, if it has one.
+fn add_text(alloc: Global, files: &mut BTreeMap<String, Vec<u8>>, row: &Row) -> Result<(), Unlike> {
+    let name = row.string("file", "x")?;
+    if let Some(text) = row.said("text") {
+        let content = text_of(alloc, text)?;
+        let name = String::from_str(alloc, name)?;
         files.insert(name, content)?;
     }
+    Ok(())
+}
+
+/// The file with the text of the row, if it has one.
+pub fn files_before(alloc: Global, row: &Row) -> Result<MemFiles, Unlike> {
+    let failing = failing(alloc, row, "files")?;
+    let mut files = BTreeMap::new(alloc);
+    add_text(alloc, &mut files, row)?;
     Ok(MemFiles::new(files, failing))
 }
 
@@ -30,14 +67,14 @@ pub fn held<'a>(alloc: Global, files: &'a MemFiles, name: &str) -> Result<&'a [u
 }
 
 // The file holds this text.
-fn is_text(alloc: Global, name: &str, text: &Text, content: &[u8]) -> Result<(), Unlike> {
-    let wanted = text.bytes(alloc)?;
+fn is_text(alloc: Global, name: &str, text: &Value, content: &[u8]) -> Result<(), Unlike> {
+    let wanted = text_of(alloc, text)?;
     is_same(alloc, name, &wanted, content)
 }
 
-fn is_one_of(names: &[String], name: &str) -> bool {
+fn is_one_of(names: &[Value], name: &str) -> bool {
     for one in names {
-        if one.as_str() == name {
+        if one.as_str() == Some(name) {
             return true;
         }
     }
@@ -45,46 +82,47 @@ fn is_one_of(names: &[String], name: &str) -> bool {
 }
 
 // The text that is said to be left of this file.
-fn text_of<'a>(left: Option<&'a BTreeMap<String, Text>>, name: &str) -> Option<&'a Text> {
-    match left {
-        Some(left) => left.get(name),
-        None => None,
+fn left_of<'a>(row: &Row<'a>, name: &str) -> Result<Option<&'a Value>, Unlike> {
+    match row.left()? {
+        Some(left) => Ok(left.get(name)),
+        None => Ok(None),
     }
 }
 
 // A file that stands is one of those that the row says. The file of its text is as before where it says nothing else.
-fn is_wanted(alloc: Global, case: &Case, name: &str, content: &[u8]) -> Result<(), Unlike> {
-    if let Some(text) = text_of(case.left, name) {
+fn is_wanted(alloc: Global, row: &Row, name: &str, content: &[u8]) -> Result<(), Unlike> {
+    if let Some(text) = left_of(row, name)? {
         return is_text(alloc, name, text, content);
     }
-    if is_one_of(case.any, name) {
+    if is_one_of(row.items("any")?, name) {
         return Ok(());
     }
-    match case.text {
-        Some(text) if name == case.file => is_text(alloc, name, text, content),
-        _ => Err(part_unlike(alloc, name, b"no file", content)?),
+    if name == row.string("file", "x")? {
+        if let Some(text) = row.said("text") {
+            return is_text(alloc, name, text, content);
+        }
     }
+    Err(part_unlike(alloc, name, b"no file", content)?)
 }
 
-fn are_wanted(alloc: Global, files: &MemFiles, case: &Case) -> Result<(), Unlike> {
+fn are_wanted(alloc: Global, files: &MemFiles, row: &Row) -> Result<(), Unlike> {
     for (name, content) in files.files().iter() {
-        is_wanted(alloc, case, name, content)?;
+        is_wanted(alloc, row, name, content)?;
     }
     Ok(())
 }
 
-fn any_stand(alloc: Global, files: &MemFiles, case: &Case) -> Result<(), Unlike> {
-    for name in case.any {
-        held(alloc, files, name)?;
+fn any_stand(alloc: Global, files: &MemFiles, row: &Row) -> Result<(), Unlike> {
+    for name in row.items("any")? {
+        match name.as_str() {
+            Some(name) => held(alloc, files, name)?,
+            None => return Err(Unlike::Form),
+        };
     }
     Ok(())
 }
 
-fn left_stand(
-    alloc: Global,
-    files: &MemFiles,
-    left: &BTreeMap<String, Text>,
-) -> Result<(), Unlike> {
+fn left_stand(alloc: Global, files: &MemFiles, left: &Table) -> Result<(), Unlike> {
     for (name, _) in left.iter() {
         held(alloc, files, name)?;
     }
@@ -92,22 +130,23 @@ fn left_stand(
 }
 
 // All files that the row says stand.
-fn stand(alloc: Global, files: &MemFiles, case: &Case) -> Result<(), Unlike> {
-    if case.text.is_some() {
-        held(alloc, files, case.file)?;
+fn stand(alloc: Global, files: &MemFiles, row: &Row) -> Result<(), Unlike> {
+    if row.said("text").is_some() {
+        held(alloc, files, row.string("file", "x")?)?;
     }
-    if let Some(left) = case.left {
+    if let Some(left) = row.left()? {
         left_stand(alloc, files, left)?;
     }
-    any_stand(alloc, files, case)
+    any_stand(alloc, files, row)
 }
 
 /// After the commands the files stand that the row says, with what they hold, and no other one; and as many calls have
 /// failed.
-pub fn are_left(alloc: Global, files: &MemFiles, case: &Case) -> Result<(), Unlike> {
-    are_wanted(alloc, files, case)?;
-    stand(alloc, files, case)?;
+pub fn are_left(alloc: Global, files: &MemFiles, row: &Row) -> Result<(), Unlike> {
+    are_wanted(alloc, files, row)?;
+    stand(alloc, files, row)?;
+    let (wanted_reads, wanted_writes) = row.faults()?;
     let (reads, writes) = files.faults();
-    is_number(alloc, "reads that failed", case.faults.0, reads)?;
-    is_number(alloc, "writes that failed", case.faults.1, writes)
+    is_number(alloc, "reads that failed", wanted_reads, reads)?;
+    is_number(alloc, "writes that failed", wanted_writes, writes)
 }

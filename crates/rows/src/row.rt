@@ -1,109 +1,95 @@
-// What a row file holds.
-use crate::text::Text;
-use serde::Deserialize;
-use std::collections::BTreeMap;
+// A row with what its group says for it.
+use crate::keys::{FAILS, unknown_key};
+use crate::unlike::Unlike;
+use crate::value::{byte, list, numbers};
+use toml::{Table, Value};
 
-/// A row file.
-#[derive(Drop, Deserialize)]
-#[serde(deny_unknown_fields)]
-pub struct RowFile {
-    #[serde(rename = "group")]
-    pub groups: Vec<Group>,
+/// A row: its own keys, and those of its group for what it does not say itself.
+#[derive(Clone, Copy)]
+pub struct Row<'a> {
+    pub group: &'a Table,
+    pub own: &'a Table,
 }
 
-/// Rows of one topic, and what holds for each of them that does not say it.
-#[derive(Drop, Deserialize)]
-#[serde(deny_unknown_fields)]
-pub struct Group {
-    pub name: String,
-    pub rows: Vec<Row>,
-    pub first: Option<Vec<Step>>,
-    pub words: Option<String>,
-    pub file: Option<String>,
-    pub text: Option<Text>,
-    pub status: Option<u8>,
-    pub out: Option<Text>,
-    pub err: Option<Text>,
-    pub any_err: Option<bool>,
-    pub fails: Option<Fails>,
-    pub faults: Option<(u64, u64)>,
-    pub left: Option<BTreeMap<String, Text>>,
-    pub any: Option<Vec<String>>,
-    pub counts: Option<Vec<(String, String, u64)>>,
-    pub registers: Option<Vec<(String, u64, u64)>>,
-    pub parts: Option<Vec<Part>>,
-    pub same: Option<Vec<(String, String)>>,
+// What was read, of a value that has another form where nothing was.
+fn read<T>(value: Option<T>) -> Result<T, Unlike> {
+    match value {
+        Some(value) => Ok(value),
+        None => Err(Unlike::Form),
+    }
 }
 
-/// A row: a text, the words of a command over it, and what is wanted.
-#[derive(Drop, Deserialize)]
-#[serde(deny_unknown_fields)]
-pub struct Row {
-    /// Commands that are done before, over the same files.
-    pub first: Option<Vec<Step>>,
-    /// What follows `talc` on the command line.
-    pub words: Option<String>,
-    /// The name of the file that holds the text; `x` where it is not said.
-    pub file: Option<String>,
-    pub text: Option<Text>,
-    pub status: Option<u8>,
-    pub out: Option<Text>,
-    pub err: Option<Text>,
-    /// The error output holds something, whatever it is.
-    pub any_err: Option<bool>,
-    pub fails: Option<Fails>,
+impl<'a> Row<'a> {
+    /// What the row says, or else its group.
+    pub fn said(&self, key: &str) -> Option<&'a Value> {
+        match self.own.get(key) {
+            Some(value) => Some(value),
+            None => self.group.get(key),
+        }
+    }
+
+    /// A string.
+    pub fn string(&self, key: &str, usual: &'a str) -> Result<&'a str, Unlike> {
+        match self.said(key) {
+            Some(value) => read(value.as_str()),
+            None => Ok(usual),
+        }
+    }
+
+    /// The items of a list, of which there are none where nothing is said.
+    pub fn items(&self, key: &str) -> Result<&'a [Value], Unlike> {
+        match self.said(key) {
+            Some(value) => read(list(value)),
+            None => Ok(&[]),
+        }
+    }
+
+    /// The files that are left.
+    pub fn left(&self) -> Result<Option<&'a Table>, Unlike> {
+        match self.said("left") {
+            Some(value) => Ok(Some(read(value.as_table())?)),
+            None => Ok(None),
+        }
+    }
+
+    /// The calls that fail.
+    pub fn fails(&self) -> Result<Option<&'a Table>, Unlike> {
+        match self.said("fails") {
+            Some(value) => Ok(Some(table_of(value, FAILS)?)),
+            None => Ok(None),
+        }
+    }
+
     /// How many reads, and how many writes, have failed.
-    pub faults: Option<(u64, u64)>,
-    /// Files that stand afterwards, with what they hold.
-    pub left: Option<BTreeMap<String, Text>>,
-    /// Files that stand afterwards, whatever they hold.
-    pub any: Option<Vec<String>>,
-    /// A file, a word, and how often it stands there.
-    pub counts: Option<Vec<(String, String, u64)>>,
-    /// A file, and the least and the greatest number that its greatest register may have.
-    pub registers: Option<Vec<(String, u64, u64)>>,
-    pub parts: Option<Vec<Part>>,
-    /// Files that hold the same.
-    pub same: Option<Vec<(String, String)>>,
+    pub fn faults(&self) -> Result<(u64, u64), Unlike> {
+        match self.said("faults") {
+            Some(value) => read(numbers(value)),
+            None => Ok((0, 0)),
+        }
+    }
+
+    /// The error output holds something, whatever it is.
+    pub fn any_err(&self) -> Result<bool, Unlike> {
+        match self.said("any_err") {
+            Some(value) => read(value.as_bool()),
+            None => Ok(false),
+        }
+    }
 }
 
-/// A command that is done before that of the row.
-#[derive(Drop, Deserialize)]
-#[serde(deny_unknown_fields)]
-pub struct Step {
-    pub words: String,
-    pub status: Option<u8>,
-    pub out: Option<Text>,
-    pub err: Option<Text>,
+/// A table with no other keys than these.
+pub fn table_of<'a>(value: &'a Value, keys: &[&str]) -> Result<&'a Table, Unlike> {
+    let table = read(value.as_table())?;
+    match unknown_key(table, keys) {
+        Some(_) => Err(Unlike::Form),
+        None => Ok(table),
+    }
 }
 
-/// The calls that fail, each by its number, with how many bytes it moves all the same: calls of the files, those of the
-/// steps counted, and puts of the row's own command.
-#[derive(Drop, Deserialize)]
-#[serde(deny_unknown_fields)]
-pub struct Fails {
-    #[serde(default)]
-    pub files: Vec<(u64, u64)>,
-    #[serde(default)]
-    pub out: Vec<(u64, u64)>,
-    #[serde(default)]
-    pub err: Vec<(u64, u64)>,
-}
-
-/// A part of a file.
-#[derive(Drop, Deserialize)]
-#[serde(deny_unknown_fields)]
-pub struct Part {
-    pub file: String,
-    pub at: Place,
-    pub text: Text,
-}
-
-/// Where a part of a file stands.
-#[derive(Clone, Copy, Deserialize)]
-#[serde(rename_all = "lowercase")]
-pub enum Place {
-    Begin,
-    End,
-    Inside,
+/// The status that is wanted of a command.
+pub fn status_of(status: Option<&Value>) -> Result<u8, Unlike> {
+    match status {
+        Some(status) => read(byte(status)),
+        None => Ok(0),
+    }
 }

@@ -1,46 +1,38 @@
 // Texts of a row file.
-use serde::Deserialize;
+use crate::unlike::Unlike;
+use crate::value::{byte, list, repeated};
 use std::alloc::{AllocError, Global};
+use toml::Value;
 
 // So many bytes of a text are shown.
 const MOST_SHOWN: usize = 400;
 
-/// A text of a row file: a string, or pieces.
-#[derive(Drop, Deserialize)]
-#[serde(untagged)]
-pub enum Text {
-    Whole(String),
-    Pieces(Vec<Piece>),
-}
-
-/// A piece of a text: a string, once or so many times, or one byte.
-#[derive(Drop, Deserialize)]
-#[serde(untagged)]
-pub enum Piece {
-    Once(String),
-    Byte(u8),
-    Times(String, u64),
-}
-
-fn add_times(bytes: &mut Vec<u8>, piece: &str, times: u64) -> Result<(), AllocError> {
+fn add_times(bytes: &mut Vec<u8>, text: &str, times: u64) -> Result<(), AllocError> {
     for _ in 0..times {
-        bytes.extend_from_slice(piece.as_bytes())?;
+        bytes.extend_from_slice(text.as_bytes())?;
     }
     Ok(())
 }
 
-fn add_piece(bytes: &mut Vec<u8>, piece: &Piece) -> Result<(), AllocError> {
-    match piece {
-        Piece::Once(text) => add_times(bytes, text, 1),
-        Piece::Byte(byte) => {
-            bytes.push(*byte)?;
-            Ok(())
-        }
-        Piece::Times(text, times) => add_times(bytes, text, *times),
+fn add_byte(bytes: &mut Vec<u8>, value: &Value) -> Result<(), Unlike> {
+    match byte(value) {
+        Some(byte) => Ok(bytes.push(byte)?),
+        None => Err(Unlike::Form),
     }
 }
 
-fn joined(alloc: Global, pieces: &[Piece]) -> Result<Vec<u8>, AllocError> {
+// A string, once or so many times, or one byte.
+fn add_piece(bytes: &mut Vec<u8>, piece: &Value) -> Result<(), Unlike> {
+    if let Some(text) = piece.as_str() {
+        return Ok(add_times(bytes, text, 1)?);
+    }
+    match repeated(piece) {
+        Some((text, times)) => Ok(add_times(bytes, text, times)?),
+        None => add_byte(bytes, piece),
+    }
+}
+
+fn joined(alloc: Global, pieces: &[Value]) -> Result<Vec<u8>, Unlike> {
     let mut bytes = Vec::new(alloc);
     for piece in pieces {
         add_piece(&mut bytes, piece)?;
@@ -48,20 +40,21 @@ fn joined(alloc: Global, pieces: &[Piece]) -> Result<Vec<u8>, AllocError> {
     Ok(bytes)
 }
 
-impl Text {
-    /// The bytes of the text.
-    pub fn bytes(&self, alloc: Global) -> Result<Vec<u8>, AllocError> {
-        match self {
-            Text::Whole(text) => Vec::from_slice(alloc, text.as_bytes()),
-            Text::Pieces(pieces) => joined(alloc, pieces),
-        }
+/// The bytes of a text: a string, or a list of pieces.
+pub fn text_of(alloc: Global, value: &Value) -> Result<Vec<u8>, Unlike> {
+    if let Some(text) = value.as_str() {
+        return Ok(Vec::from_slice(alloc, text.as_bytes())?);
+    }
+    match list(value) {
+        Some(pieces) => joined(alloc, pieces),
+        None => Err(Unlike::Form),
     }
 }
 
 /// The bytes of a text, of which none is wanted where it is not said.
-pub fn bytes_of(alloc: Global, text: Option<&Text>) -> Result<Vec<u8>, AllocError> {
+pub fn bytes_of(alloc: Global, text: Option<&Value>) -> Result<Vec<u8>, Unlike> {
     match text {
-        Some(text) => text.bytes(alloc),
+        Some(text) => text_of(alloc, text),
         None => Ok(Vec::new(alloc)),
     }
 }

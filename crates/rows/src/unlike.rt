@@ -1,11 +1,13 @@
 // What does not hold of a row.
-use std::alloc::{AllocError, Global};
+use std::alloc::{AllocError, AllocFailed, Global};
 
 /// Why a row does not hold.
 #[derive(Drop)]
 pub enum Unlike {
     /// Memory was wanted and not had.
     Memory,
+    /// A value of the row has another form than its key wants.
+    Form,
     /// A part of what a command leaves is another one.
     Part {
         part: String,
@@ -16,6 +18,12 @@ pub enum Unlike {
 
 impl From<AllocError> for Unlike {
     fn from(_: AllocError) -> Unlike {
+        Unlike::Memory
+    }
+}
+
+impl<T: Drop> From<AllocFailed<T>> for Unlike {
+    fn from(_: AllocFailed<T>) -> Unlike {
         Unlike::Memory
     }
 }

@@ -11,43 +11,7 @@ use Rattle.t_wanted.specs.Table.{bracket_after}
 
 line_back : (n : m.Line) → line_of (kept_line n) ≡ n
 line_back m.LProgram = refl
-line_back m.LHeader = refl
-line_back m.LBlock = refl
-line_back m.LMoreBlocks = refl
-line_back m.LSomeItems = refl
-line_back m.LFirst = refl
-line_back m.LMoreItems = refl
-line_back m.LItem = refl
-line_back m.LTuple = refl
-line_back m.LDatums = refl
-line_back m.LMoreDatums = refl
-line_back m.LBinds = refl
-line_back m.LNames = refl
-line_back m.LMoreNames = refl
-line_back m.LFile = refl
-line_back m.LRegs = refl
-line_back m.LMoreRegs = refl
-line_back m.LT = refl
-line_back m.LFields = refl
-line_back m.LMoreFields = refl
-line_back m.LTypes = refl
-line_back m.LTypeList = refl
-line_back m.LSomeTypes = refl
-line_back m.LMoreTypes = refl
-line_back m.LV = refl
-line_back m.LArgs = refl
-line_back m.LPacked = refl
-line_back m.LW = refl
-line_back m.LWordArgs = refl
-line_back m.LWordPacked = refl
-line_back m.LTo = refl
-line_back m.LAt = refl
-line_back m.LIndex = refl
-line_back m.LTarget = refl
-line_back m.LInt = refl
-line_back m.LI = refl
-line_back m.LMoreSteps = refl
-line_back m.LEnd = refl
+line_back _ = refl
 
 pub kept_is : IsKept table assembly_owes assembly_kept
 kept_is = record {

@@ -17,8 +17,9 @@ use Rattle.talc_core.specs.declared.fault.Fault.{Fault}
 use Rattle.talc_core.specs.declared.fault.Fault.TheVariants.{Source, Tal}
 use Rattle.talc_core.specs.FirstFault.{AnyText, AnyTerm, AProgram, CellFree, AnAssembly, IsParsed, IsChecked}
 use Rattle.talc_core.specs.FirstFault.{IsAssembly, TermFault}
-use Rattle.talc_core.specs.FirstFault.{IsTaken, FirstFault, KeepsBounds, TakenOrFault}
+use Rattle.talc_core.specs.FirstFault.{IsTaken, FirstFault, FitsMemory, TakenOrFault}
 use Rattle.talc_core.specs.TextLaws.{TextLaws}
+use Rattle.talc_core.proofs.WholeTexts.{whole_text}
 
 -- a place as a span
 abbrev spanned : Spn → Span
@@ -94,15 +95,16 @@ module _ (laws : TextLaws) where
   by_acceptance text P read (inr (c, s, fault)) =
       inr (Tal c s, inr (record { program = P; read = read; fault = fault }))
 
-  an_assembly : (text : List ℕ) → KeepsBounds AnAssembly text →
+  an_assembly : (text : List ℕ) → FitsMemory AnAssembly text →
       ((P : SProg) × assembly.ReadsAs text P) ⊎ ((c : TCode) × (s : Span) × assembly.FirstFault text c s) →
       IsTaken AnAssembly text ⊎ ((a : Fault) × FirstFault AnAssembly text a)
-  an_assembly text keeps (inl (P, read)) = by_acceptance text P read (laws.accepted_or_fault P (keeps P read))
-  an_assembly text keeps (inr (c, s, fault)) = inr (Tal c s, inl fault)
+  an_assembly text short (inl (P, read)) =
+      by_acceptance text P read (laws.accepted_or_fault P (whole_text text P short read.stands))
+  an_assembly text short (inr (c, s, fault)) = inr (Tal c s, inl fault)
 
   pub taken_or_fault : TakenOrFault
-  taken_or_fault AnyText text keeps = inl tt
-  taken_or_fault AnyTerm text keeps = any_term text (by_reading text (laws.term_or_fault text))
-  taken_or_fault AProgram text keeps = a_program text (by_reading text (laws.term_or_fault text))
-  taken_or_fault CellFree text keeps = cell_free text (a_program text (by_reading text (laws.term_or_fault text)))
-  taken_or_fault AnAssembly text keeps = an_assembly text keeps (laws.program_or_fault text)
+  taken_or_fault AnyText text short = inl tt
+  taken_or_fault AnyTerm text short = any_term text (by_reading text (laws.term_or_fault text))
+  taken_or_fault AProgram text short = a_program text (by_reading text (laws.term_or_fault text))
+  taken_or_fault CellFree text short = cell_free text (a_program text (by_reading text (laws.term_or_fault text)))
+  taken_or_fault AnAssembly text short = an_assembly text short (laws.program_or_fault text)

@@ -9,7 +9,7 @@ use Rattle.talc_core.specs.declared.status.Status.{Status}
 use Rattle.talc_core.specs.declared.status.Status.TheVariants.{Done, Refused, Usage, Limit, Budget, ReadFault}
 use Rattle.talc_core.specs.declared.status.Status.TheVariants.{WriteFault, Memory}
 use Rattle.talc_core.specs.Command.{Asked, Compiles, CompilesWithin, Types, Evaluates, Checks, Runs, Generates}
-use Rattle.talc_core.specs.Command.{Upgrades, Traces, Shows, Explains, Lists, Costs}
+use Rattle.talc_core.specs.Command.{Upgrades, Traces, Shows, Explains, Lists, Costs, TypesNames}
 use Rattle.talc_core.specs.FirstFault.{Need, AnyText, AnyTerm, AProgram, CellFree, AnAssembly}
 use Rattle.talc_core.specs.CompiledText.{CompiledText, CompiledTextWithin}
 use Rattle.talc_core.specs.Upgraded.{IsUpgraded}
@@ -17,17 +17,14 @@ use Rattle.talc_core.specs.Shown.{Showing, ShowsType, ShowsValue, ShowsAccepted,
 use Rattle.talc_core.specs.Shown.{SeedShown}
 use Rattle.talc_core.specs.FormShown.{ShowsForm}
 use Rattle.talc_core.specs.Explained.{ShowsExplained}
-use Rattle.talc_core.specs.Headline.{Outside, Unwritten, WrittenAlone, SeedWrittenAlone}
+use Rattle.talc_core.specs.Headline.{Unwritten, WrittenAlone, SeedWrittenAlone}
 use Rattle.talc_core.specs.Headline.{TextAnswer, LineAnswer, SeedAnswer, Does}
-use Rattle.talc_core.specs.Listed.{ShowsListing}
+use Rattle.talc_core.specs.Binding.{ShowsTypes}
 use Rattle.seeds.specs.Source.{source as source_of}
 use Rattle.io_core.specs.Outside.{with_file}
 use Rattle.talc_core.specs.OnTexts.{Making, status_at}
 use Rattle.talc_core.specs.Steps.{MakesFile, ShowsFile, ShowsSeed, Performs, Reports}
-
--- the outside of a call
-abbrev outside : FilesState → SinkState → SinkState → Outside
-outside files out err = record { files = files; out = out; err = err }
+use Rattle.talc_core.proofs.ListedLemmas.{outside, list_failed, list_ended}
 
 module _ (f f' : FilesState) (o o' e e' : SinkState) where
   -- ---- the commands that show a line
@@ -321,8 +318,9 @@ module _ (f f' : FilesState) (o o' e e' : SinkState) where
       line_failed (ShowsForm form) AProgram input failure status done told
   does_failed (Explains input) failure status done told =
       line_failed (ShowsExplained input) AnyText input failure status done told
-  does_failed (Lists input) failure status done told =
-      line_failed ShowsListing AnAssembly input failure status done told
+  does_failed (Lists input) failure status done told = list_failed f f' o o' e e' input failure status done told
+  does_failed (TypesNames input) failure status done told =
+      line_failed ShowsTypes AnyTerm input failure status done told
   does_failed (Generates seed output) failure status done told = seed_failed seed output failure status done told
   does_failed (Upgrades input output) failure status done told =
       text_failed IsUpgraded AnAssembly input output done.1 failure status done.0 told
@@ -340,7 +338,8 @@ module _ (f f' : FilesState) (o o' e e' : SinkState) where
   does_at_end (Traces input from to) ending done = line_ended (ShowsTrace from to) AnAssembly input ending done
   does_at_end (Shows input form) ending done = line_ended (ShowsForm form) AProgram input ending done
   does_at_end (Explains input) ending done = line_ended (ShowsExplained input) AnyText input ending done
-  does_at_end (Lists input) ending done = line_ended ShowsListing AnAssembly input ending done
+  does_at_end (Lists input) ending done = list_ended f f' o o' e e' input ending done
+  does_at_end (TypesNames input) ending done = line_ended ShowsTypes AnyTerm input ending done
   does_at_end (Generates seed output) ending done = seed_ended seed output ending done
   does_at_end (Upgrades input output) ending done = text_ended IsUpgraded AnAssembly input output done.1 ending done.0
 

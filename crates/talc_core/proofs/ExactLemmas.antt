@@ -13,7 +13,7 @@ use Rattle.t_terms.specs.Spanned.{plain_program}
 use Rattle.t_rules.specs.Machine.{GoesOnAfter}
 use Rattle.talc_core.specs.FirstFault.{Need, AnyText, AnyTerm, AProgram, CellFree, AnAssembly, IsTaken}
 use Rattle.talc_core.specs.Command.{Asked, Compiles, CompilesWithin, Types, Evaluates, Checks, Runs, Generates}
-use Rattle.talc_core.specs.Command.{Upgrades, Traces, Shows, Explains, Lists, command_of, need_of, Costs}
+use Rattle.talc_core.specs.Command.{Upgrades, Traces, Shows, Explains, Lists, command_of, need_of, Costs, TypesNames}
 use Rattle.talc_core.specs.CompiledText.{CompiledText, CompiledTextWithin}
 use Rattle.talc_core.specs.Upgraded.{IsUpgraded}
 use Rattle.talc_core.specs.Shown.{Showing, ShowsType, ShowsValue, ValueShown, ShowsAccepted, ShowsRun, ShowsTrace}
@@ -21,10 +21,10 @@ use Rattle.talc_core.specs.Shown.{HaltedShown, ShowsCost}
 use Rattle.words.specs.declared.form.Form.{Form}
 use Rattle.talc_core.specs.FormShown.{ShowsForm}
 use Rattle.talc_core.specs.Explained.{ShowsExplained}
-use Rattle.talc_core.specs.Listed.{ShowsListing}
+use Rattle.talc_core.specs.Binding.{ShowsTypes}
 use Rattle.talc_core.specs.OnTexts.{Making}
 use Rattle.talc_core.specs.Headline.{Outside, Headline, TextRefused, TextAnswer, LineAnswer, SeedAnswer, UsageAnswer}
-use Rattle.talc_core.specs.Headline.{Does}
+use Rattle.talc_core.specs.Headline.{Does, ListedRefused, ListAnswer}
 use Rattle.talc_core.specs.Exact.{IsSettled, Tells, WorksOn, IsMissing, CannotRead, LeadsTo, CannotWrite, HasBudget}
 use Rattle.talc_core.specs.Exact.{GoesOn, NoFaults, Works, HeadlineIsExact}
 use Rattle.talc_core.specs.TextLaws.{TextLaws}
@@ -90,6 +90,7 @@ goes_on_taken (Traces input from to) source more = (more.0, more.1)
 goes_on_taken (Shows input form) source more = absurd more
 goes_on_taken (Explains input) source more = absurd more
 goes_on_taken (Lists input) source more = absurd more
+goes_on_taken (TypesNames input) source more = absurd more
 goes_on_taken (Generates seed output) source more = absurd more
 goes_on_taken (Upgrades input output) source more = absurd more
 
@@ -241,9 +242,9 @@ explain_sound input = record {
   over = λ text shown says. absurd says;
 }
 
-listing_sound : (input : List ℕ) → IsSound (Lists input) ShowsListing
-listing_sound input = record {
-  done = λ text shown says. ((says.program, says.accepted), λ more. more);
+types_sound : (input : List ℕ) → IsSound (TypesNames input) ShowsTypes
+types_sound input = record {
+  done = λ text shown says. ((says.term, says.type, says.checked), λ more. more);
   over = λ text shown says. absurd says;
 }
 
@@ -326,6 +327,31 @@ module _ (laws : TextLaws) (old new : Outside) where
   text_judged asked input output Makes sound source WriteFault answer tells settled = absurd settled
   text_judged asked input output Makes sound source Memory answer tells settled = absurd settled
 
+  -- of `listing`
+  list_leads : (input source : List ℕ) (status : Status) → ListedRefused status input old new →
+      Tells old.files.told input source → Judged (Lists input) source status
+  list_leads input source status refused tells =
+      let same : refused.source ≡ source = same_content old.files.told input refused.source source refused.read tells in
+      inr
+      (inr (subst (λ text. LeadsTo AnAssembly text status) same (refused.fault, refused.listed.first, refused.leads)))
+
+  list_judged : (input source : List ℕ) (status : Status) → ListAnswer input old new status →
+      Tells old.files.told input source → IsSettled status → Judged (Lists input) source status
+  list_judged input source Done answer tells settled =
+      let same : answer.source ≡ source = same_content old.files.told input answer.source source answer.read tells in
+      inl (record {
+        taken = subst (IsTaken AnAssembly) same (answer.says.program, answer.says.accepted);
+        ends = λ more. more;
+        done = refl;
+      })
+  list_judged input source Refused answer tells settled = list_leads input source Refused answer tells
+  list_judged input source Limit answer tells settled = list_leads input source Limit answer tells
+  list_judged input source Usage answer tells settled = absurd answer
+  list_judged input source Budget answer tells settled = absurd answer
+  list_judged input source ReadFault answer tells settled = absurd settled
+  list_judged input source WriteFault answer tells settled = absurd settled
+  list_judged input source Memory answer tells settled = absurd settled
+
   judged : (asked : Asked) (source : List ℕ) (status : Status) → Does old new status asked → WorksOn asked old source →
       IsSettled status → Judged asked source status
   judged (Types input) source status answer tells settled =
@@ -348,8 +374,9 @@ module _ (laws : TextLaws) (old new : Outside) where
       line_judged (Shows input form) input (ShowsForm form) (form_sound input form) source status answer tells settled
   judged (Explains input) source status answer tells settled =
       line_judged (Explains input) input (ShowsExplained input) (explain_sound input) source status answer tells settled
-  judged (Lists input) source status answer tells settled =
-      line_judged (Lists input) input ShowsListing (listing_sound input) source status answer tells settled
+  judged (Lists input) source status answer tells settled = list_judged input source status answer tells settled
+  judged (TypesNames input) source status answer tells settled =
+      line_judged (TypesNames input) input ShowsTypes (types_sound input) source status answer tells settled
   judged (Compiles input output) source status answer tells settled =
       text_judged (Compiles input output) input output CompiledText (compiled_sound input output) source status answer
       tells settled
@@ -408,6 +435,21 @@ module _ (laws : TextLaws) (old new : Outside) where
   text_absent Makes need input output ReadFault answer absent = inl refl
   text_absent Makes need input output Memory answer absent = inr refl
 
+  list_absent : (input : List ℕ) (status : Status) → ListAnswer input old new status → IsAbsent old.files.told input →
+      (status ≡ ReadFault) ⊎ (status ≡ Memory)
+  list_absent input Done answer absent =
+      absurd (not_absent old.files.told input answer.source answer.read absent)
+  list_absent input Refused answer absent =
+      absurd (not_absent old.files.told input answer.source answer.read absent)
+  list_absent input Limit answer absent =
+      absurd (not_absent old.files.told input answer.source answer.read absent)
+  list_absent input WriteFault answer absent =
+      absurd (not_absent old.files.told input answer.source answer.read absent)
+  list_absent input Usage answer absent = absurd answer
+  list_absent input Budget answer absent = absurd answer
+  list_absent input ReadFault answer absent = inl refl
+  list_absent input Memory answer absent = inr refl
+
   absent_at : (asked : Asked) (status : Status) → Does old new status asked → IsMissing asked old →
       (status ≡ ReadFault) ⊎ (status ≡ Memory)
   absent_at (Types input) status answer absent = line_absent ShowsType AnyTerm input status answer absent
@@ -420,7 +462,8 @@ module _ (laws : TextLaws) (old new : Outside) where
       line_absent (ShowsTrace from to) AnAssembly input status answer absent
   absent_at (Shows input form) status answer absent = line_absent (ShowsForm form) AProgram input status answer absent
   absent_at (Explains input) status answer absent = line_absent (ShowsExplained input) AnyText input status answer absent
-  absent_at (Lists input) status answer absent = line_absent ShowsListing AnAssembly input status answer absent
+  absent_at (Lists input) status answer absent = list_absent input status answer absent
+  absent_at (TypesNames input) status answer absent = line_absent ShowsTypes AnyTerm input status answer absent
   absent_at (Compiles input output) status answer absent =
       text_absent CompiledText AProgram input output status answer absent
   absent_at (CompilesWithin input output k) status answer absent =
@@ -441,6 +484,7 @@ module _ (laws : TextLaws) (old new : Outside) where
   read_fault_at (Shows input form) answer = answer.cause
   read_fault_at (Explains input) answer = answer.cause
   read_fault_at (Lists input) answer = answer.cause
+  read_fault_at (TypesNames input) answer = answer.cause
   read_fault_at (Generates seed output) answer = answer
   read_fault_at (Upgrades input output) answer = answer.cause
 
@@ -457,6 +501,7 @@ module _ (laws : TextLaws) (old new : Outside) where
   write_fault_at (Shows input form) answer = answer.cause
   write_fault_at (Explains input) answer = answer.cause
   write_fault_at (Lists input) answer = answer.cause
+  write_fault_at (TypesNames input) answer = answer.cause
   write_fault_at (Generates seed output) (inl unwritten) = inl unwritten.cause
   write_fault_at (Generates seed output) (inr unshown) = inr unshown.cause
 
@@ -473,6 +518,7 @@ module _ (laws : TextLaws) (old new : Outside) where
   cannot (Shows input form) none rose = none.puts rose
   cannot (Explains input) none rose = none.puts rose
   cannot (Lists input) none rose = none.puts rose
+  cannot (TypesNames input) none rose = none.puts rose
   cannot (Generates seed output) none (inl rose) = none.writes rose
   cannot (Generates seed output) none (inr rose) = none.puts rose
 
@@ -496,6 +542,7 @@ module _ (laws : TextLaws) (old new : Outside) where
   cannot_read (Shows input form) source none tells why = told_is_read input source none tells why
   cannot_read (Explains input) source none tells why = told_is_read input source none tells why
   cannot_read (Lists input) source none tells why = told_is_read input source none tells why
+  cannot_read (TypesNames input) source none tells why = told_is_read input source none tells why
   cannot_read (Generates seed output) source none is why = why
 
   no_usage : (asked : Asked) → Does old new Usage asked → ⊥
@@ -511,6 +558,7 @@ module _ (laws : TextLaws) (old new : Outside) where
   no_usage (Shows input form) answer = answer
   no_usage (Explains input) answer = answer
   no_usage (Lists input) answer = answer
+  no_usage (TypesNames input) answer = answer
   no_usage (Generates seed output) answer = answer
 
   budget_has : (asked : Asked) → Does old new Budget asked → HasBudget asked
@@ -525,7 +573,8 @@ module _ (laws : TextLaws) (old new : Outside) where
   budget_has (Traces input from to) answer = tt
   budget_has (Shows input form) answer = answer.says
   budget_has (Explains input) answer = answer.says
-  budget_has (Lists input) answer = answer.says
+  budget_has (Lists input) answer = answer
+  budget_has (TypesNames input) answer = answer.says
   budget_has (Generates seed output) answer = answer
 
   generates_at : (seed : ℕ) (output : List ℕ) (status : Status) → SeedAnswer seed output old new status →

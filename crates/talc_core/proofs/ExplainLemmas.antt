@@ -226,7 +226,7 @@ module _ (laws : TextLaws) (odds : MismatchLaws) where
       x.is ∙ ap assembly_told (odds.one_of_an_assembly y.program c c s s x.mismatch y.mismatch fault y.fault) ∙ sym y.is
 
   -- the same is told of one fault
-  one_told : (text : List ℕ) (f : Fault) (a b : Told) → AtOdds text f a → AtOdds text f b → a ≡ b
+  pub one_told : (text : List ℕ) (f : Fault) (a b : Told) → AtOdds text f a → AtOdds text f b → a ≡ b
   one_told text (Source c s) a b x y = one_of_source text c s a b x y
   one_told text (Tal c s) a b x y = one_of_assembly text c s a b x y
 

@@ -1,4 +1,5 @@
 mod AssemblyLemmas
+mod BindingLemmas
 mod BothWays
 mod CompileLemmas
 mod CostLemmas
@@ -10,6 +11,7 @@ mod ExplainLemmas
 mod FaultLemmas
 mod ExplainRows
 mod FormLemmas
+mod ListedLemmas
 mod ListingLemmas
 mod Rows
 mod RunLemmas
@@ -17,6 +19,7 @@ mod SeedLemmas
 mod ShownLemmas
 mod SizeLemmas
 mod SourceLemmas
+mod WholeTexts
 mod WrittenLemmas
 pub mod TraceLemmas
 pub mod LineLemmas

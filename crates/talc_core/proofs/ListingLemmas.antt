@@ -1,5 +1,7 @@
--- A text has one listing at most.
-use Rattle.std.proofs.Common.{◌≡◌, ◌∙◌, ℕ, suc, List, [], ◌∷◌, ◌++◌, length, Option, Some, None, refl, sym, ap, ap₂, subst}
+-- The listing of a text, or up to its first fault: it is one at most.
+use Rattle.std.proofs.Common.{◌≡◌, ◌∙◌, ℕ, suc, List, [], ◌∷◌, ◌++◌, length, Option, Some, None, sym, ap, ap₂, subst}
+use Rattle.std.proofs.Common.{Bool, true, false, inl, inr}
+use Rattle.std.specs.Bool.{MatchBool}
 use Rattle.idx_core.specs.declared.span.Span.{Span}
 use Rattle.t_types.specs.Tree.{TFile}
 use Rattle.t_types.specs.Fits.{RegTypes, lookup}
@@ -7,10 +9,20 @@ use Rattle.t_terms.specs.Tree.{TInstr, TProg}
 use Rattle.t_terms.specs.Spanned.{SBlock, SProg, plain_program}
 use Rattle.t_rules.specs.LawsSound.{OneKnown}
 use Rattle.listing.specs.Listing.{file_row, register_row, set_by, text_row, label_end, line_end}
-use Rattle.listing.specs.Listing.{IsFileRow, IsSetRow, AreSteps, IsLastRow, IsBlock, AreBlocks, IsListing}
-use Rattle.talc_core.specs.Listed.{ListingShown, OneListing}
-use Rattle.talc_core.specs.TextLaws.{TextLaws}
-use Rattle.talc_core.proofs.FaultLemmas.{same_program}
+use Rattle.listing.specs.Listing.{IsFileRow, IsSetRow, AreSteps, IsLastRow, IsBegun, IsBlock, AreBlocks}
+use Rattle.listing.specs.Listing.{IsListing}
+use Rattle.t_cut.specs.Before.{is_before_blocks, in_block, steps_to}
+use Rattle.listing.specs.Begun.{AreBlocksTo, IsListingTo}
+use Rattle.talc_core.specs.declared.fault.Fault.{Fault}
+use Rattle.talc_core.specs.declared.fault.Fault.TheVariants.{Source, Tal}
+use Rattle.talc_core.specs.FirstFault.{AnAssembly, FirstFault}
+use Rattle.talc_core.specs.AtOdds.{AtOdds}
+use Rattle.talc_core.specs.Explained.{explained}
+use Rattle.talc_core.specs.Listed.{RowsTo, FaultListed, OneListing, OneFaultListed}
+use Rattle.talc_core.specs.Steps.{IsFaultPage}
+use Rattle.talc_core.specs.TextLaws.{TextLaws, MismatchLaws}
+use Rattle.talc_core.proofs.ExplainLemmas.{one_told}
+use Rattle.talc_core.proofs.FaultLemmas.{one_fault, same_program}
 use Rattle.talc_core.proofs.LineLemmas.{file_one}
 
 module _ (known : OneKnown) (text : List ℕ) (P : TProg) where
@@ -41,16 +53,22 @@ module _ (known : OneKnown) (text : List ℕ) (P : TProg) where
   one_last b [] v w x y = x ∙ sym y
   one_last b (z ∷ zs) v w x y = one_file b (suc (length zs)) v w x y
 
+  one_begun : (b : ℕ) (z : SBlock) (xs : List (TInstr × Span)) (v w : List ℕ) → IsBegun text P b z xs v →
+      IsBegun text P b z xs w → v ≡ w
+  one_begun b z xs v w x y =
+      x.is
+      ∙ ap₂ (λ (first steps : List ℕ). text_row text z.name label_end ++ (first ++ (steps ++ x.last)))
+      (one_file b 0 x.first y.first x.starts y.starts)
+      (one_steps b 0 xs x.steps y.steps x.goes_on y.goes_on)
+      ∙ ap (λ (last : List ℕ). text_row text z.name label_end ++ (y.first ++ (y.steps ++ last)))
+      (one_last b xs x.last y.last x.ends y.ends)
+      ∙ sym y.is
+
   one_block : (b : ℕ) (z : SBlock) (v w : List ℕ) → IsBlock text P b z v → IsBlock text P b z w → v ≡ w
   one_block b z v w x y =
       x.is
-      ∙ ap₂ (λ (first steps : List ℕ). text_row text z.name label_end
-      ++ (first ++ (steps ++ (x.last ++ text_row text z.last_span line_end))))
-      (one_file b 0 x.first y.first x.starts y.starts)
-      (one_steps b 0 z.body x.steps y.steps x.goes_on y.goes_on)
-      ∙ ap (λ (last : List ℕ). text_row text z.name label_end
-      ++ (y.first ++ (y.steps ++ (last ++ text_row text z.last_span line_end))))
-      (one_last b z.body x.last y.last x.ends y.ends)
+      ∙ ap (λ (before : List ℕ). before ++ text_row text z.last_span line_end)
+      (one_begun b z z.body x.before y.before x.begun y.begun)
       ∙ sym y.is
 
   one_blocks : (b : ℕ) (zs : List SBlock) (v w : List ℕ) → AreBlocks text P b zs v → AreBlocks text P b zs w → v ≡ w
@@ -60,6 +78,79 @@ module _ (known : OneKnown) (text : List ℕ) (P : TProg) where
       ∙ ap₂ (λ (block rest : List ℕ). block ++ rest) (one_block b z x.0 y.0 x.2 y.2)
       (one_blocks (suc b) zs x.1 y.1 x.3 y.3)
       ∙ sym y.4
+
+  -- the rows of a block without the place, and of those behind it up to the place
+  abbrev Wholly : Span → ℕ → SBlock → List SBlock → List ℕ → Type 0
+  Wholly place b z zs rows =
+      (block rest : List ℕ) × IsBlock text P b z block × AreBlocksTo text P place (suc b) zs rest
+      × (rows ≡ block ++ rest)
+
+  -- and up to a place
+  one_to : (place : Span) (b : ℕ) (zs : List SBlock) (v w : List ℕ) → AreBlocksTo text P place b zs v →
+      AreBlocksTo text P place b zs w → v ≡ w
+  one_to place b [] v w x y = x ∙ sym y
+  one_to place b (z ∷ zs) v w x y = go (in_block place z) x y (one_to place (suc b) zs)
+    where
+      go : (met : Bool) → MatchBool met (IsBegun text P b z (steps_to place z.body) v) (Wholly place b z zs v) →
+          MatchBool met (IsBegun text P b z (steps_to place z.body) w) (Wholly place b z zs w) →
+          ((v w : List ℕ) → AreBlocksTo text P place (suc b) zs v → AreBlocksTo text P place (suc b) zs w → v ≡ w) →
+          v ≡ w
+      go true p q rest = one_begun b z (steps_to place z.body) v w p q
+      go false p q rest =
+          p.4
+          ∙ ap₂ (λ (block later : List ℕ). block ++ later) (one_block b z p.0 q.0 p.2 q.2) (rest p.1 q.1 p.3 q.3)
+          ∙ sym q.4
+
+one_listing_to : OneKnown → (text : List ℕ) (P : SProg) (place : Span) (v w : List ℕ) → IsListingTo text P place v →
+    IsListingTo text P place w → v ≡ w
+one_listing_to known text P place v w x y = go (is_before_blocks place P) x y
+  where
+    go : (before : Bool) →
+        MatchBool before (v ≡ []) (AreBlocksTo text (plain_program P) place 0 P.blocks v) →
+        MatchBool before (w ≡ []) (AreBlocksTo text (plain_program P) place 0 P.blocks w) → v ≡ w
+    go true p q = p ∙ sym q
+    go false p q = one_to known text (plain_program P) place 0 P.blocks v w p q
+
+module _ (laws : TextLaws) where
+  -- the rows, and the page of the one fault behind them
+  pub fault_listed : (name text : List ℕ) (fault : Fault) (rows page shown : List ℕ) →
+      FirstFault AnAssembly text fault → RowsTo text fault rows → IsFaultPage name text page → shown ≡ rows ++ page →
+      FaultListed name text fault shown
+  fault_listed name text fault rows page shown first listed h is =
+      let same : h.fault ≡ fault = one_fault laws AnAssembly text h.fault fault h.first first in
+      record {
+        rows = rows;
+        told = h.told;
+        first = first;
+        listed = listed;
+        at_odds = subst (λ g. AtOdds text g h.told) same h.at_odds;
+        is = is ∙ ap (λ (p : List ℕ). rows ++ p) (h.is ∙ ap (λ (g : Fault). explained name text g h.told) same);
+      }
+
+module _ (laws : TextLaws) (known : OneKnown) where
+  one_rows : (text : List ℕ) (fault : Fault) (v w : List ℕ) → RowsTo text fault v → RowsTo text fault w → v ≡ w
+  one_rows text (Source c s) v w x y = absurd x
+  one_rows text (Tal c s) v w (inl x) (inl y) = x.1 ∙ sym y.1
+  one_rows text (Tal c s) v w (inl x) (inr y) = absurd (laws.no_fault_of_a_program text y.program c s y.read x.0)
+  one_rows text (Tal c s) v w (inr x) (inl y) = absurd (laws.no_fault_of_a_program text x.program c s x.read y.0)
+  one_rows text (Tal c s) v w (inr x) (inr y) =
+      let same : x.program ≡ y.program = same_program laws text x.program y.program x.read y.read in
+      one_listing_to known text y.program s v w
+      (subst (λ (program : SProg). IsListingTo text program s v) same x.listed) y.listed
+
+  pub one_fault_listed : MismatchLaws → OneFaultListed
+  one_fault_listed odds name text a b f g x y =
+      let same : f ≡ g = one_fault laws AnAssembly text f g x.first y.first in
+      let rows : x.rows ≡ y.rows =
+      one_rows text g x.rows y.rows (subst (λ h. RowsTo text h x.rows) same x.listed) y.listed in
+      let told : x.told ≡ y.told =
+      one_told laws odds text g x.told y.told (subst (λ h. AtOdds text h x.told) same x.at_odds) y.at_odds in (
+        same,
+        x.is
+            ∙ ap₂ (λ (r : List ℕ) (h : Fault). r ++ explained name text h x.told) rows same
+            ∙ ap (λ t. y.rows ++ explained name text g t) told
+            ∙ sym y.is,
+      )
 
 pub one_listing : TextLaws → OneKnown → OneListing
 one_listing laws known text a b x y =

@@ -11,7 +11,8 @@ use Rattle.t_terms.specs.declared.fault.TCode.{TCode}
 use Rattle.t_terms.specs.Spanned.{SProg}
 use Rattle.t_text.specs.Text as assembly
 use Rattle.t_mismatch.specs.Mismatch.{ProgramFaultWith, Mismatch}
-use Rattle.mismatch_text.specs.Line.{source_line, not_int_line, assembly_line}
+use Rattle.mismatch_text.specs.Line.{not_int_line, assembly_line}
+use Rattle.mismatch_text.specs.Apart.{source_lines}
 use Rattle.mismatch_text.specs.Form.{form_of, found_form}
 use Rattle.mismatch_text.specs.Value.{of_spn, value_place}
 use Rattle.fault_hint.specs.declared.form.Form.{Form}
@@ -40,7 +41,7 @@ untold = unread_told []
 
 -- of types of a source that are at odds
 abbrev pub source_told : Option SourceMismatch → Told
-source_told m = with_no_value (source_line m) (found_form m)
+source_told m = with_no_value (source_lines m) (found_form m)
 
 -- of a term that is no program, since it has this type
 abbrev pub whole_told : Tm → Ty → Told

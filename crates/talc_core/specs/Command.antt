@@ -2,7 +2,7 @@
 use Rattle.std.specs.Prelude.{List, ℕ, Option, Some, None}
 use Rattle.talc_core.specs.FirstFault.{Need, AnyText, AnyTerm, AProgram, CellFree, AnAssembly}
 pub use Rattle.words.specs.Command.{Asked, Compiles, CompilesWithin, Types, Evaluates, Checks, Runs, Generates}
-pub use Rattle.words.specs.Command.{Upgrades, Traces, Shows, Explains, Lists, Costs}
+pub use Rattle.words.specs.Command.{Upgrades, Traces, Shows, Explains, Lists, Costs, TypesNames}
 pub use Rattle.words.specs.Command.{command_of}
 
 -- what the command needs of the text that it works on: of the one that it reads, or of the source that it makes
@@ -20,6 +20,7 @@ need_of (Traces input from to) = AnAssembly
 need_of (Shows input form) = AProgram
 need_of (Explains input) = AnyText
 need_of (Lists input) = AnAssembly
+need_of (TypesNames input) = AnyTerm
 
 -- the name of the file that it reads, if it reads one
 abbrev pub input_of : Asked → Option (List ℕ)
@@ -36,3 +37,4 @@ input_of (Traces input from to) = Some input
 input_of (Shows input form) = Some input
 input_of (Explains input) = Some input
 input_of (Lists input) = Some input
+input_of (TypesNames input) = Some input

@@ -15,8 +15,8 @@ use Rattle.t_terms.specs.Spanned.{SProg, plain_program}
 use Rattle.t_rules.specs.Machine.{GoesOnAfter}
 use Rattle.seeds.specs.Source.{source}
 use Rattle.talc_core.specs.FirstFault.{Need, FirstFault, IsChecked, IsAcceptedText, IsTaken}
-use Rattle.talc_core.specs.Command.{Asked, Compiles, CompilesWithin, Types, Evaluates, Checks, Runs, Generates}
-use Rattle.talc_core.specs.Command.{Upgrades, Traces, Shows, Explains, Lists, Costs}
+use Rattle.talc_core.specs.Command.{Asked, Compiles, CompilesWithin, Evaluates, Runs, Costs, Generates, Upgrades}
+use Rattle.talc_core.specs.Command.{Traces, Explains}
 use Rattle.talc_core.specs.Command.{command_of, need_of, input_of}
 use Rattle.talc_core.specs.Headline.{Outside, Headline}
 
@@ -34,19 +34,8 @@ Tells (Some files) name bytes = get files name ≡ Some bytes
 
 -- the command works on this text: the content of the file that it reads, or the source of its seed
 abbrev pub WorksOn : Asked → Outside → List ℕ → Type 0
-WorksOn (Compiles input output) old text = Tells old.files.told input text
-WorksOn (CompilesWithin input output k) old text = Tells old.files.told input text
-WorksOn (Types input) old text = Tells old.files.told input text
-WorksOn (Evaluates input turns) old text = Tells old.files.told input text
-WorksOn (Checks input) old text = Tells old.files.told input text
-WorksOn (Runs input fuel) old text = Tells old.files.told input text
-WorksOn (Costs input fuel) old text = Tells old.files.told input text
 WorksOn (Generates seed output) old text = text ≡ source seed
-WorksOn (Upgrades input output) old text = Tells old.files.told input text
-WorksOn (Traces input from to) old text = Tells old.files.told input text
-WorksOn (Shows input form) old text = Tells old.files.told input text
-WorksOn (Explains input) old text = Tells old.files.told input text
-WorksOn (Lists input) old text = Tells old.files.told input text
+WorksOn other old text = MatchOption (input_of other) ⊥ (λ input. Tells old.files.told input text)
 
 -- the words ask for this to be done with this text
 abbrev pub Asking : List (List ℕ) → Outside → Asked → List ℕ → Type 0
@@ -69,54 +58,30 @@ LeadsTo need source status = (fault : Fault) × FirstFault need source fault × 
 abbrev pub CannotWrite : Asked → Outside → Outside → Type 0
 CannotWrite (Compiles input output) old new = Faulted old.files.writes new.files.writes
 CannotWrite (CompilesWithin input output k) old new = Faulted old.files.writes new.files.writes
-CannotWrite (Types input) old new = Faulted old.out.faults new.out.faults
-CannotWrite (Evaluates input turns) old new = Faulted old.out.faults new.out.faults
-CannotWrite (Checks input) old new = Faulted old.out.faults new.out.faults
-CannotWrite (Runs input fuel) old new = Faulted old.out.faults new.out.faults
-CannotWrite (Costs input fuel) old new = Faulted old.out.faults new.out.faults
+CannotWrite (Upgrades input output) old new = Faulted old.files.writes new.files.writes
 CannotWrite (Generates seed output) old new =
     Faulted old.files.writes new.files.writes ⊎ Faulted old.out.faults new.out.faults
-CannotWrite (Upgrades input output) old new = Faulted old.files.writes new.files.writes
-CannotWrite (Traces input from to) old new = Faulted old.out.faults new.out.faults
-CannotWrite (Shows input form) old new = Faulted old.out.faults new.out.faults
-CannotWrite (Explains input) old new = Faulted old.out.faults new.out.faults
-CannotWrite (Lists input) old new = Faulted old.out.faults new.out.faults
+CannotWrite other old new = Faulted old.out.faults new.out.faults
 
 -- the command has a budget
 abbrev pub HasBudget : Asked → Type 0
-HasBudget (Compiles input output) = ⊥
-HasBudget (CompilesWithin input output k) = ⊥
-HasBudget (Types input) = ⊥
 HasBudget (Evaluates input turns) = Unit {0}
-HasBudget (Checks input) = ⊥
 HasBudget (Runs input fuel) = Unit {0}
 HasBudget (Costs input fuel) = Unit {0}
-HasBudget (Generates seed output) = ⊥
-HasBudget (Upgrades input output) = ⊥
 HasBudget (Traces input from to) = Unit {0}
-HasBudget (Shows input form) = ⊥
-HasBudget (Explains input) = ⊥
-HasBudget (Lists input) = ⊥
+HasBudget other = ⊥
 
 -- the text is what the command needs, and the end isn't reached within the budget
 abbrev pub GoesOn : Asked → List ℕ → Type 0
-GoesOn (Compiles input output) source = ⊥
-GoesOn (CompilesWithin input output k) source = ⊥
-GoesOn (Types input) source = ⊥
 GoesOn (Evaluates input turns) source =
     (term : Tm) × IsChecked source term TInt × (has_cells (plain term) ≡ false) × IsSpent (plain term) turns
-GoesOn (Checks input) source = ⊥
 GoesOn (Runs input fuel) source =
     (program : SProg) × IsAcceptedText source program × GoesOnAfter (plain_program program) fuel
 GoesOn (Costs input fuel) source =
     (program : SProg) × IsAcceptedText source program × GoesOnAfter (plain_program program) fuel
-GoesOn (Generates seed output) source = ⊥
-GoesOn (Upgrades input output) source = ⊥
 GoesOn (Traces input from to) source =
     (program : SProg) × IsAcceptedText source program × GoesOnAfter (plain_program program) to
-GoesOn (Shows input form) source = ⊥
-GoesOn (Explains input) source = ⊥
-GoesOn (Lists input) source = ⊥
+GoesOn other source = ⊥
 
 -- no count of faults of the files or of the output rises in the call or stands at its last value
 pub record NoFaults (old new : Outside) : Type 0 where

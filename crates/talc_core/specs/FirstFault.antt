@@ -1,5 +1,5 @@
 -- The first fault of a text, in the one order: reading, checking, and what a command needs beyond that.
-use Rattle.std.specs.Prelude.{◌≡◌, ◌≢◌, ◌⊎◌, ℕ, List, true, false}
+use Rattle.std.specs.Prelude.{◌≡◌, ◌≢◌, ◌≤◌, ◌⊎◌, ℕ, List, length, true, false}
 use Rattle.idx_core.specs.declared.span.Span.{Span}
 use Rattle.f_terms.specs.declared.fault.Code.{Code}
 use Rattle.f_terms.specs.declared.fault.Code.TheVariants.{E15, E19}
@@ -10,10 +10,10 @@ use Rattle.f_terms.specs.Read.{place}
 use Rattle.f_terms.specs.Accepted.{IsAccepted}
 use Rattle.f_terms.specs.Faults as typing
 use Rattle.f_parser.specs.Text as parser
+use Rattle.t_types.specs.WellFormed.{max_number}
 use Rattle.t_terms.specs.declared.fault.TCode.{TCode}
 use Rattle.t_terms.specs.Spanned.{SProg, plain_program}
 use Rattle.t_text.specs.Text as assembly
-use Rattle.t_terms.specs.Whole.{Whole}
 use Rattle.t_rules.specs.Rules.{Accepted}
 use Rattle.t_rules.specs.Faults as checking
 use Rattle.talc_core.specs.declared.fault.Fault.{Fault}
@@ -123,12 +123,13 @@ OneFault = (need : Need) (text : List ℕ) (a b : Fault) → FirstFault need tex
 abbrev pub NoFaultWhereTaken : Type 0
 NoFaultWhereTaken = (need : Need) (text : List ℕ) (a : Fault) → IsTaken need text → FirstFault need text a → ⊥
 
--- the program of an assembly text keeps the bounds on programs; the text of one that does not is longer than any memory
-abbrev pub KeepsBounds : Need → List ℕ → Type 0
-KeepsBounds AnAssembly text = (program : SProg) → IsAssembly text program → Whole (plain_program program)
-KeepsBounds other text = Unit {0}
+-- an assembly text has no more bytes than a slice of memory may have, so that its names and labels can be counted; a
+-- source that is longer than it may be has a fault of its own
+abbrev pub FitsMemory : Need → List ℕ → Type 0
+FitsMemory AnAssembly text = length text ≤ max_number
+FitsMemory other text = Unit {0}
 
 -- each text is what is needed, or has a first fault
 abbrev pub TakenOrFault : Type 0
-TakenOrFault = (need : Need) (text : List ℕ) → KeepsBounds need text →
+TakenOrFault = (need : Need) (text : List ℕ) → FitsMemory need text →
     IsTaken need text ⊎ ((a : Fault) × FirstFault need text a)

@@ -15,10 +15,11 @@ use Rattle.talc_core.specs.Shown.{Showing, ShowsType, ShowsValue, ShowsAccepted,
 use Rattle.talc_core.specs.Shown.{SeedShown}
 use Rattle.talc_core.specs.FormShown.{ShowsForm}
 use Rattle.talc_core.specs.Explained.{ShowsExplained}
-use Rattle.talc_core.specs.Listed.{ShowsListing}
+use Rattle.talc_core.specs.Listed.{ListingShown, FaultListed, ShowsListed}
+use Rattle.talc_core.specs.Binding.{ShowsTypes}
 use Rattle.talc_core.specs.OnTexts.{Making}
 use Rattle.talc_core.specs.Command.{Asked, Compiles, CompilesWithin, Types, Evaluates, Checks, Runs, Generates}
-use Rattle.talc_core.specs.Command.{Upgrades, Traces, Explains, Lists, Costs}
+use Rattle.talc_core.specs.Command.{Upgrades, Traces, Explains, Lists, Costs, TypesNames}
 use Rattle.talc_core.specs.Command as command
 use Rattle.talc_core.specs.Command.{command_of}
 use Rattle.talc_core.specs.Lines.{fault_line, read_line, write_line, memory_line}
@@ -165,6 +166,47 @@ LineAnswer Says need input old new WriteFault = LineNotShown Says input old new
 LineAnswer Says need input old new Memory = OutOfMemory input old new
 LineAnswer Says need input old new Usage = ⊥
 
+-- ---- the command `listing`
+
+-- 1 and 3: as for any command, but that the listing up to the fault, with its page, is on the output
+pub record ListedRefused (status : Status) (input : List ℕ) (old new : Outside) : Type 0 where
+  pub source : List ℕ
+  pub fault : Fault
+  pub shown : List ℕ
+  pub read : Holds old.files.told input source
+  pub listed : FaultListed input source fault shown
+  pub leads : status_of fault ≡ status
+  pub line : Shows old.err new.err (fault_line fault)
+  pub out : new.out.taken ≡ gained old.out.taken shown
+  pub files : Unwritten old.files new.files
+  pub calls : ReadAlone input old.files new.files
+
+-- the listing up to the first fault of the input's text, with its page, is on the output
+pub record FaultPut (input : List ℕ) (old new : Outside) : Type 0 where
+  pub source : List ℕ
+  pub fault : Fault
+  pub shown : List ℕ
+  pub read : Holds old.files.told input source
+  pub listed : FaultListed input source fault shown
+  pub out : new.out.taken ≡ gained old.out.taken shown
+
+-- 7: nothing is shown; or the listing up to a fault is, and then the line that names the fault found no memory
+pub record ListedOutOfMemory (input : List ℕ) (old new : Outside) : Type 0 where
+  pub line : ShowsOrNot old.err new.err memory_line
+  pub out : (new.out ≡ old.out) ⊎ FaultPut input old new
+  pub files : Unwritten old.files new.files
+  pub calls : AtMostRead input old.files new.files
+
+-- what `listing` does; other statuses never come
+abbrev pub ListAnswer : List ℕ → Outside → Outside → Status → Type 0
+ListAnswer input old new Done = LineShown ListingShown input old new
+ListAnswer input old new Refused = ListedRefused Refused input old new
+ListAnswer input old new Limit = ListedRefused Limit input old new
+ListAnswer input old new ReadFault = NotRead input old new
+ListAnswer input old new WriteFault = LineNotShown (ShowsListed input) input old new
+ListAnswer input old new Memory = ListedOutOfMemory input old new
+ListAnswer input old new other = ⊥
+
 -- ---- the command `gen`
 
 -- the output's file is set to the source of the seed
@@ -260,7 +302,8 @@ Does old new status (Upgrades input output) = TextAnswer IsUpgraded AnAssembly i
 Does old new status (Traces input from to) = LineAnswer (ShowsTrace from to) AnAssembly input old new status
 Does old new status (command.Shows input form) = LineAnswer (ShowsForm form) AProgram input old new status
 Does old new status (Explains input) = LineAnswer (ShowsExplained input) AnyText input old new status
-Does old new status (Lists input) = LineAnswer ShowsListing AnAssembly input old new status
+Does old new status (Lists input) = ListAnswer input old new status
+Does old new status (TypesNames input) = LineAnswer ShowsTypes AnyTerm input old new status
 
 -- The whole of it: what the words ask for is done, or the user is told that they are no command.
 abbrev pub Headline : List (List ℕ) → Outside → Outside → Status → Type 0

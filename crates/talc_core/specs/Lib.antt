@@ -18,6 +18,7 @@ pub mod AtOdds
 pub mod Wanted
 pub mod Explained
 pub mod Listed
+pub mod Binding
 pub mod OnTexts
 pub mod Headline
 pub mod Steps

@@ -1,5 +1,6 @@
 -- What the steps of a call do: the contracts of private functions. Nothing that is promised rests on this file.
 use Rattle.std.specs.Prelude.{◌≡◌, ◌≤◌, ◌⊎◌, ◌+◌, ◌*◌, ℕ, ℤ, List, Result, Ok, Err, Vec, false}
+use Rattle.std.specs.Prelude.{Option, Some, None, MatchOption}
 use Rattle.std.specs.declared.alloc.Global.{Global}
 use Rattle.io_core.specs.Outside.{FilesState, SinkState, Faulted, IsAbsent, Holds, SameBut}
 use Rattle.io_core.specs.Outside.{with_file, gained, GainedPart}
@@ -28,12 +29,16 @@ use Rattle.talc_core.specs.declared.finding.Finding.{Finding}
 use Rattle.talc_core.specs.declared.finding.Told.{Told}
 use Rattle.talc_core.specs.declared.finding.Finding.TheVariants as finding
 use Rattle.talc_core.specs.declared.finding.Finding.TheVariants.{NoFault}
+use Rattle.talc_core.specs.declared.fault.Fault.{Fault}
+use Rattle.talc_core.specs.declared.reply.TextListing.{TextListing}
+use Rattle.talc_core.specs.declared.reply.RowsMade.{RowsMade}
+use Rattle.talc_core.specs.declared.reply.RowsMade.TheVariants as rows
 use Rattle.talc_core.specs.declared.reply.Ending.{Ending}
 use Rattle.talc_core.specs.declared.reply.Ending.TheVariants.{Ends, GoesOn}
 use Rattle.talc_core.specs.declared.reply.Reply.{Reply}
 use Rattle.talc_core.specs.Fault.{status_of}
 use Rattle.talc_core.specs.Command.{Asked, Compiles, CompilesWithin, Types, Evaluates, Checks, Runs, Generates}
-use Rattle.talc_core.specs.Command.{Upgrades, Traces, Explains, Lists, Costs}
+use Rattle.talc_core.specs.Command.{Upgrades, Traces, Explains, Lists, Costs, TypesNames}
 use Rattle.talc_core.specs.Command as command
 use Rattle.talc_core.specs.FirstFault.{Need, AnyText, AnyTerm, AProgram, CellFree, AnAssembly}
 use Rattle.talc_core.specs.FirstFault.{IsChecked, IsAcceptedText, IsTaken, FirstFault}
@@ -46,8 +51,9 @@ use Rattle.talc_core.specs.FormShown.{ShowsForm}
 use Rattle.talc_core.specs.AtOdds as odds
 use Rattle.talc_core.specs.AtOdds.{AtOdds, unread_told}
 use Rattle.talc_core.specs.Wanted.{CouldStand}
-use Rattle.talc_core.specs.Explained.{ShowsExplained}
-use Rattle.talc_core.specs.Listed.{ShowsListing}
+use Rattle.talc_core.specs.Explained.{ShowsExplained, explained}
+use Rattle.talc_core.specs.Listed.{ListingShown, RowsTo, FaultListed, ShowsListed}
+use Rattle.talc_core.specs.Binding.{ShowsTypes}
 use Rattle.talc_core.specs.OnTexts.{Making, RefusedBy, status_at}
 use Rattle.talc_core.specs.Headline.{Shows, ShowsOrNot, Unwritten, Unread}
 use Rattle.talc_core.specs.Headline.{ReadAlone, WrittenAlone, ReadThenWritten, AtMostRead}
@@ -166,6 +172,50 @@ ShowsFile Says need input old new out out' (Err Write) =
 ShowsFile Says need input old new out out' (Err Memory) =
     Unwritten old new × (out' ≡ out) × AtMostRead input old new
 
+-- the listing of a file's text, or up to its first fault, put on the output, or why not
+abbrev pub ListsFile :
+    List ℕ → FilesState → FilesState → SinkState → SinkState → Result Ending Failure → Type 0
+ListsFile input old new out out' (Ok Ends) =
+    (text shown : List ℕ) × Holds old.told input text × ListingShown text shown
+    × (out'.taken ≡ gained out.taken shown) × Unwritten old new × ReadAlone input old new
+ListsFile input old new out out' (Ok GoesOn) = ⊥
+ListsFile input old new out out' (Err (Refused fault)) =
+    (text shown : List ℕ) × Holds old.told input text × FaultListed input text fault shown
+    × (out'.taken ≡ gained out.taken shown) × Unwritten old new × ReadAlone input old new
+ListsFile input old new out out' (Err Read) =
+    (Faulted old.reads new.reads ⊎ IsAbsent old.told input) × Unwritten old new × (out' ≡ out)
+    × ReadAlone input old new
+ListsFile input old new out out' (Err Write) =
+    (text shown : List ℕ) × (ending : Status) × Holds old.told input text × ShowsListed input ending text shown
+    × Faulted out.faults out'.faults × GainedPart out.taken shown out'.taken × Unwritten old new
+    × ReadAlone input old new
+ListsFile input old new out out' (Err Memory) =
+    Unwritten old new × (out' ≡ out) × AtMostRead input old new
+
+-- the rows of a text, or up to its first fault
+abbrev pub AreRows : List ℕ → RowsMade → Type 0
+AreRows text (rows.Whole listing) = ListingShown text listing.items
+AreRows text (rows.UpTo fault listing) = FirstFault AnAssembly text fault × RowsTo text fault listing.items
+
+-- the page of the first fault of an assembly text
+pub record IsFaultPage (name text page : List ℕ) : Type 0 where
+  pub fault : Fault
+  pub told : odds.Told
+  pub first : FirstFault AnAssembly text fault
+  pub at_odds : AtOdds text fault told
+  pub is : page ≡ explained name text fault told
+
+-- the listing of a text of this name, or up to its first fault, with its page
+abbrev pub IsListed : (name text : List ℕ) → TextListing → Type 0
+IsListed name text listed =
+    MatchOption listed.fault (ListingShown text listed.shown.items)
+    (λ fault. FaultListed name text fault listed.shown.items)
+
+-- how `listing` ends, once it has shown what it shows of a text with this first fault, or with none
+abbrev pub ended_by : Option Fault → Result Ending Failure
+ended_by None = Ok Ends
+ended_by (Some fault) = Err (Refused fault)
+
 -- memory was wanted
 abbrev pub WantsMemory : Refusal → Type 0
 WantsMemory (refusal.Fault fault) = ⊥
@@ -232,7 +282,8 @@ Performs (command.Shows input form) old new out out' result =
     ShowsFile (ShowsForm form) AProgram input old new out out' result
 Performs (Explains input) old new out out' result =
     ShowsFile (ShowsExplained input) AnyText input old new out out' result
-Performs (Lists input) old new out out' result = ShowsFile ShowsListing AnAssembly input old new out out' result
+Performs (Lists input) old new out out' result = ListsFile input old new out out' result
+Performs (TypesNames input) old new out out' result = ShowsFile ShowsTypes AnyTerm input old new out out' result
 
 -- ---- the lines for the user
 

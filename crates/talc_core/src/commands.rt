@@ -14,6 +14,7 @@ use crate::commands::seed::show_seed;
 use crate::commands::show::show_form;
 use crate::commands::trace::{Window, show_trace};
 use crate::commands::type_of::show_type;
+use crate::commands::types::show_types;
 use crate::commands::upgrade::upgrade_file;
 use crate::outside::put_line;
 use crate::reply::{Ending, Reply};
@@ -33,6 +34,7 @@ mod seed;
 mod show;
 pub(crate) mod trace;
 mod type_of;
+mod types;
 mod upgrade;
 
 pub use check::check_text;
@@ -40,11 +42,12 @@ pub use compile::{compile_text, compile_text_within};
 pub use cost::cost_text;
 pub use eval::eval_text;
 pub use explain::explain_text;
-pub use listed::listing_text;
+pub use listed::{listed_text, listing_text};
 pub use run::run_text;
 pub use show::form_of_text;
 pub use trace::trace_text;
 pub use type_of::type_of_text;
+pub use types::types_text;
 pub use upgrade::upgrade_text;
 
 // Puts a reply on the output.
@@ -82,6 +85,7 @@ pub(crate) fn perform<F: Files, O: Sink>(
         Command::Show { input, form } => show_form(alloc, files, out, input, form),
         Command::Explain { input } => show_explanation(alloc, files, out, input),
         Command::Listing { input } => show_listing(alloc, files, out, input),
+        Command::Types { input } => show_types(alloc, files, out, input),
         Command::Upgrade { input, output } => upgrade_file(alloc, files, input, output),
         Command::Trace { input, from, to } => {
             show_trace(alloc, files, out, input, Window { from, to })

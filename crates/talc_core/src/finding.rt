@@ -23,7 +23,7 @@ use f_parser::{closed_terms, parse};
 use f_terms::{Code, FFault, FTerm};
 use fault_hint::Form;
 use idx_core::{OutOfMemory, Span};
-use mismatch_text::{assembly_line, form_of, found_form, not_int_line, source_line, value_place};
+use mismatch_text::{assembly_line, form_of, found_form, not_int_line, source_lines, value_place};
 use std::alloc::Global;
 use t_check::check_salted;
 use t_reader::{read_salted, salt_of};
@@ -84,7 +84,7 @@ fn find_in_refused(alloc: Global, term: &FTerm, fault: FFault) -> Result<Finding
     match fault {
         FFault::Refused { code, span } => {
             let mismatch = mismatch_of(alloc, term)?;
-            let lines = source_line(alloc, &mismatch)?;
+            let lines = source_lines(alloc, &mismatch)?;
             let told = only(lines, found_form(&mismatch));
             Ok(Finding::Fault(Fault::Source(code, span), told))
         }

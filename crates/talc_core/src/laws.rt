@@ -15,7 +15,8 @@ ghost use Rattle.talc_core.specs.Composition.{ShownSourceIsTaken, ShownSourceSho
 ghost use Rattle.talc_core.specs.CostLaws.{OneCost, CostEndsAsRun};
 ghost use Rattle.talc_core.specs.Exact.{HeadlineIsExact};
 ghost use Rattle.talc_core.specs.Explained.{CheckedIsExplained, OneExplanation, TakenIsExplained};
-ghost use Rattle.talc_core.specs.Listed.{OneListing};
+ghost use Rattle.talc_core.specs.Listed.{OneFaultListed, OneListing};
+ghost use Rattle.talc_core.specs.Binding.{OneTypesPage};
 ghost use Rattle.talc_core.specs.TextLaws.{MismatchLaws, TextLaws};
 ghost use Rattle.talc_core.specs.Traced.{LinesShowKinds, OneLine};
 ghost use Rattle.talc_core.specs.TraceLaws.{OneTrace, TraceEndsAsRun};
@@ -88,8 +89,8 @@ pub fn no_fault_where_taken()
     texts_keep_laws();
 }
 
-/// Each text is what is needed of it, or has a first fault; an assembly text where its program keeps the bounds on
-/// programs.
+/// Each text is what is needed of it, or has a first fault; an assembly text where it has at most 9223372036854775807
+/// bytes, which is what a slice of memory may have.
 pub fn taken_or_fault()
     ensures { TakenOrFault }
 {
@@ -338,6 +339,24 @@ pub fn one_listing()
     ensures { OneListing }
 {
     texts_keep_laws();
+    places_are_known();
+}
+
+/// What `types` shows of a text is told by the text.
+pub fn one_types_page()
+    ensures { OneTypesPage }
+{
+    texts_keep_laws();
+    f_lexer::one_cut();
+    types_page::one_binding();
+}
+
+/// Of a text with a first fault `listing` shows one text, told by its name and the text.
+pub fn one_fault_listed()
+    ensures { OneFaultListed }
+{
+    texts_keep_laws();
+    mismatches_keep_laws();
     places_are_known();
 }
 

@@ -17,7 +17,8 @@ mod top;
 
 pub use commands::{
     check_text, compile_text, compile_text_within, cost_text, eval_text, explain_text,
-    form_of_text, listing_text, run_text, trace_text, type_of_text, upgrade_text,
+    form_of_text, listed_text, listing_text, run_text, trace_text, type_of_text, types_text,
+    upgrade_text,
 };
 pub use fault::Fault;
 pub use laws::{
@@ -26,15 +27,16 @@ pub use laws::{
     compiled_is_kept, compiled_is_taken, compiled_means_the_same, compiled_never_sticks,
     compiled_runs_are_evaluations, compiled_runs_are_shown, compiled_shows_the_same,
     compiled_values_run, cost_ends_as_run, lines_show_kinds, no_fault_where_taken,
-    one_compiled_text, one_cost, one_explanation, one_fault, one_form, one_line, one_listing,
-    one_trace, one_upgrade, one_written_text, shown_assembly_is_compiled, shown_source_is_kept,
-    shown_source_is_taken, shown_source_is_the_same, shown_source_shows_the_same,
-    taken_is_explained, taken_or_fault, trace_ends_as_run, upgraded_is_kept, upgraded_is_taken,
-    upgraded_is_the_same, upgraded_never_sticks, upgraded_runs_the_same, upgraded_traces_the_same,
+    one_compiled_text, one_cost, one_explanation, one_fault, one_fault_listed, one_form, one_line,
+    one_listing, one_trace, one_types_page, one_upgrade, one_written_text,
+    shown_assembly_is_compiled, shown_source_is_kept, shown_source_is_taken,
+    shown_source_is_the_same, shown_source_shows_the_same, taken_is_explained, taken_or_fault,
+    trace_ends_as_run, upgraded_is_kept, upgraded_is_taken, upgraded_is_the_same,
+    upgraded_never_sticks, upgraded_runs_the_same, upgraded_traces_the_same,
 };
 pub use lines::fault_line;
 pub use refusal::Refusal;
-pub use reply::{Ending, Reply};
+pub use reply::{Ending, Reply, TextListing};
 pub use seeds::source_of;
 pub use status::Status;
 pub use top::talc;

@@ -2,6 +2,7 @@
 ghost use Rattle.std.specs.Prelude.{◌≡◌};
 ghost use Rattle.talc_core.specs.OnTexts.{status_at};
 
+use crate::fault::Fault;
 use crate::status::Status;
 
 /// How a command ended that failed nowhere (own choice).
@@ -32,4 +33,20 @@ pub struct Reply {
     pub ending: Ending,
     /// The bytes of the line, or of the lines, each with its line end.
     pub line: Vec<u8>,
+}
+
+/// The listing of an assembly text, or up to its first fault (own choice).
+#[derive(Debug, Drop)]
+pub struct TextListing {
+    /// The first fault of the text, where it has one.
+    pub fault: Option<Fault>,
+    /// The listing; where the text has a fault, up to its place, and then the page of the fault.
+    pub shown: Vec<u8>,
+}
+
+// The rows of a listing: of the whole program, or up to the first fault of the text.
+#[derive(Drop)]
+pub(crate) enum RowsMade {
+    Whole(Vec<u8>),
+    UpTo(Fault, Vec<u8>),
 }

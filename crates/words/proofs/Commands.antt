@@ -16,7 +16,7 @@ use Rattle.clap.specs.declared.error.kind.ErrorKind.TheVariants.{MissingRequired
 use Rattle.words.specs.Description.{talc_app}
 use Rattle.words.specs.declared.form.Form.{Form}
 use Rattle.words.specs.Command.{Asked, Checks, CompilesWithin, Costs, EnoughRegisters, Evaluates, Explains, Generates}
-use Rattle.words.specs.Command.{Lists, NamesForm, Runs, Shows, Types}
+use Rattle.words.specs.Command.{Lists, NamesForm, Runs, Shows, Types, TypesNames}
 use Rattle.words.specs.Command.{asked_between, asked_in, asked_of, asked_with, asked_within, command_of, form_in}
 use Rattle.words.specs.Command.{number_in, number_of, where_none}
 use Rattle.words.specs.Laws.{CommandWhereTaken, RegistersAreEnough}
@@ -64,6 +64,9 @@ cost_leaf = leaf (drop 10 (built talc_app).subs)
 abbrev listing_leaf : Shape
 listing_leaf = leaf (drop 11 (built talc_app).subs)
 
+abbrev types_leaf : Shape
+types_leaf = leaf (drop 12 (built talc_app).subs)
+
 -- the argument takes a value at each use or asks for help, and has no default
 abbrev IsOrdinary : Rule → Type 0
 IsOrdinary a = IsPlain a × (a.defaults ≡ [])
@@ -105,6 +108,9 @@ cost_ordinary = ((inl (refl, refl), refl), ((inl (refl, refl), refl), ((inr refl
 
 listing_ordinary : Each IsOrdinary listing_leaf.rules
 listing_ordinary = ((inl (refl, refl), refl), ((inr refl, refl), tt))
+
+types_ordinary : Each IsOrdinary types_leaf.rules
+types_ordinary = ((inl (refl, refl), refl), ((inr refl, refl), tt))
 
 compile_numbers : Each (IsRegistersIf (codes "registers")) compile_leaf.rules
 compile_numbers = (λ named. cc, (λ named. cc, (λ named. (refl, refl), (λ named. cc, tt))))
@@ -276,6 +282,11 @@ listing_asks : (rows : List Row) → AreRows listing_leaf.rules rows → f.check
 listing_asks rows held none =
     file_asks Lists (λ t. tt) listing_leaf rows held (one_given (is_given (codes "IN") rows) none)
 
+types_asks : (rows : List Row) → AreRows types_leaf.rules rows → f.check_fault types_leaf rows false ≡ [] →
+    Asks (asked_in (codes "types") rows)
+types_asks rows held none =
+    file_asks TypesNames (λ t. tt) types_leaf rows held (one_given (is_given (codes "IN") rows) none)
+
 -- a level of the parse of a subcommand, no error in it, and a form that has its name
 level_asks : (s : Shape) → Each IsOrdinary s.rules →
     ((rows : List Row) → AreRows s.rules rows → f.check_fault s rows false ≡ [] → NamesForm (Some (s.name, rows)) →
@@ -316,7 +327,8 @@ each_asks =
     (both (level_asks show_leaf show_ordinary (λ rows held given named. show_asks rows held given (named refl)))
     (both (formless_asks explain_leaf explain_ordinary explain_asks)
     (both (formless_asks cost_leaf cost_ordinary cost_asks)
-    (both (formless_asks listing_leaf listing_ordinary listing_asks) tt)))))))))))
+    (both (formless_asks listing_leaf listing_ordinary listing_asks)
+    (both (formless_asks types_leaf types_ordinary types_asks) tt))))))))))))
 
 -- so it is for the first subcommand for which a test holds, where there is one
 abbrev FoundAsks : Option Shape → List Text → Type 0

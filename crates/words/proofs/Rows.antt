@@ -3,7 +3,7 @@ use Rattle.std.proofs.Common.{◌≡◌, [], ◌∷◌, Some, None, refl}
 use Rattle.std.specs.Prelude.{codes}
 use Rattle.clap.proofs.OnLiterals.{clap_on_literals}
 use Rattle.words.specs.Command.{Checks, Compiles, CompilesWithin, Costs, Evaluates, Explains, Generates, Lists, Runs}
-use Rattle.words.specs.Command.{Shows, Traces, Types, Upgrades, command_of}
+use Rattle.words.specs.Command.{Shows, Traces, Types, TypesNames, Upgrades, command_of}
 use Rattle.words.specs.declared.form.Form.TheVariants as form
 
 -- talc compile x.f x.tal
@@ -363,6 +363,19 @@ listing_missing_file = refl
 listing_fuel : command_of (codes "talc" ∷ codes "listing" ∷ codes "x.tal" ∷ codes "--fuel" ∷ codes "1" ∷ []) ≡ None
 unfolding command_of clap_on_literals
 listing_fuel = refl
+
+-- talc types x.f, without the file, and with an option of another command
+types_words : command_of (codes "talc" ∷ codes "types" ∷ codes "x.f" ∷ []) ≡ Some (TypesNames (codes "x.f"))
+unfolding command_of clap_on_literals
+types_words = refl
+
+types_missing_file : command_of (codes "talc" ∷ codes "types" ∷ []) ≡ None
+unfolding command_of clap_on_literals
+types_missing_file = refl
+
+types_form : command_of (codes "talc" ∷ codes "types" ∷ codes "x.f" ∷ codes "--form" ∷ codes "cps" ∷ []) ≡ None
+unfolding command_of clap_on_literals
+types_form = refl
 
 -- no command
 other_words : command_of (codes "talc" ∷ codes "link" ∷ codes "x.tal" ∷ codes "y.tal" ∷ []) ≡ None

@@ -16,8 +16,8 @@ use Rattle.words.specs.Description.{talc_app, whole_number}
 -- write it to the file OUT, to write the program of the TAL text of IN to the file OUT in the newest version of the
 -- language, to run the TAL text of IN and show its states from one number of instructions to another, to show a form
 -- of the program of the source text of IN, to show what is wrong with the source or TAL text of IN, to run the TAL
--- text of IN for so many instructions and show what the run cost, or to show the TAL text of IN with the types of the
--- registers at each place
+-- text of IN for so many instructions and show what the run cost, to show the TAL text of IN with the types of the
+-- registers at each place, or to show what the forms of the source text of IN bind, with the types
 pub data Asked : Type 0 where
   Compiles : (input output : Text) → Asked
   CompilesWithin : (input output : Text) (registers : ℕ) → Asked
@@ -32,6 +32,7 @@ pub data Asked : Type 0 where
   Explains : (input : Text) → Asked
   Costs : (input : Text) (fuel : ℕ) → Asked
   Lists : (input : Text) → Asked
+  TypesNames : (input : Text) → Asked
 
 -- the number that a text writes, where `clap`'s reader of whole numbers takes it: decimal digits, perhaps after a plus,
 -- of a number below 2 ^ 64
@@ -91,7 +92,8 @@ asked_in name rows =
     else (if bytes_eq name (codes "explain") then option_map Explains input
     else (if bytes_eq name (codes "cost") then asked_with Costs input (number_in (codes "fuel") rows)
     else (if bytes_eq name (codes "listing") then option_map Lists input
-    else None)))))))))))
+    else (if bytes_eq name (codes "types") then option_map TypesNames input
+    else None))))))))))))
 
 abbrev pub asked_of : Option (Text × List Row) → Option Asked
 asked_of entered = option_and_then (λ p. asked_in p.0 p.1) entered

@@ -102,6 +102,10 @@ cost_app = with_rule (with_rule (new_app (codes "cost")) (file_rule (codes "IN")
 abbrev pub listing_app : App
 listing_app = with_rule (new_app (codes "listing")) (file_rule (codes "IN"))
 
+-- types IN
+abbrev pub types_app : App
+types_app = with_rule (new_app (codes "types")) (file_rule (codes "IN"))
+
 -- the command line without its subcommands: one must be given, and there is no `help` among them
 abbrev pub bare_app : App
 bare_app =
@@ -112,4 +116,5 @@ abbrev pub talc_app : App
 talc_app =
     fold with_subcommand bare_app
     (compile_app.top ∷ check_app.top ∷ run_app.top ∷ typeof_app.top ∷ eval_app.top ∷ gen_app.top ∷ upgrade_app.top
-    ∷ trace_app.top ∷ show_app.top ∷ explain_app.top ∷ cost_app.top ∷ listing_app.top ∷ [])
+    ∷ trace_app.top ∷ show_app.top ∷ explain_app.top ∷ cost_app.top ∷ listing_app.top
+    ∷ types_app.top ∷ [])

@@ -4,10 +4,11 @@ use Rattle.clap.specs.Words.{Text}
 use Rattle.words.specs.declared.command.Command.{Command}
 use Rattle.words.specs.declared.command.Command.TheVariants.{Compile, CompileWithin, Check, Run, Typeof, Eval, Gen}
 use Rattle.words.specs.declared.command.Command.TheVariants.{Upgrade, Trace, Show, Explain, Cost, Listing}
+use Rattle.words.specs.declared.command.Command.TheVariants.{Types as TypesPage}
 use Rattle.words.specs.declared.command.NoCommand.{NoCommand}
 use Rattle.words.specs.declared.command.NoCommand.TheVariants.{Usage, Memory}
 use Rattle.words.specs.Command.{Asked, Compiles, CompilesWithin, Checks, Runs, Types, Evaluates, Generates}
-use Rattle.words.specs.Command.{Upgrades, Traces, Shows, Explains, Costs, Lists, command_of}
+use Rattle.words.specs.Command.{Upgrades, Traces, Shows, Explains, Costs, Lists, TypesNames, command_of}
 
 -- what a command as the code has it asks for
 abbrev pub asked_by : Command → Asked
@@ -24,6 +25,7 @@ asked_by (Show input form) = Shows input.now form
 asked_by (Explain input) = Explains input.now
 asked_by (Cost input fuel) = Costs input.now fuel
 asked_by (Listing input) = Lists input.now
+asked_by (TypesPage input) = TypesNames input.now
 
 -- a command where this is asked for, and a text where nothing is
 abbrev pub AsksFor : Option Asked → Result Command NoCommand → Type 0

@@ -72,6 +72,10 @@ pub enum Command<'a> {
     Listing {
         input: &'a str,
     },
+    /// `types IN`: shows what the forms of the source text of a file bind, with the types.
+    Types {
+        input: &'a str,
+    },
 }
 
 /// Why words come to no command.

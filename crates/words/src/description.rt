@@ -5,7 +5,7 @@ ghost use Rattle.clap.specs.Words.{app_of, rule_of, with_subcommand};
 ghost use Rattle.words.specs.Description.{file_rule, number_rule, registers_rule, compile_app, check_app, run_app};
 ghost use Rattle.words.specs.Description.{typeof_app, eval_app, gen_app, upgrade_app, trace_app};
 ghost use Rattle.words.specs.Description.{cost_app, explain_app, form_rule, listing_app, show_app};
-ghost use Rattle.words.specs.Description.{bare_app, talc_app};
+ghost use Rattle.words.specs.Description.{bare_app, talc_app, types_app};
 
 use clap::builder::ValueParser;
 use clap::{Arg, ArgAction, Command, value_parser};
@@ -172,6 +172,14 @@ fn listing_words<'a>(alloc: Global) -> Result<Command<'a>, AllocError>
         .arg(file(alloc, "IN", "The file to read"))
 }
 
+fn types_words<'a>(alloc: Global) -> Result<Command<'a>, AllocError>
+    ensures { IfOk result (λ c. app_of c ≡ types_app) }
+{
+    Command::new(alloc, "types")
+        .about("Shows the names that the source text IN binds, with their types")
+        .arg(file(alloc, "IN", "The file to read"))
+}
+
 // The command line without its subcommands: one must be given, and there is no `help` among them.
 fn bare_words<'a>(alloc: Global) -> Command<'a>
     ensures { app_of result ≡ bare_app }
@@ -209,6 +217,7 @@ pub(crate) fn talc_words<'a>(alloc: Global) -> Result<Command<'a>, AllocError>
     let show = with_words(trace, show_words(alloc))?;
     let explain = with_words(show, explain_words(alloc))?;
     let cost = with_words(explain, cost_words(alloc))?;
-    let all = with_words(cost, listing_words(alloc))?;
+    let listing = with_words(cost, listing_words(alloc))?;
+    let all = with_words(listing, types_words(alloc))?;
     Ok(all)
 }

@@ -156,6 +156,10 @@ fn entered<'a>(name: &str, matches: &ArgMatches<'a>) -> Option<Command<'a>>
             let input = value(matches, "IN")?;
             Some(Command::Listing { input })
         }
+        "types" => {
+            let input = value(matches, "IN")?;
+            Some(Command::Types { input })
+        }
         _ => None,
     }
 }

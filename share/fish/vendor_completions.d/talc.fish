@@ -32,3 +32,5 @@ complete -c talc -n '__fish_seen_subcommand_from cost' -l fuel -x -d 'The most i
 complete -c talc -n '__fish_seen_subcommand_from cost' -k -a '(__fish_complete_suffix .tal)'
 complete -c talc -n __fish_use_subcommand -a listing -d 'Shows the TAL text IN with the types of the registers at each place'
 complete -c talc -n '__fish_seen_subcommand_from listing' -k -a '(__fish_complete_suffix .tal)'
+complete -c talc -n __fish_use_subcommand -a types -d 'Shows the names that the source text IN binds, with their types'
+complete -c talc -n '__fish_seen_subcommand_from types' -k -a '(__fish_complete_suffix .f)'

@@ -139,3 +139,10 @@ fn listing_has_its_value(rt: HostRuntime) -> Result<(), Fail> {
     let line = "talc listing x.tal";
     asks(&rt, rt.alloc(), line, Command::Listing { input })
 }
+
+#[test]
+fn types_has_its_value(rt: HostRuntime) -> Result<(), Fail> {
+    let input = "x.f";
+    let line = "talc types x.f";
+    asks(&rt, rt.alloc(), line, Command::Types { input })
+}

@@ -78,7 +78,7 @@ fn tal_note<'a>(name: &'a [u8], text: &[u8], code: TCode, place: Span, told: &'a
 }
 
 // The page of a fault of the text of this name, with what is told of it.
-fn explain_fault(
+pub(crate) fn explain_fault(
     alloc: Global,
     name: &[u8],
     text: &[u8],

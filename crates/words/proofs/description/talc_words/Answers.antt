@@ -26,4 +26,5 @@ returns c =
     let show = added _ _ _ _ _ c.in_ok-show.ensures trace c.show_words.ensures refl in
     let explain = added _ _ _ _ _ c.in_ok-explain.ensures show c.explain_words.ensures refl in
     let cost = added _ _ _ _ _ c.in_ok-cost.ensures explain c.cost_words.ensures refl in
-    added _ _ _ _ _ c.in_ok-all.ensures cost c.listing_words.ensures refl
+    let listing = added _ _ _ _ _ c.in_ok-listing.ensures cost c.listing_words.ensures refl in
+    added _ _ _ _ _ c.in_ok-all.ensures listing c.types_words.ensures refl

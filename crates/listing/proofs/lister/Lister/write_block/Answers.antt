@@ -1,38 +1,18 @@
-use Rattle.std.proofs.Common.{◌∙◌, ap, arith, length, refl}
+use Rattle.std.proofs.Common.{ap, arith, length}
 use Rattle.t_terms.specs.Read.{spanned}
 use Rattle.listing.specs.Writing.{program_of, text_of}
-use Rattle.listing.proofs.Steps.{as_known, as_last, as_steps, as_text, block_parts, has_places_in, Steps}
+use Rattle.listing.proofs.Steps.{as_begun, as_text, block_parts, Steps}
 use Rattle.listing.proofs.lister.Lister.write_block.Goals as goal
 
-pub write_known-requires-clause-there : goal.write_known-requires-clause-there
-write_known-requires-clause-there c =
-    has_places_in (program_of c.args.self.now) _ c.args.number c.args.block.now _ c.write_text.ensures.same.1
-    c.requires.there refl 0 (omega arith)
-
-pub write_steps-requires-clause-there : goal.write_steps-requires-clause-there
-write_steps-requires-clause-there c =
-    has_places_in (program_of c.args.self.now) _ c.args.number c.args.block.now _
-    (c.write_known.ensures.same.1 ∙ c.write_text.ensures.same.1) c.requires.there
-    (ap (λ (xs : Steps). length xs) c.deref.ensures.value)
-
-pub write_last-requires-clause-there : goal.write_last-requires-clause-there
-write_last-requires-clause-there c =
-    has_places_in (program_of c.args.self.now) _ c.args.number c.args.block.now _
-    (c.write_steps.ensures.same.1 ∙ c.write_known.ensures.same.1 ∙ c.write_text.ensures.same.1) c.requires.there
-    (ap (λ (xs : Steps). length xs) c.deref-2.ensures.value)
+pub write_begun-requires-clause-few : goal.write_begun-requires-clause-few
+write_begun-requires-clause-few c =
+    let same = ap (λ (xs : Steps). length xs) c.as_slice-steps.ensures.value in omega (arith, same)
 
 pub returns-clause-rows : goal.returns-clause-rows
 returns-clause-rows c =
     let text = text_of c.args.self.now in
     let P = program_of c.args.self.now in
-    let steps = c.args.block.now.body.items in
-    let text_1 = c.write_known.ensures.same.0 ∙ c.write_text.ensures.same.0 in
-    let text_3 = c.write_last.ensures.same.0 ∙ c.write_steps.ensures.same.0 ∙ text_1 in
-    let program_1 = c.write_known.ensures.same.1 ∙ c.write_text.ensures.same.1 in
-    let program_2 = c.write_steps.ensures.same.1 ∙ program_1 in
-    block_parts text P c.args.number (spanned c.args.block.now) _ _ _ _ _ _ c.in_ok-write_text.ensures.row
-    (as_known P _ c.args.number 0 _ _ c.write_text.ensures.same.1 c.in_ok-write_known.ensures.row)
-    (as_steps text _ P _ c.args.number steps _ _ _ text_1 program_1 c.deref.ensures.value
-    c.in_ok-write_steps.ensures.rows)
-    (as_last P _ c.args.number steps _ _ _ program_2 c.deref-2.ensures.value c.in_ok-write_last.ensures.row)
-    (as_text text _ _ _ _ _ text_3 c.in_ok-write_text-2.ensures.row)
+    block_parts text P c.args.number (spanned c.args.block.now) _ _ _
+    (as_begun text P c.args.number (spanned c.args.block.now) _ _ _ _ c.as_slice-steps.ensures.value
+    c.in_ok-write_begun.ensures.rows)
+    (as_text text _ _ _ _ _ c.write_begun.ensures.same.0 c.in_ok-write_text.ensures.row)

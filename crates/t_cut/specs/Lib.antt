@@ -1,0 +1,4 @@
+pub mod Before
+pub mod Cut
+pub mod Laws
+pub mod Steps

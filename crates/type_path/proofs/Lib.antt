@@ -1,0 +1,5 @@
+pub mod Steps
+mod Walks
+mod SourceFields
+mod SourceWalks
+mod Rows

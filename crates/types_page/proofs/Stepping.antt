@@ -1,0 +1,279 @@
+-- The steps of the walk over a term: each leaves what is found in the end as it is.
+use Rattle.std.proofs.Common.{◌≡◌, ◌<◌, ◌≤◌, ℕ, ◌+◌, ◌-◌, List, [], ◌∷◌, ◌++◌, length, refl, sym, ap, ap₂, ◌∙◌, subst}
+use Rattle.std.proofs.Common.{arith, append_assoc, slice_set}
+use Rattle.std.proofs.lemmas.List.{append-nil}
+use Rattle.std.proofs.Math.Seq.{set-append_seam}
+use Rattle.idx_core.specs.Laws as laws
+use Rattle.f_terms.specs.Ty.{Ty, TInt, TArrow, TAll, TTuple, Tys, NoTys, MoreTys, shift}
+use Rattle.f_terms.specs.TyLaws.{types_part, types_over, shift_none}
+use Rattle.f_terms.specs.Tm.{Tm, SVar, SNum, SFix, SApp, SGen, SInst, STuple, SProj, SArith, SIf0, SLet, SPack}
+use Rattle.f_terms.specs.Tm.{SOpen, SRef, SDeref, SAssign, Tms, NoTms, MoreTms, plain}
+use Rattle.f_terms.specs.Typing.{ty_at, raised, in_fix, in_open}
+use Rattle.f_terms.specs.Noted.{or_int, opened_of, outside, result_of, type_of}
+use Rattle.types_page.specs.Binders.{Value, Function, TypeName, Opened, Binder, binder}
+use Rattle.types_page.specs.Walk.{Named, Now, context, Low, IsLow, StayLow, Todo, Visit, VisitAll}
+use Rattle.types_page.specs.Walk.{binders, names_of, visited, done, all_done, begun, left}
+use Rattle.types_page.specs.Walk.{left_fields, weight, steps, Steps}
+use Rattle.types_page.proofs.Fields.{state, state_is, fields}
+
+-- ---- names in scope
+
+same_now : (n : ℕ) (t : Ty) → shift (n - n) 0 t ≡ t
+same_now n t = let z : n - n ≡ 0 = omega arith in ap (λ m. shift m 0 t) z ∙ shift_none t
+
+raised_context : (n : ℕ) (bs : List Named) → Low n bs → raised (context n bs) ≡ context (n + 1) bs
+raised_context n [] ok = refl
+raised_context n (b ∷ bs) ok =
+    let le = ok.0 in
+    let e : (n - b.at) + 1 ≡ n + 1 - b.at = omega (arith, le) in
+    let up : shift 1 0 (shift (n - b.at) 0 b.ty) ≡ shift (n + 1 - b.at) 0 b.ty =
+    laws.shift_add_law types_part types_over (n - b.at) 1 0 b.ty ∙ ap (λ m. shift m 0 b.ty) e in
+    ap₂ MoreTys up (raised_context n bs ok.1)
+
+up : (n : ℕ) (bs : List Named) → Low n bs → Low (n + 1) bs
+up n [] ok = tt
+up n (b ∷ bs) ok = let le = ok.0 in (omega (arith, le), up n bs ok.1)
+
+one_less : (n : ℕ) → n ≡ n + 1 - 1
+one_less n = omega arith
+
+at_most : (n : ℕ) → n ≤ n
+at_most n = omega arith
+
+-- ---- lists of what is to be done
+
+left_is : (e : Tm) (k : ℕ) (ts : List Todo) → left e k ts ≡ left e k [] ++ ts
+left_is (SVar s i) k ts = refl
+left_is (SNum s z) k ts = refl
+left_is (SFix s a r e) k ts = refl
+left_is (SApp s f x) k ts = refl
+left_is (SGen s e) k ts = refl
+left_is (SInst s e t) k ts = refl
+left_is (STuple s es) k ts = refl
+left_is (SProj s i e) k ts = refl
+left_is (SArith s op a b) k ts = refl
+left_is (SIf0 s c a b) k ts = refl
+left_is (SLet s a b) k ts = refl
+left_is (SPack s h e r) k ts = refl
+left_is (SOpen s a b) k ts = refl
+left_is (SRef s e) k ts = refl
+left_is (SDeref s e) k ts = refl
+left_is (SAssign s a b) k ts = refl
+
+all_done_append : (us ts : List Todo) (x : Now) → all_done (us ++ ts) x ≡ all_done ts (all_done us x)
+all_done_append [] ts x = refl
+all_done_append (u ∷ us) ts x = all_done_append us ts (done u x)
+
+stay_append : (us ts : List Todo) (x : Now) → StayLow us x → StayLow ts (all_done us x) → StayLow (us ++ ts) x
+stay_append [] ts x h k = k
+stay_append (u ∷ us) ts x h k = (h.0, stay_append us ts (done u x) h.1 k)
+
+less_left : (e : Tm) (k : ℕ) (ts : List Todo) → steps (left e k ts) < weight e + steps ts
+less_left (SVar s i) k ts = omega arith
+less_left (SNum s z) k ts = omega arith
+less_left (SFix s a r e) k ts = omega arith
+less_left (SApp s f x) k ts = omega arith
+less_left (SGen s e) k ts = omega arith
+less_left (SInst s e t) k ts = omega arith
+less_left (STuple s es) k ts = omega arith
+less_left (SProj s i e) k ts = omega arith
+less_left (SArith s op a b) k ts = omega arith
+less_left (SIf0 s c a b) k ts = omega arith
+less_left (SLet s a b) k ts = omega arith
+less_left (SPack s h e r) k ts = omega arith
+less_left (SOpen s a b) k ts = omega arith
+less_left (SRef s e) k ts = omega arith
+less_left (SDeref s e) k ts = omega arith
+less_left (SAssign s a b) k ts = omega arith
+
+-- ---- a form and its parts
+
+module _ (x : Now) where
+  abbrev f : List Binder
+  f = x.found
+
+  abbrev n : ℕ
+  n = x.around
+
+  abbrev g : Tys
+  g = names_of x
+
+  -- the parts of one form find what both find
+  twice : (a b : Tm) (us : List Ty) →
+      state ((f ++ binders a n g) ++ binders b n g) x.scope us n
+      ≡ state (f ++ (binders a n g ++ binders b n g)) x.scope us n
+  twice a b us =
+      state_is ((f ++ binders a n g) ++ binders b n g) (f ++ (binders a n g ++ binders b n g)) x.scope us us n n
+      (append_assoc f (binders a n g) (binders b n g)) refl refl
+
+  -- one binder, and then what is found inside of it
+  inside : (b : Binder) (cs ds : List Binder) → cs ≡ ds → (f ++ b ∷ []) ++ cs ≡ f ++ b ∷ ds
+  inside b cs ds e = append_assoc f (b ∷ []) cs ∙ ap (λ (zs : List Binder). f ++ b ∷ zs) e
+
+  fix_names : (arg res : Ty) →
+      context n (record { ty = arg; at = n } ∷ record { ty = TArrow arg res; at = n } ∷ x.scope) ≡ in_fix arg res g
+  fix_names arg res = ap₂ (λ (t u : Ty). MoreTys t (MoreTys u g)) (same_now n arg) (same_now n (TArrow arg res))
+
+  -- the binder of a first part is known once that is done
+  set_binder : (old new : Binder) (cs ds es : List Binder) → ds ≡ es →
+      slice_set ((f ++ old ∷ []) ++ cs) (length f) new ++ ds ≡ f ++ new ∷ (cs ++ es)
+  set_binder old new cs ds es e =
+      ap (λ (zs : List Binder). slice_set zs (length f) new ++ ds) (append_assoc f (old ∷ []) cs)
+      ∙ ap (λ (zs : List Binder). zs ++ ds) (set-append_seam f old cs new)
+      ∙ append_assoc f (new ∷ cs) ds
+      ∙ ap (λ (zs : List Binder). f ++ new ∷ (cs ++ zs)) e
+
+  three : (a b c : Tm) → ((f ++ binders a n g) ++ binders b n g) ++ binders c n g
+      ≡ f ++ (binders a n g ++ (binders b n g ++ binders c n g))
+  three a b c =
+      append_assoc (f ++ binders a n g) (binders b n g) (binders c n g)
+      ∙ append_assoc f (binders a n g) (binders b n g ++ binders c n g)
+
+  form : (e : Tm) → IsLow x → all_done (left e (length f) []) (begun e x) ≡ visited e x
+  form (SVar p i) low =
+      let t = or_int (ty_at g i) in
+      state_is f (f ++ []) x.scope (t ∷ x.types) (t ∷ x.types) n n (sym (append-nil f)) refl refl
+  form (SNum p z) low =
+      state_is f (f ++ []) x.scope (TInt ∷ x.types) (TInt ∷ x.types) n n (sym (append-nil f)) refl refl
+  form (SFix p arg res e) low =
+      let names = context n (record { ty = arg; at = n } ∷ record { ty = TArrow arg res; at = n } ∷ x.scope) in
+      let b = binder p n (Function arg res) in
+      state_is ((f ++ b ∷ []) ++ binders e n names) (f ++ b ∷ binders e n (in_fix arg res g)) x.scope
+      (TArrow arg res ∷ x.types) (TArrow arg res ∷ x.types) n n
+      (inside b (binders e n names) (binders e n (in_fix arg res g)) (ap (binders e n) (fix_names arg res))) refl refl
+  form (SApp p a b) low = twice a b (result_of (type_of (plain a) g) ∷ x.types)
+  form (SGen p e) low =
+      let c : context (n + 1) x.scope ≡ raised g = sym (raised_context n x.scope low) in
+      let b = binder p n TypeName in
+      state_is ((f ++ b ∷ []) ++ binders e (n + 1) (context (n + 1) x.scope)) (f ++ b ∷ binders e (n + 1) (raised g))
+      x.scope (TAll (type_of (plain e) (context (n + 1) x.scope)) ∷ x.types)
+      (TAll (type_of (plain e) (raised g)) ∷ x.types) (n + 1 - 1) n
+      (inside b (binders e (n + 1) (context (n + 1) x.scope)) (binders e (n + 1) (raised g)) (ap (binders e (n + 1)) c))
+      (ap (λ (z : Tys). TAll (type_of (plain e) z) ∷ x.types) c) (sym (one_less n))
+  form (SInst p e t) low = refl
+  form (STuple p es) low = fields es f x.scope x.types n
+  form (SProj p i e) low = refl
+  form (SArith p op a b) low = twice a b (TInt ∷ x.types)
+  form (SIf0 p c a b) low =
+      let ts = type_of (plain a) g ∷ x.types in
+      state_is (((f ++ binders c n g) ++ binders a n g) ++ binders b n g)
+      (f ++ (binders c n g ++ (binders a n g ++ binders b n g))) x.scope ts ts n n (three c a b) refl refl
+  form (SLet p a b) low =
+      let t = type_of (plain a) g in
+      let names = context n (record { ty = t; at = n } ∷ x.scope) in
+      let e : names ≡ MoreTys t g = ap (λ (u : Ty). MoreTys u g) (same_now n t) in
+      let old = binder p n (Value TInt) in
+      let new = binder p n (Value t) in
+      state_is (slice_set ((f ++ old ∷ []) ++ binders a n g) (length f) new ++ binders b n names)
+      (f ++ new ∷ (binders a n g ++ binders b n (MoreTys t g))) x.scope (type_of (plain b) names ∷ x.types)
+      (type_of (plain b) (MoreTys t g) ∷ x.types) n n
+      (set_binder old new (binders a n g) (binders b n names) (binders b n (MoreTys t g)) (ap (binders b n) e))
+      (ap (λ (z : Tys). type_of (plain b) z ∷ x.types) e) refl
+  form (SPack p h e r) low = refl
+  form (SOpen p a b) low =
+      let t = opened_of (type_of (plain a) g) in
+      let names = context (n + 1) (record { ty = t; at = n + 1 } ∷ x.scope) in
+      let e : names ≡ in_open t g = ap₂ MoreTys (same_now (n + 1) t) (sym (raised_context n x.scope low)) in
+      let old = binder p n (Opened TInt) in
+      let new = binder p n (Opened t) in
+      state_is (slice_set ((f ++ old ∷ []) ++ binders a n g) (length f) new ++ binders b (n + 1) names)
+      (f ++ new ∷ (binders a n g ++ binders b (n + 1) (in_open t g))) x.scope
+      (outside (type_of (plain b) names) ∷ x.types) (outside (type_of (plain b) (in_open t g)) ∷ x.types) (n + 1 - 1) n
+      (set_binder old new (binders a n g) (binders b (n + 1) names) (binders b (n + 1) (in_open t g))
+      (ap (binders b (n + 1)) e))
+      (ap (λ (z : Tys). outside (type_of (plain b) z) ∷ x.types) e) (sym (one_less n))
+  form (SRef p e) low = refl
+  form (SDeref p e) low = refl
+  form (SAssign p a b) low = twice a b (TTuple NoTys ∷ x.types)
+
+  down : IsLow x → Low (n + 1 - 1) x.scope
+  down low = subst (λ (m : ℕ). Low m x.scope) (one_less n) low
+
+  stays : (e : Tm) → IsLow x → IsLow (begun e x) × StayLow (left e (length f) []) (begun e x)
+  stays (SVar p i) low = (low, tt)
+  stays (SNum p z) low = (low, tt)
+  stays (SFix p arg res e) low =
+      ((at_most n, (at_most n, low)), ((at_most n, (at_most n, low)), (low, tt)))
+  stays (SApp p a b) low = (low, (low, (low, (low, tt))))
+  stays (SGen p e) low = (up n x.scope low, (up n x.scope low, (down low, tt)))
+  stays (SInst p e t) low = (low, (low, (low, tt)))
+  stays (STuple p es) low = (low, (subst IsLow (sym (fields es f x.scope x.types n)) low, tt))
+  stays (SProj p i e) low = (low, (low, (low, tt)))
+  stays (SArith p op a b) low = (low, (low, (low, (low, tt))))
+  stays (SIf0 p c a b) low = (low, (low, (low, (low, (low, tt)))))
+  stays (SLet p a b) low = (low, (low, ((at_most n, low), ((at_most n, low), (low, tt)))))
+  stays (SPack p h e r) low = (low, (low, (low, tt)))
+  stays (SOpen p a b) low =
+      (low, (low, ((at_most (n + 1), up n x.scope low), ((at_most (n + 1), up n x.scope low), (down low, tt)))))
+  stays (SRef p e) low = (low, (low, (low, tt)))
+  stays (SDeref p e) low = (low, (low, (low, tt)))
+  stays (SAssign p a b) low = (low, (low, (low, (low, tt))))
+
+-- ---- the steps
+
+-- a term is begun
+pub begins : (e : Tm) (ts new : List Todo) (x y : Now) → IsLow x → StayLow (Visit e ∷ ts) x → y ≡ begun e x →
+    new ≡ left e (length x.found) ts → Steps (Visit e ∷ ts) x new y
+begins e ts new x y low stay is same =
+    let k = length x.found in
+    let goes = form x e low in
+    let lows = stays x e low in
+    let whole = left_is e k ts in
+    let both = stay_append (left e k []) ts (begun e x) lows.1 (subst (StayLow ts) (sym goes) stay.1) in
+    let made : Steps (Visit e ∷ ts) x (left e k ts) (begun e x) = record {
+      same = ap (λ (us : List Todo). all_done us (begun e x)) whole ∙ all_done_append (left e k []) ts (begun e x)
+          ∙ ap (all_done ts) goes;
+      low = lows.0;
+      stay = subst (λ (us : List Todo). StayLow us (begun e x)) (sym whole) both;
+      less = less_left e k ts;
+    } in
+    subst (λ (us : List Todo). Steps (Visit e ∷ ts) x us y) (sym same)
+    (subst (λ (z : Now). Steps (Visit e ∷ ts) x (left e k ts) z) (sym is) made)
+
+-- the next field
+pub next : (es : Tms) (ts new : List Todo) (x : Now) → IsLow x → StayLow (VisitAll es ∷ ts) x →
+    new ≡ left_fields es ts → Steps (VisitAll es ∷ ts) x new x
+next NoTms ts new x low stay same =
+    subst (λ (us : List Todo). Steps (VisitAll NoTms ∷ ts) x us x) (sym same) (record {
+      same = refl;
+      low = low;
+      stay = stay.1;
+      less = omega arith;
+    })
+next (MoreTms e es) ts new x low stay same =
+    subst (λ (us : List Todo). Steps (VisitAll (MoreTms e es) ∷ ts) x us x) (sym same) (record {
+      same = refl;
+      low = low;
+      stay = (low, (low, stay));
+      less = omega arith;
+    })
+
+-- what takes one step
+pub at_once : (t : Todo) (ts : List Todo) (x y : Now) → steps ts < steps (t ∷ ts) → StayLow (t ∷ ts) x →
+    y ≡ done t x → Steps (t ∷ ts) x ts y
+at_once t ts x y less stay is = subst (λ (z : Now). Steps (t ∷ ts) x ts z) (sym is) (record {
+  same = refl;
+  low = stay.0;
+  stay = stay.1;
+  less = less;
+})
+
+-- ---- the same of a task, which is known to be such a one
+
+pub visit_done : (t : Todo) (e : Tm) (ts new : List Todo) (x y : Now) → t ≡ Visit e → IsLow x → StayLow (t ∷ ts) x →
+    (y ≡ begun e x) × (new ≡ left e (length x.found) ts) → Steps (t ∷ ts) x new y
+visit_done t e ts new x y is low stay q =
+    subst (λ (u : Todo). Steps (u ∷ ts) x new y) (sym is)
+    (begins e ts new x y low (subst (λ (u : Todo). StayLow (u ∷ ts) x) is stay) q.0 q.1)
+
+pub next_done : (t : Todo) (es : Tms) (ts new : List Todo) (x : Now) → t ≡ VisitAll es → IsLow x →
+    StayLow (t ∷ ts) x → new ≡ left_fields es ts → Steps (t ∷ ts) x new x
+next_done t es ts new x is low stay same =
+    subst (λ (u : Todo). Steps (u ∷ ts) x new x) (sym is)
+    (next es ts new x low (subst (λ (u : Todo). StayLow (u ∷ ts) x) is stay) same)
+
+pub once_done : (t u : Todo) (ts : List Todo) (x y : Now) → t ≡ u → steps ts < steps (u ∷ ts) → StayLow (t ∷ ts) x →
+    y ≡ done u x → Steps (t ∷ ts) x ts y
+once_done t u ts x y is less stay same =
+    subst (λ (v : Todo). Steps (v ∷ ts) x ts y) (sym is)
+    (at_once u ts x y less (subst (λ (v : Todo). StayLow (v ∷ ts) x) is stay) same)

@@ -1,0 +1,4 @@
+pub mod Binders
+pub mod Page
+pub mod Walk
+pub mod Writing

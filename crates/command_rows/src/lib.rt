@@ -1,4 +1,4 @@
-//! Worked examples of the command line, and of files and sinks. It holds tests alone.
+//! Worked examples of files and sinks. It holds tests alone.
 #![tactic(auto)]
 
 #[cfg(test)]

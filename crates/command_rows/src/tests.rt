@@ -1,4 +1,3 @@
-// What the words of a command line ask for, and what files and sinks do.
-mod command_line;
+// Files and outputs.
 mod files;
 mod system;

@@ -1,5 +1,6 @@
 // What no row of a file can say of the top call: words, calls on bytes, files and outputs that find no memory.
 mod calls;
+mod greatest;
 mod memory;
 mod pages;
 mod places;

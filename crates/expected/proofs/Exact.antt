@@ -1,6 +1,6 @@
 -- What the machine takes is what some shape goes on with, over any table that meets its claims.
 use Rattle.std.proofs.Common.{rules, ◌≡◌, IsTrue, ℕ, List, [], ◌∷◌, ◌++◌, refl, sym, ◌∙◌, ap, subst, append_assoc}
-use Rattle.std.proofs.Common.{Option, Some, None, Bool, true, false, if◌then◌else◌, nat_lt}
+use Rattle.std.proofs.Common.{Option, Some, None, Bool, true, false, if◌then◌else◌, nat_lt, inl, inr}
 use Rattle.std.proofs.lemmas.List.{append-nil}
 use Rattle.std.specs.Option.{is_some}
 use Rattle.idx_core.specs.declared.span.Span.{Span}
@@ -12,10 +12,13 @@ use Rattle.text_core.proofs.Claims.{Claims}
 use Rattle.text_core.proofs.Reading.{seen_append}
 use Rattle.text_core.proofs.Assembly.{exact}
 use Rattle.text_core.proofs.Unique.{one_verdict}
-use Rattle.expected.specs.Wanted.{start, ends, goes_on, stop, Kinds, TakesWhatGoesOn, UnexpectedIsTold}
-use Rattle.expected.specs.Wanted.{CutShortIsTold, line_at, same_place, end_of}
+use Rattle.expected.specs.Wanted.{Machine, machine_of, goes_on, stop, Kinds, TakesWhatGoesOn, UnexpectedIsTold}
+use Rattle.expected.specs.Wanted.{CutShortIsTold, line_at, wanted_line, same_place, end_of, OneLine}
 
 module _ (g : Table) (k : Claims g) where
+  abbrev m : Machine (State g) g.Tok
+  m = machine_of g
+
   two_ends : (a b : List ℕ) (t : List g.Val) (r : List g.Tok) → seen g a (Done t) ≡ seen g b (Stop r) → ⊥
   two_ends [] [] t r e = cc
   two_ends [] (m ∷ b) t r e = cc
@@ -28,7 +31,7 @@ module _ (g : Table) (k : Claims g) where
     leads : (z : List g.Tok) → whole g (u ++ z) ≡ seen g counts (exec g z b.owed b.made)
     good : k.Good b.owed
 
-  came_start : Came [] (start g)
+  came_start : Came [] m.start
   came_start = record { counts = []; leads = λ z. refl; good = k.good_start }
 
   came_next : (u : List g.Tok) (b : State g) (c : g.Tok) (d : State g) → step g b.owed b.made c ≡ Some d → Came u b →
@@ -55,8 +58,8 @@ module _ (g : Table) (k : Claims g) where
       record { read = []; is = q; came = rw (append-nil u) (subst (λ (x : State g). Came u x) p h) }
 
   by_step : (u : List g.Tok) (c : g.Tok) (w z : List g.Tok) (b st : State g) → Came u b →
-      ((d : State g) → Came (u ++ c ∷ []) d → stop g w d ≡ (st, z) → Stood (u ++ c ∷ []) w z st) →
-      (o : Option (State g)) → step g b.owed b.made c ≡ o → goes_on g (stop g w) b (c ∷ w) o ≡ (st, z) →
+      ((d : State g) → Came (u ++ c ∷ []) d → stop m w d ≡ (st, z) → Stood (u ++ c ∷ []) w z st) →
+      (o : Option (State g)) → step g b.owed b.made c ≡ o → goes_on (stop m w) b (c ∷ w) o ≡ (st, z) →
       Stood u (c ∷ w) z st
   by_step u c w z b st h further None f e = nothing_read u (c ∷ w) z b st h e
   by_step u c w z b st h further (Some d) f e =
@@ -67,7 +70,7 @@ module _ (g : Table) (k : Claims g) where
         came = subst (λ (x : List g.Tok). Came x st) (append_assoc u (c ∷ []) s.read) s.came;
       }
 
-  stood : (u w z : List g.Tok) (b st : State g) → Came u b → stop g w b ≡ (st, z) → Stood u w z st
+  stood : (u w z : List g.Tok) (b st : State g) → Came u b → stop m w b ≡ (st, z) → Stood u w z st
   stood u [] z b st h e = nothing_read u [] z b st h e
   stood u (c ∷ w) z b st h e =
       by_step u c w z b st h (λ d. stood (u ++ c ∷ []) w z d st) (step g b.owed b.made c) refl e
@@ -114,7 +117,7 @@ module _ (g : Table) (k : Claims g) where
 
   pub takes_what_goes_on : TakesWhatGoesOn g
   takes_what_goes_on w z st e =
-      let s = stood [] w z (start g) st came_start e in (
+      let s = stood [] w z m.start st came_start e in (
         s.read,
         s.is,
         λ c. (
@@ -130,8 +133,8 @@ module _ (g : Table) (k : Claims g) where
   -- Where the verdict is an unexpected token or end, the machine stands there.
   record Stuck (w r : List g.Tok) (b : State g) : Type 0 where
     state : State g
-    is : stop g w b ≡ (state, r)
-    open_end : r ≡ [] → ends g state ≡ false
+    is : stop m w b ≡ (state, r)
+    open_end : r ≡ [] → m.ends state ≡ false
 
   stuck_at_end : (limit : ℕ) (r : List g.Tok) (b : State g) (o : Option (List g.Val)) → finish g b.owed b.made ≡ o →
       bounded g limit [] (at_end g o) ≡ Unexpected r → Stuck [] r b
@@ -180,18 +183,27 @@ module _ (g : Table) (k : Claims g) where
   same_self : (p : Span) → same_place p p ≡ true
   same_self p = search rules
 
-  pub unexpected_is_told : (j : Kinds g) → UnexpectedIsTold g j
+  pub unexpected_is_told : {K : Type 0} (j : Kinds K g.Tok) → UnexpectedIsTold g j
   unexpected_is_told j text limit w u c z h e =
-      let s = stuck limit w (c ∷ z) (start g) (verdict_of limit w (c ∷ z) (u, h)) in
-      let q : line_at g j text (j.place c) (s.state, c ∷ z) ≡ [] =
-      ap (λ (x : State g × List g.Tok). line_at g j text (j.place c) x) (sym s.is) ∙ e in
+      let s = stuck limit w (c ∷ z) m.start (verdict_of limit w (c ∷ z) (u, h)) in
+      let q : line_at m j text (j.place c) (s.state, c ∷ z) ≡ [] =
+      ap (λ (x : State g × List g.Tok). line_at m j text (j.place c) x) (sym s.is) ∙ e in
       let r = rw (same_self (j.place c)) at q in
       cc
 
-  pub cut_short_is_told : (j : Kinds g) → CutShortIsTold g j
+  pub cut_short_is_told : {K : Type 0} (j : Kinds K g.Tok) → CutShortIsTold g j
   cut_short_is_told j text limit w h e =
-      let s = stuck limit w [] (start g) (verdict_of limit w [] h) in
-      let q : line_at g j text (end_of text) (s.state, []) ≡ [] =
-      ap (λ (x : State g × List g.Tok). line_at g j text (end_of text) x) (sym s.is) ∙ e in
+      let s = stuck limit w [] m.start (verdict_of limit w [] h) in
+      let q : line_at m j text (end_of text) (s.state, []) ≡ [] =
+      ap (λ (x : State g × List g.Tok). line_at m j text (end_of text) x) (sym s.is) ∙ e in
       let r = rw (same_self (end_of text), s.open_end refl) at q in
       cc
+
+-- A place in a text has one line, where a text is of the same tokens at each reading.
+pub one_line : {K : Type 0} (g : Table) (j : Kinds K g.Tok) (IsCut : List ℕ → List g.Tok → Type 0) →
+    ((text : List ℕ) (w v : List g.Tok) → IsCut text w → IsCut text v → w ≡ v) → OneLine g j IsCut
+one_line g j IsCut one text at a b (inl (w, c, e)) (inl (v, d, f)) =
+    e ∙ (ap (λ x. wanted_line (machine_of g) j text at x) (one text w v c d) ∙ sym f)
+one_line g j IsCut one text at a b (inl (w, c, e)) (inr (n, f)) = absurd (n w c)
+one_line g j IsCut one text at a b (inr (n, e)) (inl (v, d, f)) = absurd (n v d)
+one_line g j IsCut one text at a b (inr (n, e)) (inr (m, f)) = e ∙ sym f

@@ -6,7 +6,7 @@ use Rattle.std.proofs.lemmas.Bool.{ltb-false}
 use Rattle.idx_core.specs.declared.span.Span.{Span}
 use Rattle.text_core.specs.Table.{Table, State}
 use Rattle.expected.specs.Wanted.{listed, heading, found_end, found_token, Kinds, told_of, line_at}
-use Rattle.expected.specs.Wanted.{stop, start, ends, same_place, end_of, bytes_at, FewBytes}
+use Rattle.expected.specs.Wanted.{machine_of, stop, same_place, end_of, bytes_at, FewBytes}
 
 by_room : (w : List ℕ) (ws : List (List ℕ)) (room : ℕ) → ((r : ℕ) → length (listed r ws) ≤ r + 3) → (b : Bool) →
     nat_lt room (1 + length w) ≡ b →
@@ -46,13 +46,14 @@ by_place : (b : Bool) (ws : List (List ℕ)) (found : List ℕ) → length found
 by_place true ws found few = let h = heading_short ws in let long = length-append (heading ws) found in omega arith
 by_place false ws found few = omega arith
 
-module _ (g : Table) (k : Kinds g) where
-  by_stop : (text : List ℕ) (at : Span) (x : State g × List g.Tok) → length (line_at g k text at x) ≤ 100
-  by_stop text at (st, []) = by_place (same_place at (end_of text) && not (ends g st)) (told_of g k st) found_end
+module _ {K : Type 0} (g : Table) (k : Kinds K g.Tok) where
+  by_stop : (text : List ℕ) (at : Span) (x : State g × List g.Tok) → length (line_at (machine_of g) k text at x) ≤ 100
+  by_stop text at (st, []) =
+      by_place (same_place at (end_of text) && not ((machine_of g).ends st)) (told_of (machine_of g) k st) found_end
       (omega arith)
   by_stop text at (st, c ∷ w) =
-      by_place (same_place at (k.place c)) (told_of g k st) (found_token (bytes_at text at)) (found_short (bytes_at
-      text at))
+      by_place (same_place at (k.place c)) (told_of (machine_of g) k st) (found_token (bytes_at text at))
+      (found_short (bytes_at text at))
 
   pub few_bytes : FewBytes g k
-  few_bytes text at w = by_stop text at (stop g w (start g))
+  few_bytes text at w = by_stop text at (stop (machine_of g) w (machine_of g).start)

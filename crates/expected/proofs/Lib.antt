@@ -1,6 +1,8 @@
 pub mod Exact
 pub mod Keeping
 pub mod Lengths
-pub mod Putting
+mod Lines
+mod Rows
 pub mod Same
-pub mod Taking
+mod Taking
+pub mod Worked

@@ -1,8 +1,9 @@
 -- Tokens between which a table makes no difference.
-use Rattle.std.proofs.Common.{◌≡◌, List, [], ◌∷◌, refl, Option, Some, None, Bool, true, false, if◌then◌else◌}
+use Rattle.std.proofs.Common.{◌≡◌, ℕ, List, [], ◌∷◌, slice_get, refl, Option, Some, None, Bool, true, false}
+use Rattle.std.proofs.Common.{if◌then◌else◌}
 use Rattle.std.specs.Option.{is_some}
 use Rattle.text_core.specs.Table.{Table, Stack, State, Tm, Nt, Do, Mark, step, on_line}
-use Rattle.expected.specs.Wanted.{takes}
+use Rattle.expected.specs.Wanted.{machine_of, takes, Kinds, IsTold}
 
 module _ (g : Table) (c d : g.Tok) (fits : (k : g.Class) → g.fits k c ≡ g.fits k d)
     (after : (n : g.Line) → g.after n c ≡ g.after n d) where
@@ -30,5 +31,19 @@ module _ (g : Table) (c d : g.Tok) (fits : (k : g.Class) → g.fits k c ≡ g.fi
   same_step (Do a ∷ s) vs us = same_step s (g.act a vs) (g.act a us)
   same_step (Mark ∷ s) vs us = same_step s vs us
 
-  pub same_takes : (st : State g) → takes g st c ≡ takes g st d
+  pub same_takes : (st : State g) → takes (machine_of g) st c ≡ takes (machine_of g) st d
   same_takes st = same_step st.owed st.made st.made
+
+-- so a token between which and one of a kind that is listed it makes none is told
+pub told_as : {K : Type 0} (g : Table) (k : Kinds K g.Tok) (i : ℕ) (c : g.Tok) (kind : K) {wider : Option K}
+    {words : List ℕ} → slice_get k.kinds i ≡ Some (kind, wider, words) →
+    ((l : g.Class) → g.fits l c ≡ g.fits l (k.sample kind)) → ((n : g.Line) → g.after n c ≡ g.after n (k.sample kind)) →
+    IsTold g k c
+told_as g k i c kind {wider} {words} e f a = record {
+  number = i;
+  kind = kind;
+  wider = wider;
+  words = words;
+  is_there = e;
+  same = same_takes g c (k.sample kind) f a;
+}

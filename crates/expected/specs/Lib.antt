@@ -1,4 +1,3 @@
 pub mod Listing
 pub mod Owing
-pub mod Standing
 pub mod Wanted

@@ -1,66 +1,78 @@
 -- What could stand at the place where a text's first token is that may not, and the line that tells it: by the table of
 -- the text's grammar. All of it is our own choice.
 use Rattle.std.specs.Prelude.{ℕ, ◌+◌, ◌-◌, ◌==◌, ◌&&◌, not, nat_lt, List, [], ◌∷◌, ◌++◌, take, drop, length, codes}
-use Rattle.std.specs.Prelude.{◌≡◌, ◌≤◌, ◌↔◌, IsTrue, Option, Some, None, Bool, false, if◌then◌else◌}
+use Rattle.std.specs.Prelude.{◌≡◌, ◌≤◌, ◌↔◌, ◌⊎◌, slice_get, IsTrue, Option, Some, None, Bool, false, if◌then◌else◌}
 use Rattle.std.specs.Option.{is_some}
+use Rattle.std.specs.Borrow.{Bor}
 use Rattle.idx_core.specs.declared.span.Span.{Span}
 use Rattle.text_core.specs.Table.{Table, State, Nt, step, finish}
 use Rattle.text_core.specs.Shapes.{IsShape, Begins, IsUnexpected, IsCutShort}
 use Rattle.text_core.specs.Verdicts.{grammar_of}
 
--- ---- what the machine over a table takes
+-- ---- what a machine takes
 
--- before the first token
-abbrev pub start : (g : Table) → State g
-start g = record { owed = Nt g.first ∷ []; made = [] }
+-- a machine that reads tokens one by one: its state before the first; the state after one more, or none where that may
+-- not stand next; and whether all may end
+pub record Machine (S T : Type 0) : Type 0 where
+  pub start : S
+  pub step : S → T → Option S
+  pub ends : S → Bool
 
--- in this state the machine takes the token c next
-abbrev pub takes : (g : Table) → State g → g.Tok → Bool
-takes g st c = is_some (step g st.owed st.made c)
+-- the machine over a table
+abbrev pub machine_of : (g : Table) → Machine (State g) g.Tok
+machine_of g = record {
+  start = record { owed = Nt g.first ∷ []; made = [] };
+  step = λ st c. step g st.owed st.made c;
+  ends = λ st. is_some (finish g st.owed st.made);
+}
 
--- and the end
-abbrev pub ends : (g : Table) → State g → Bool
-ends g st = is_some (finish g st.owed st.made)
+-- in this state it takes the token c next
+abbrev pub takes : {S T : Type 0} → Machine S T → S → T → Bool
+takes m st c = is_some (m.step st c)
 
--- where the machine stands as it comes to the first token that it does not take, or to the end: its state, and the
--- tokens that are left
-abbrev pub goes_on : (g : Table) → (State g → State g × List g.Tok) → State g → List g.Tok → Option (State g) →
-    State g × List g.Tok
-goes_on g next st w None = (st, w)
-goes_on g next st w (Some b) = next b
+-- where it stands as it comes to the first token that it does not take, or to the end: its state, and the tokens that
+-- are left
+abbrev pub goes_on : {S T : Type 0} → (S → S × List T) → S → List T → Option S → S × List T
+goes_on next st w None = (st, w)
+goes_on next st w (Some b) = next b
 
-abbrev pub stop : (g : Table) → List g.Tok → State g → State g × List g.Tok
-stop g [] st = (st, [])
-stop g (c ∷ w) st = goes_on g (stop g w) st (c ∷ w) (step g st.owed st.made c)
+abbrev pub stop : {S T : Type 0} → Machine S T → List T → S → S × List T
+stop m [] st = (st, [])
+stop m (c ∷ w) st = goes_on (stop m w) st (c ∷ w) (m.step st c)
 
 -- ---- the words for it
 
--- What a language fixes: a token of each kind that is told, most specific first; the words for it; a wider kind that
--- stands for it where that can stand, too; and the place of a token.
-pub record Kinds (g : Table) : Type 0 where
-  pub samples : List g.Tok
-  pub words : g.Tok → List ℕ
-  pub wider : g.Tok → Option g.Tok
-  pub place : g.Tok → Span
+-- a list that the code has by reference
+abbrev pub lent : {A B X : Type 0} → List (A × B × Bor X) → List (A × B × X)
+lent [] = []
+lent (r ∷ rest) = (r.0, r.1, r.2.now) ∷ lent rest
 
-abbrev pub takes_some : (g : Table) → State g → Option g.Tok → Bool
-takes_some g st None = false
-takes_some g st (Some c) = takes g st c
-
--- a kind is told where the machine takes a token of it, and none of a wider kind
-abbrev pub is_told : (g : Table) → Kinds g → State g → g.Tok → Bool
-is_told g k st c = takes g st c && not (takes_some g st (k.wider c))
-
-abbrev pub told : (g : Table) → Kinds g → State g → List g.Tok → List (List ℕ)
-told g k st [] = []
-told g k st (c ∷ cs) = if is_told g k st c then k.words c ∷ told g k st cs else told g k st cs
+-- What a language fixes: the kinds of tokens that are told, most specific first, each with a wider kind, if any, that
+-- stands for it where that can stand, too, and with the words for it; a token of each kind; and the place of a token.
+pub record Kinds (K T : Type 0) : Type 0 where
+  pub kinds : List (K × Option K × List ℕ)
+  pub sample : K → T
+  pub place : T → Span
 
 abbrev pub the_end : List ℕ
 the_end = codes "the end"
 
--- the end first, where all may end
-abbrev pub told_of : (g : Table) → Kinds g → State g → List (List ℕ)
-told_of g k st = if ends g st then the_end ∷ told g k st k.samples else told g k st k.samples
+module _ {S K T : Type 0} (m : Machine S T) (k : Kinds K T) where
+  abbrev pub takes_some : S → Option K → Bool
+  takes_some st None = false
+  takes_some st (Some kind) = takes m st (k.sample kind)
+
+  -- a kind is told where the machine takes a token of it, and none of a wider kind
+  abbrev pub is_told : S → K → Option K → Bool
+  is_told st kind wider = takes m st (k.sample kind) && not (takes_some st wider)
+
+  abbrev pub told : S → List (K × Option K × List ℕ) → List (List ℕ)
+  told st [] = []
+  told st ((kind, wider, words) ∷ ks) = if is_told st kind wider then words ∷ told st ks else told st ks
+
+  -- the end first, where all may end
+  abbrev pub told_of : S → List (List ℕ)
+  told_of st = if m.ends st then the_end ∷ told st k.kinds else told st k.kinds
 
 -- ---- the line
 
@@ -91,43 +103,65 @@ same_place a b = a.start == b.start && a.end == b.end
 abbrev pub end_of : List ℕ → Span
 end_of text = record { start = length text; end = length text }
 
--- the line of a place where the machine stands in this state before the token c, and before the end: nothing where it
--- is another place than that, or where all may end
-abbrev pub token_line : (g : Table) → Kinds g → (text : List ℕ) → Span → State g → g.Tok → List ℕ
-token_line g k text at st c =
-    if same_place at (k.place c) then heading (told_of g k st) ++ found_token (bytes_at text at) else []
+module _ {S K T : Type 0} (m : Machine S T) (k : Kinds K T) (text : List ℕ) (at : Span) where
+  -- the line of a place where the machine stands in this state before the token c, and before the end: nothing where
+  -- it is another place than that, or where all may end
+  abbrev pub token_line : S → T → List ℕ
+  token_line st c =
+      if same_place at (k.place c) then heading (told_of m k st) ++ found_token (bytes_at text at) else []
 
-abbrev pub end_line : (g : Table) → Kinds g → (text : List ℕ) → Span → State g → List ℕ
-end_line g k text at st =
-    if same_place at (end_of text) && not (ends g st) then heading (told_of g k st) ++ found_end else []
+  abbrev pub end_line : S → List ℕ
+  end_line st = if same_place at (end_of text) && not (m.ends st) then heading (told_of m k st) ++ found_end else []
 
-abbrev pub line_at : (g : Table) → Kinds g → (text : List ℕ) → Span → State g × List g.Tok → List ℕ
-line_at g k text at (st, []) = end_line g k text at st
-line_at g k text at (st, c ∷ w) = token_line g k text at st c
+  abbrev pub line_at : S × List T → List ℕ
+  line_at (st, []) = end_line st
+  line_at (st, c ∷ w) = token_line st c
 
--- the line of a place in a text of these tokens
-abbrev pub wanted_line : (g : Table) → Kinds g → (text : List ℕ) → Span → List g.Tok → List ℕ
-wanted_line g k text at w = line_at g k text at (stop g w (start g))
+  -- the line of a place in a text of these tokens
+  abbrev pub wanted_line : List T → List ℕ
+  wanted_line w = line_at (stop m w m.start)
 
 -- ---- the laws
 
 -- The machine takes exactly what the grammar goes on with. Where it stands behind the tokens u, it takes a token
 -- exactly where some shape begins with u and this token, and the end exactly where u is a shape.
 abbrev pub TakesWhatGoesOn : Table → Type 0
-TakesWhatGoesOn g = (w z : List g.Tok) (st : State g) → stop g w (start g) ≡ (st, z) →
-    (u : List g.Tok) × (w ≡ u ++ z) × ((c : g.Tok) → IsTrue (takes g st c) ↔ Begins (grammar_of g) (u ++ c ∷ []))
-    × (IsTrue (ends g st) ↔ IsShape (grammar_of g) u)
+TakesWhatGoesOn g = (w z : List g.Tok) (st : State g) → stop (machine_of g) w (machine_of g).start ≡ (st, z) →
+    (u : List g.Tok) × (w ≡ u ++ z)
+    × ((c : g.Tok) → IsTrue (takes (machine_of g) st c) ↔ Begins (grammar_of g) (u ++ c ∷ []))
+    × (IsTrue ((machine_of g).ends st) ↔ IsShape (grammar_of g) u)
 
--- no line has more than 100 bytes
-abbrev pub FewBytes : (g : Table) → Kinds g → Type 0
-FewBytes g k = (text : List ℕ) (at : Span) (w : List g.Tok) → length (wanted_line g k text at w) ≤ 100
+module _ {K : Type 0} (g : Table) (k : Kinds K g.Tok) where
+  -- a token is told as one of the kinds: the machine takes both or none
+  pub record IsTold (c : g.Tok) : Type 0 where
+    pub number : ℕ
+    pub kind : K
+    pub wider : Option K
+    pub words : List ℕ
+    pub is_there : slice_get k.kinds number ≡ Some (kind, wider, words)
+    pub same : (st : State g) → takes (machine_of g) st c ≡ takes (machine_of g) st (k.sample kind)
 
--- there is a line at each first unexpected token, and at the end of each text that is cut short, whatever the limit on
--- open constructs
-abbrev pub UnexpectedIsTold : (g : Table) → Kinds g → Type 0
-UnexpectedIsTold g k = (text : List ℕ) (limit : ℕ) (w u : List g.Tok) (c : g.Tok) (z : List g.Tok) →
-    IsUnexpected (grammar_of g) limit w u c z → ¬ (wanted_line g k text (k.place c) w ≡ [])
+  -- no line has more than 100 bytes
+  abbrev pub FewBytes : Type 0
+  FewBytes = (text : List ℕ) (at : Span) (w : List g.Tok) → length (wanted_line (machine_of g) k text at w) ≤ 100
 
-abbrev pub CutShortIsTold : (g : Table) → Kinds g → Type 0
-CutShortIsTold g k = (text : List ℕ) (limit : ℕ) (w : List g.Tok) → IsCutShort (grammar_of g) limit w →
-    ¬ (wanted_line g k text (end_of text) w ≡ [])
+  -- there is a line at each first unexpected token, and at the end of each text that is cut short, whatever the limit
+  -- on open constructs
+  abbrev pub UnexpectedIsTold : Type 0
+  UnexpectedIsTold = (text : List ℕ) (limit : ℕ) (w u : List g.Tok) (c : g.Tok) (z : List g.Tok) →
+      IsUnexpected (grammar_of g) limit w u c z → ¬ (wanted_line (machine_of g) k text (k.place c) w ≡ [])
+
+  abbrev pub CutShortIsTold : Type 0
+  CutShortIsTold = (text : List ℕ) (limit : ℕ) (w : List g.Tok) → IsCutShort (grammar_of g) limit w →
+      ¬ (wanted_line (machine_of g) k text (end_of text) w ≡ [])
+
+  -- the line of a place in a text, of which this says of what tokens it is: none where it is of no tokens
+  abbrev pub IsWanted : (List ℕ → List g.Tok → Type 0) → (text : List ℕ) → Span → List ℕ → Type 0
+  IsWanted IsCut text at line =
+      ((w : List g.Tok) × IsCut text w × (line ≡ wanted_line (machine_of g) k text at w))
+      ⊎ (((w : List g.Tok) → ¬ IsCut text w) × (line ≡ []))
+
+  -- a place in a text has one line
+  abbrev pub OneLine : (List ℕ → List g.Tok → Type 0) → Type 0
+  OneLine IsCut = (text : List ℕ) (at : Span) (a b : List ℕ) → IsWanted IsCut text at a → IsWanted IsCut text at b →
+      a ≡ b

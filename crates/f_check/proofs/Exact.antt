@@ -2,17 +2,16 @@
 use Rattle.std.proofs.Common.{◌≡◌, ◌≢◌, ◌∙◌, ap, ap₂, refl, Option}
 use Rattle.f_terms.specs.Ty.{Ty, NoTys}
 use Rattle.f_terms.specs.Tm.{Spn, Tm, plain}
-use Rattle.f_terms.specs.Faults.{Passes, Fault}
+use Rattle.f_terms.specs.Mismatch.{Mismatch}
+use Rattle.f_terms.specs.Faults.{Passes, FaultNoted, FaultWith, Fault}
 use Rattle.f_terms.specs.Accepted.{IsAccepted}
-use Rattle.f_terms.specs.Laws.{PassesWhereTyped, NoFaultBesideAPass, OneFault}
+use Rattle.f_terms.specs.Laws.{PassesWhereTyped, NoFaultBesideAPass, OneFault, OneMismatch}
 use Rattle.f_terms.specs.Read.{place}
 use Rattle.idx_core.specs.declared.span.Span.{Span}
 use Rattle.f_terms.specs.declared.fault.Code.{Code}
 use Rattle.f_terms.specs.declared.fault.FFault.{FFault}
 use Rattle.f_terms.specs.declared.fault.FFault.TheVariants.{Memory, Refused}
 use Rattle.f_check.specs.Verdict.{Says}
-use Rattle.f_check.specs.Mismatch.{Mismatch, FaultBy, FaultWith}
-use Rattle.f_check.specs.Laws.{IsOfTheFault, OneMismatch}
 use Rattle.f_check.specs.Told.{read, fault_of, Mentions, Tells}
 use Rattle.f_check.specs.declared.mismatch.Mismatch as M
 use Rattle.f_check.specs.declared.failure.Failure.{Failure}
@@ -36,13 +35,12 @@ module _ (typed : PassesWhereTyped) (clear : NoFaultBesideAPass) (one : OneFault
       let r = one e 0 NoTys d c (place p) (place s) k h in ap₂ Refused r.0 (span_is p s r.1)
 
 -- the fault of a failure, without what is at odds in it
-pub alone : IsOfTheFault → (e : Tm) (x : Failure) → Tells x (λ m. FaultBy m e 0 NoTys) →
-    Says (fault_of x) (Fault e 0 NoTys)
-alone law e F.Memory h = tt
-alone law e (F.Refused c s m) h = law e 0 NoTys c (place s) (read m) h
+pub alone : (e : Tm) (x : Failure) → Tells x (FaultNoted e 0 NoTys) → Says (fault_of x) (Fault e 0 NoTys)
+alone e F.Memory h = tt
+alone e (F.Refused c s m) h = (read m, h)
 
 -- what is at odds in a failure is what is at odds in the first fault
-pub mentioned : OneMismatch → (e : Tm) (x : Failure) (r : Option M.Mismatch) → Tells x (λ m. FaultBy m e 0 NoTys) →
+pub mentioned : OneMismatch → (e : Tm) (x : Failure) (r : Option M.Mismatch) → Tells x (FaultNoted e 0 NoTys) →
     Mentions x r → (c : Code) (p : Spn) (m : Option Mismatch) → FaultWith e 0 NoTys c p m → read r ≡ m
 mentioned law e F.Memory r k h c p m i = absurd h
 mentioned law e (F.Refused d s y) r k h c p m i = ap read h ∙ law e 0 NoTys d c (place s) p (read y) m k i

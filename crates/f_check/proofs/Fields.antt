@@ -2,17 +2,18 @@
 use Rattle.std.proofs.Common.{◌≡◌, ◌≢◌, ◌-◌, ◌<◌, ◌≤◌, ℕ, zero, suc, List, [], ◌∷◌, map, refl, ap, ◌∙◌, sym, subst}
 use Rattle.std.proofs.Common.{length, get_or, arith, inr, Some, None}
 use Rattle.idx_core.specs.Over.{BelowAt, AnyDepth}
-use Rattle.f_terms.specs.Ty.{Ty, TInt, TVar, TArrow, TAll, TTuple, TSome, TRef, Tys, NoTys, MoreTys, tys, Below}
+use Rattle.f_terms.specs.Ty.{Ty, TTuple, Tys, NoTys, MoreTys, tys, Below}
 use Rattle.f_terms.specs.Ty.{each_all, size, sizes, depth, depths}
 use Rattle.f_terms.specs.Read.{tree}
 use Rattle.f_terms.specs.declared.types.FType.{FType}
 use Rattle.f_terms.specs.Tm.{Spn, Tm, SProj, span_of}
 use Rattle.f_terms.specs.Typing.{ty_at, field_ty}
 use Rattle.f_terms.specs.Limits.{Within}
-use Rattle.f_terms.specs.Faults.{Passes, Refusal, if_tuple, if_none}
+use Rattle.text_core.specs.Refusals.{Refusal}
+use Rattle.f_terms.specs.Mismatch.{WTuple, WField, odds}
+use Rattle.f_terms.specs.Faults.{Passes, Note, at_odds, if_tuple, if_none, FaultWith}
 use Rattle.f_terms.specs.declared.fault.Code.TheVariants.{E10, E11}
 use Rattle.f_check.specs.Verdict.{IsTypeOf}
-use Rattle.f_check.specs.Mismatch.{WTuple, WField, odds, refuse_with, FaultBy}
 
 some_is : {a b : Ty} → Some a ≡ Some b → a ≡ b
 some_is e = cc
@@ -68,26 +69,20 @@ module _ (n : ℕ) (g : Tys) (s : Spn) where
       ((ts, ef, h.0), r.0, r.1)
 
   pub proj_tuple : (i : ℕ) (f : Tm) (t : Ty) (q : Spn) → Passes f n g t → ((ts : Tys) → t ≢ TTuple ts) → span_of f ≡ q →
-      FaultBy (odds n WTuple t) (SProj s i f) n g E10 q
-  proj_tuple i f t q pf ne at = inr (t, pf, pick _ _ t ne (refl, sym at, refl))
+      FaultWith (SProj s i f) n g E10 q (odds n WTuple t)
+  proj_tuple i f t q pf ne at = inr (t, pf, pick _ _ _ t ne (refl, sym at))
     where
-      pick : (o : Refusal) (go : Tys → Refusal) (t : Ty) → ((ts : Tys) → t ≢ TTuple ts) → o E10 q →
-          if_tuple t o go E10 q
-      pick o go TInt h k = k
-      pick o go (TVar j) h k = k
-      pick o go (TArrow a b) h k = k
-      pick o go (TAll t) h k = k
-      pick o go (TTuple ts) h k = absurd (h ts refl)
-      pick o go (TSome t) h k = k
-      pick o go (TRef t) h k = k
+      pick : (o : Refusal Note Spn) (go : Tys → Refusal Note Spn) (c : Note) (t : Ty) → ((ts : Tys) → t ≢ TTuple ts) →
+          o c q → if_tuple t o go c q
+      pick o go c (TTuple ts) h k = absurd (h ts refl)
+      pick o go c _ h k = k
 
   pub proj_field : (i : ℕ) (f : Tm) (t : Ty) (ts : Tys) → Passes f n g t → t ≡ TTuple ts → field_ty ts i ≡ None →
-      FaultBy (odds n WField t) (SProj s i f) n g E11 s
+      FaultWith (SProj s i f) n g E11 s (odds n WField t)
   proj_field i f t ts pf et ef =
-      let m = odds n WField t in
       inr (
         TTuple ts,
         subst (Passes f n g) et pf,
-        subst (λ o. if_none o (refuse_with m (odds n WField (TTuple ts)) E11 s) E11 s)
-            (sym ef) (refl, refl, ap (odds n WField) et),
+        subst (λ o. if_none o (at_odds E11 n WField (TTuple ts) s) (E11, odds n WField t) s)
+            (sym ef) (ap (λ u. let x : Note = (E11, odds n WField u) in x) et, refl),
       )

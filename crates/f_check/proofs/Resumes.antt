@@ -10,7 +10,8 @@ use Rattle.f_terms.specs.Tm.{SAssign, plain, span_of, tms}
 use Rattle.f_terms.specs.Limits.{nodes, Within, Shallow}
 use Rattle.f_terms.specs.Scope.{InScope}
 use Rattle.f_terms.specs.Typing.{field_ty, in_fix, in_open, raised}
-use Rattle.f_terms.specs.Faults.{Passes, nothing}
+use Rattle.text_core.specs.Refusals.{nothing}
+use Rattle.f_terms.specs.Faults.{Passes, limits, FaultNoted, FaultWith}
 use Rattle.f_terms.specs.Read.{tree, place}
 use Rattle.f_terms.specs.declared.types.FType.{FType}
 use Rattle.f_terms.specs.declared.types.FType.TheVariants as T
@@ -22,8 +23,8 @@ use Rattle.f_terms.specs.ReadTerm.{count, node_at}
 use Rattle.f_terms.specs.declared.node.FTerm.{FTerm}
 use Rattle.f_check.specs.Scopes.{Bound, bound, IsScope}
 use Rattle.f_check.specs.Verdict.{IsTypeOf}
-use Rattle.f_check.specs.Mismatch.{Mismatch, Wanted, WType, WFunction, WPolymorphic, WTuple, WField, WPackage}
-use Rattle.f_check.specs.Mismatch.{WReference, WOutside, odds, limits_with, FaultBy}
+use Rattle.f_terms.specs.Mismatch.{Mismatch, Wanted, WType, WFunction, WPolymorphic, WTuple, WField, WPackage}
+use Rattle.f_terms.specs.Mismatch.{WReference, WOutside, odds}
 use Rattle.f_check.specs.Told.{read, Tells, IsPut, IsFound}
 use Rattle.f_check.specs.declared.mismatch.Mismatch as M
 use Rattle.f_check.specs.declared.failure.Failure.{Failure}
@@ -65,15 +66,15 @@ module _ (f : FTerm) (st : State) (w : Task) (hold : Holds f st w) where
   -- a form is refused, where x is what the code says of it
   pub refused : (e : Tm) (st' : State) (c : Code) (s : Span) (x : Option M.Mismatch) (o : Option Mismatch)
       (r : Result Control Failure) (m : ℕ) → r ≡ Err (Refused c s x) → read x ≡ o → w.e ≡ e →
-      FaultBy o e w.around (context w) c (place s) → Goes f st' r m
+      FaultWith e w.around (context w) c (place s) o → Goes f st' r m
   refused e st' c s x o r m er ex is k =
       subst (λ z. Goes f st' z m) (sym er) (fails f st w hold (Refused c s x)
-      (subst (λ z. FaultBy (read x) z w.around (context w) c (place s)) (sym is)
-      (subst (λ z. FaultBy z e w.around (context w) c (place s)) (sym ex) k)))
+      (subst (λ z. FaultWith z w.around (context w) c (place s) (read x)) (sym is)
+      (subst (FaultWith e w.around (context w) c (place s)) (sym ex) k)))
 
-  pub faulty : (e : Tm) (x : Failure) → w.e ≡ e → Tells x (λ m. FaultBy m e w.around (context w)) →
+  pub faulty : (e : Tm) (x : Failure) → w.e ≡ e → Tells x (FaultNoted e w.around (context w)) →
       Tells x (FaultOf (top f))
-  faulty e x is k = fails f st w hold x (subst (λ z. Tells x (λ m. FaultBy m z w.around (context w))) (sym is) k)
+  faulty e x is k = fails f st w hold x (subst (λ z. Tells x (FaultNoted z w.around (context w))) (sym is) k)
 
   -- a form has its type
   pub given : (o : FType) (st' : State) (e : Tm) (t : FType) (s : Span) (m : ℕ) → st'.frames.items ≡ st.frames.items →
@@ -168,11 +169,11 @@ module _ (f : FTerm) (st : State) (ty : FType) (q : Span) where
   gen_type s h = in_gen (now st h.0) h.1 h.4.1 h.4.2 h.4.3 (λ n g. IsTypeOf h.0 n g (tree ty)) h.2
 
   pub gen_refused : (s : Span) → Offered f st (C.Gen s) ty q → (x : Failure) →
-      Tells x (λ m. limits_with m (TAll (tree ty)) (place s) nothing) → Tells x (FaultOf (top f))
+      Tells x (limits (TAll (tree ty)) (place s) nothing) → Tells x (FaultOf (top f))
   gen_refused s h x k =
       let w = h.1 in
       faulty f st w h.5 (SGen (place s) h.0) x h.4.0
-      (forms.tells_map x _ (λ m. FaultBy m (SGen (place s) h.0) w.around (context w))
+      (forms.tells_map x _ (FaultNoted (SGen (place s) h.0) w.around (context w))
       (forms.gen_limit w.around (context w) (place s) h.0 (raised (context w)) (tree ty) refl (gen_type s h).0) k)
 
   pub gen_given : (s : Span) → Offered f st (C.Gen s) ty q → (t : FType) → tree t ≡ TAll (tree ty) →
@@ -264,7 +265,7 @@ module _ (f : FTerm) (st : State) (ty : FType) (q : Span) where
       refused f st w h.5 (SArith (place s) h.4.0 h.0 (node_at f b)) st E12 q k.0 (odds w.around (WType TInt) (tree ty))
       z m
       k.1 (k.2 ∙ ap (λ n. odds n (WType TInt) (tree ty)) h.4.3.0) h.4.1
-      (inr (tree ty, (same_type (C.Left s b) h h.4.3).0, inl (ne, (refl, sym h.3, refl))))
+      (inr (tree ty, (same_type (C.Left s b) h h.4.3).0, inl (ne, (refl, sym h.3))))
 
   pub right_refused : (s : Span) → Offered f st (C.Right s) ty q → (z : Result Control Failure) (m : ℕ) →
       Stops st E12 q (WType TInt) (tree ty) z → tree ty ≢ TInt → Goes f st z m
@@ -272,7 +273,7 @@ module _ (f : FTerm) (st : State) (ty : FType) (q : Span) where
       let w = h.1 in
       refused f st w h.5 (SArith (place s) h.4.0 h.4.1 h.0) st E12 q k.0 (odds w.around (WType TInt) (tree ty)) z m
       k.1 (k.2 ∙ ap (λ n. odds n (WType TInt) (tree ty)) h.4.4.0) h.4.2
-      (inr (TInt, h.4.5, inr (refl, inr (tree ty, (same_type (C.Right s) h h.4.4).0, inl (ne, (refl, sym h.3, refl))))))
+      (inr (TInt, h.4.5, inr (refl, inr (tree ty, (same_type (C.Right s) h h.4.4).0, inl (ne, (refl, sym h.3))))))
 
   pub right_given : (s : Span) → Offered f st (C.Right s) ty q → tree ty ≡ TInt →
       Goes f st (Ok (Give T.Int s T.Int)) (offer_work f st [])
@@ -292,7 +293,7 @@ module _ (f : FTerm) (st : State) (ty : FType) (q : Span) where
       let w = h.1 in
       refused f st w h.5 (SIf0 (place s) h.0 (node_at f a) (node_at f b)) st E12 q k.0
       (odds w.around (WType TInt) (tree ty)) z m k.1 (k.2 ∙ ap (λ n. odds n (WType TInt) (tree ty)) h.4.2.0) h.4.0
-      (inr (tree ty, (same_type (C.Test s a b) h h.4.2).0, inl (ne, (refl, sym h.3, refl))))
+      (inr (tree ty, (same_type (C.Test s a b) h h.4.2).0, inl (ne, (refl, sym h.3))))
 
   pub other_refused : (s : Span) (zero : FType) → Offered f st (C.Other s zero) ty q →
       (z : Result Control Failure) (m : ℕ) →
@@ -365,12 +366,12 @@ module _ (f : FTerm) (st : State) (ty : FType) (q : Span) where
   pub field_faulty : (s : Span) (ts us : Vec FType Global) (rest : Bor (List ℕ)) →
       Offered f st (C.Fields s ts rest) ty q → map tree us.items ≡ map tree ts.items ++ tree ty ∷ [] →
       length rest.now ≡ 0 →
-      (x : Failure) → Tells x (λ m. limits_with m (TTuple (tys (map tree us.items))) (place s) nothing) →
+      (x : Failure) → Tells x (limits (TTuple (tys (map tree us.items))) (place s) nothing) →
       Tells x (FaultOf (top f))
   field_faulty s ts us rest h eu z x k =
       let w = h.1 in
       faulty f st w h.5 (STuple (place s) (tms (h.4.0 ++ h.0 ∷ []))) x (no_rest s ts rest h z)
-      (forms.tells_map x _ (λ m. FaultBy m (STuple (place s) (tms (h.4.0 ++ h.0 ∷ []))) w.around (context w))
+      (forms.tells_map x _ (FaultNoted (STuple (place s) (tms (h.4.0 ++ h.0 ∷ []))) w.around (context w))
       (tuple_limit w.around (context w) (place s) (h.4.0 ++ h.0 ∷ []) (map tree us.items)
       (field_passes s ts us rest h eu)) k)
 
@@ -562,11 +563,11 @@ module _ (f : FTerm) (st : State) (ty : FType) (q : Span) where
 
   -- references
   pub ref_refused : (s : Span) → Offered f st (C.Ref s) ty q → (x : Failure) →
-      Tells x (λ m. limits_with m (TRef (tree ty)) (place s) nothing) → Tells x (FaultOf (top f))
+      Tells x (limits (TRef (tree ty)) (place s) nothing) → Tells x (FaultOf (top f))
   ref_refused s h x k =
       let w = h.1 in
       faulty f st w h.5 (SRef (place s) h.0) x h.4.0
-      (forms.tells_map x _ (λ m. FaultBy m (SRef (place s) h.0) w.around (context w))
+      (forms.tells_map x _ (FaultNoted (SRef (place s) h.0) w.around (context w))
       (forms.ref_limit w.around (context w) (place s) h.0 (tree ty) (same_type (C.Ref s) h h.4.2).0) k)
 
   pub ref_given : (s : Span) → Offered f st (C.Ref s) ty q → (t : FType) → tree t ≡ TRef (tree ty) →

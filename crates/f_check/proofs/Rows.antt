@@ -1,16 +1,15 @@
 -- The parts of a tuple.
-use Rattle.std.proofs.Common.{◌≡◌, ◌≤◌, ◌++◌, ℕ, List, [], ◌∷◌, map, refl, ap, ◌∙◌, sym, subst, arith, inl, inr, Option}
+use Rattle.std.proofs.Common.{◌≡◌, ◌≤◌, ◌++◌, ℕ, List, [], ◌∷◌, map, refl, ap, ◌∙◌, sym, subst, arith, inl, inr}
 use Rattle.idx_core.specs.Over.{BelowAt, AnyDepth}
 use Rattle.f_terms.specs.Ty.{Ty, TTuple, Tys, tys, Below, each_all}
 use Rattle.f_terms.specs.Tm.{Spn, Tm, STuple, tms, plain, plain_all}
 use Rattle.f_terms.specs.Limits.{Within, nodes, nodes_all}
 use Rattle.f_terms.specs.Scope.{InScope, AllInScope}
-use Rattle.f_terms.specs.Faults.{Passes, PassAll, nothing}
+use Rattle.text_core.specs.Refusals.{nothing}
+use Rattle.f_terms.specs.Faults.{Passes, PassAll, Note, limits, FaultNoted, FaultAllNoted}
 use Rattle.f_terms.specs.Read.{tree}
 use Rattle.f_terms.specs.declared.types.FType.{FType}
-use Rattle.f_terms.specs.declared.fault.Code.{Code}
 use Rattle.f_check.specs.Verdict.{IsTypeOf}
-use Rattle.f_check.specs.Mismatch.{Mismatch, limits_with, FaultBy, FaultAllBy}
 use Rattle.f_check.specs.Walk.{AllPass}
 
 -- one part
@@ -49,10 +48,10 @@ module _ (n : ℕ) (g : Tys) where
   below_all (x ∷ es) (u ∷ ts) h = (h.1, below_all es ts h.2)
 
   pub fault_part : (es : List Tm) (ts : List Ty) (e : Tm) (rest : List Tm) → AllPass n g es ts →
-      (m : Option Mismatch) (c : Code) (p : Spn) → FaultBy m e n g c p → FaultAllBy m (tms (es ++ e ∷ rest)) n g c p
-  fault_part [] ts e rest h m c p k = inl k
-  fault_part (x ∷ es) [] e rest h m c p k = absurd h
-  fault_part (x ∷ es) (t ∷ ts) e rest h m c p k = inr (t, h.0, fault_part es ts e rest h.2 m c p k)
+      (c : Note) (p : Spn) → FaultNoted e n g c p → FaultAllNoted (tms (es ++ e ∷ rest)) n g c p
+  fault_part [] ts e rest h c p k = inl k
+  fault_part (x ∷ es) [] e rest h c p k = absurd h
+  fault_part (x ∷ es) (t ∷ ts) e rest h c p k = inr (t, h.0, fault_part es ts e rest h.2 c p k)
 
   pub tuple_ok : (s : Spn) (es : List Tm) (ts : List Ty) (u : Ty) → AllPass n g es ts → u ≡ TTuple (tys ts) →
       Within (TTuple (tys ts)) → IsTypeOf (STuple s (tms es)) n g u
@@ -63,9 +62,9 @@ module _ (n : ℕ) (g : Tys) where
   )
 
   pub tuple_limit : (s : Spn) (es : List Tm) (ts : List Ty) → AllPass n g es ts →
-      (m : Option Mismatch) (c : Code) (p : Spn) → limits_with m (TTuple (tys ts)) s nothing c p →
-      FaultBy m (STuple s (tms es)) n g c p
-  tuple_limit s es ts all m c p k = inr (tys ts, pass_all es ts all, k)
+      (c : Note) (p : Spn) → limits (TTuple (tys ts)) s nothing c p →
+      FaultNoted (STuple s (tms es)) n g c p
+  tuple_limit s es ts all c p k = inr (tys ts, pass_all es ts all, k)
 
 -- one more type
 pub map_push : (old new : List FType) (t : FType) → new ≡ old ++ t ∷ [] → map tree new ≡ map tree old ++ tree t ∷ []

@@ -1,20 +1,19 @@
 -- The steps of a checker.
 use Rattle.std.proofs.Common.{◌≡◌, ℕ, ◌+◌, ◌*◌, ◌<◌, [], ◌∷◌, ◌++◌, map, refl, ap, ◌∙◌, sym, subst, arith, inl, inr}
-use Rattle.std.proofs.Common.{Ok, Option, Vec, Global}
+use Rattle.std.proofs.Common.{Ok, Vec, Global}
 use Rattle.arena.specs.Stack.{Chain, stack_sum}
 use Rattle.arena.proofs.Stacks.{chain_push, chain_pop, chain_up, sum_push}
 use Rattle.f_terms.specs.Ty.{Ty, Tys, NoTys, MoreTys, TInt, TArrow, TRef}
 use Rattle.f_terms.specs.Tm.{Tm, Spn, plain}
 use Rattle.f_terms.specs.Limits.{nodes}
 use Rattle.f_terms.specs.Typing.{raised, in_fix, in_open}
+use Rattle.f_terms.specs.Faults.{Note, FaultNoted}
 use Rattle.f_terms.specs.Read.{tree, place}
 use Rattle.idx_core.specs.declared.span.Span.{Span}
 use Rattle.f_terms.specs.declared.types.FType.{FType}
-use Rattle.f_terms.specs.declared.fault.Code.{Code}
 use Rattle.f_terms.specs.ReadTerm.{node_at}
 use Rattle.f_terms.specs.declared.node.FTerm.{FTerm}
 use Rattle.f_check.specs.Scopes.{names}
-use Rattle.f_check.specs.Mismatch.{Mismatch, FaultBy}
 use Rattle.f_check.specs.Told.{Tells}
 use Rattle.f_check.specs.declared.failure.Failure.{Failure}
 use Rattle.f_check.specs.Walk.{Task, context, FaultOf, fix_names, IsReady, Same, Part, top, now, Holds, Leads, Offered}
@@ -84,27 +83,27 @@ in_gen t w ok en es P k =
     (subst (λ n. P n (names n NoTys t.scope)) en k)
 
 -- a fault of the part is one of the whole form
-module _ (f : FTerm) (m : Option Mismatch) (c : Code) (p : Spn) where
-  up : (fr : Frame) (t w : Task) → Part f fr t w → FaultOf t m c p → FaultOf w m c p
+module _ (f : FTerm) (c : Note) (p : Spn) where
+  up : (fr : Frame) (t w : Task) → Part f fr t w → FaultOf t c p → FaultOf w c p
   up fr t w h k = go fr h
     where
-      same : Same t w → FaultBy m t.e w.around (context w) c p
-      same s = moved t w s (λ n g. FaultBy m t.e n g c p) k
+      same : Same t w → FaultNoted t.e w.around (context w) c p
+      same s = moved t w s (λ n g. FaultNoted t.e n g c p) k
 
-      back : (e : Tm) → w.e ≡ e → FaultBy m e w.around (context w) c p → FaultOf w m c p
-      back e is x = subst (λ z. FaultBy m z w.around (context w) c p) (sym is) x
+      back : (e : Tm) → w.e ≡ e → FaultNoted e w.around (context w) c p → FaultOf w c p
+      back e is x = subst (λ z. FaultNoted z w.around (context w) c p) (sym is) x
 
-      go : (fr : Frame) → Part f fr t w → FaultOf w m c p
+      go : (fr : Frame) → Part f fr t w → FaultOf w c p
       go (C.Fix x) h =
-          let body = in_body t w (tree x.arg.now) (tree x.res.now) h.2 h.3 (λ n g. FaultBy m t.e n g c p) k in
+          let body = in_body t w (tree x.arg.now) (tree x.res.now) h.2 h.3 (λ n g. FaultNoted t.e n g c p) k in
           back _ h.0 (inr (h.4.0, inr (h.4.1, inl body)))
       go (C.Function s x) h = back _ h.0 (inl (same h.2))
       go (C.Argument s a r) h = back _ h.1 (inr (TArrow (tree a) (tree r), h.4.0, inl (same h.3)))
-      go (C.Gen s) h = back _ h.0 (inl (in_gen t w h.1 h.2 h.3 (λ n g. FaultBy m t.e n g c p) k))
+      go (C.Gen s) h = back _ h.0 (inl (in_gen t w h.1 h.2 h.3 (λ n g. FaultNoted t.e n g c p) k))
       go (C.Inst s a) h = back _ h.0 (inl (same h.2))
       go (C.Fields s ts rest) h =
           let more = map (node_at f) rest.now in
-          back _ h.1 (inl (fault_part w.around (context w) h.0 (map tree ts.items) t.e more h.4 m c p (same h.3)))
+          back _ h.1 (inl (fault_part w.around (context w) h.0 (map tree ts.items) t.e more h.4 c p (same h.3)))
       go (C.Proj s i) h = back _ h.0 (inl (same h.2))
       go (C.Left s b) h = back _ h.1 (inl (same h.3))
       go (C.Right s) h = back _ h.2 (inr (TInt, h.5, inr (refl, inl (same h.4))))
@@ -112,15 +111,15 @@ module _ (f : FTerm) (m : Option Mismatch) (c : Code) (p : Spn) where
       go (C.Zero s b) h = back _ h.1 (inr (TInt, h.4, inr (refl, inl (same h.3))))
       go (C.Other s z) h = back _ h.2 (inr (TInt, h.5, inr (refl, inr (tree z, h.6.0, inl (same h.4)))))
       go (C.Let s b) h = back _ h.0 (inl (same h.2))
-      go (C.Body s) h = back _ h.1 (inr (h.4, h.6, in_let t w h.4 h.3 h.5 (λ n g. FaultBy m t.e n g c p) k))
+      go (C.Body s) h = back _ h.1 (inr (h.4, h.6, in_let t w h.4 h.3 h.5 (λ n g. FaultNoted t.e n g c p) k))
       go (C.Pack x) h =
           back _ h.0 (forms.pack_part w.around (context w) (place x.span) (tree x.hidden.now) (tree x.shape.now)
           (tree x.body.now)
-          t.e h.3 h.4 h.5 m c p (same h.2))
+          t.e h.3 h.4 h.5 c p (same h.2))
       go (C.Open s b) h = back _ h.0 (inl (same h.2))
       go (C.Opened s) h =
-          back _ h.1 (forms.open_second w.around (context w) (place s) h.0 t.e h.4 h.6 m c p
-          (in_opened t w h.4 h.2 h.3 h.5 (λ n g. FaultBy m t.e n g c p) k))
+          back _ h.1 (forms.open_second w.around (context w) (place s) h.0 t.e h.4 h.6 c p
+          (in_opened t w h.4 h.2 h.3 h.5 (λ n g. FaultNoted t.e n g c p) k))
       go (C.Ref s) h = back _ h.0 (inl (same h.2))
       go (C.Deref s) h = back _ h.0 (inl (same h.2))
       go (C.Target s b) h = back _ h.0 (inl (same h.2))
@@ -130,7 +129,7 @@ module _ (f : FTerm) (m : Option Mismatch) (c : Code) (p : Spn) where
 pub fails : (f : FTerm) (st : State) (w : Task) → Holds f st w → (e : Failure) → Tells e (FaultOf w) →
     Tells e (FaultOf (top f))
 fails f st w h e k = tells_map e (FaultOf w) (FaultOf (top f))
-    (λ m c p x. chain_up (Part f) (λ t. FaultOf t m c p) (up f m c p) st.frames.items w (top f) h x) k
+    (λ c p x. chain_up (Part f) (λ t. FaultOf t c p) (up f c p) st.frames.items w (top f) h x) k
 
 -- the last frame is taken
 pub offered : (f : FTerm) (st : State) (fs : Vec Frame Global) (fr : Frame) (ty o : FType) (q : Span) →

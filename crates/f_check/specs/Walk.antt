@@ -1,22 +1,22 @@
 -- A checker by a stack: what its state stands for.
-use Rattle.std.specs.Prelude.{◌≡◌, ℕ, ◌+◌, ◌*◌, ◌<◌, ◌≤◌, List, [], ◌∷◌, ◌++◌, length, map, Option, Result, Ok, Err}
+use Rattle.std.specs.Prelude.{◌≡◌, ℕ, ◌+◌, ◌*◌, ◌<◌, ◌≤◌, List, [], ◌∷◌, ◌++◌, length, map, Result, Ok, Err}
 use Rattle.std.specs.List.{All}
 use Rattle.arena.specs.Stack.{Chain, stack_sum}
+use Rattle.text_core.specs.Refusals.{Refusal}
 use Rattle.idx_core.specs.declared.arith.Op.{Op}
 use Rattle.idx_core.specs.declared.span.Span.{Span}
 use Rattle.f_terms.specs.Ty.{Ty, Tys, NoTys, TInt, TArrow, TSome, TRef, Below}
-use Rattle.f_terms.specs.Tm.{Tm, SFix, SApp, SGen, SInst, STuple, SProj, SArith, SIf0, SLet, SPack, SOpen, SRef, SDeref}
-use Rattle.f_terms.specs.Tm.{SAssign, plain, span_of, tms}
+use Rattle.f_terms.specs.Tm.{Spn, Tm, SFix, SApp, SGen, SInst, STuple, SProj, SArith, SIf0, SLet, SPack, SOpen, SRef}
+use Rattle.f_terms.specs.Tm.{SDeref, SAssign, plain, span_of, tms}
 use Rattle.f_terms.specs.Limits.{Within, nodes}
 use Rattle.f_terms.specs.Scope.{InScope}
-use Rattle.f_terms.specs.Faults.{Passes, Refusal}
+use Rattle.f_terms.specs.Faults.{Passes, Note, FaultNoted}
 use Rattle.f_terms.specs.Read.{tree, place}
 use Rattle.f_terms.specs.declared.types.FType.{FType}
 use Rattle.f_terms.specs.ReadTerm.{count, node_at, spanned}
 use Rattle.f_terms.specs.declared.node.FTerm.{FTerm}
 use Rattle.f_check.specs.Scopes.{Bound, bound, names, IsScope}
 use Rattle.f_check.specs.Verdict.{IsTypeOf}
-use Rattle.f_check.specs.Mismatch.{Mismatch, FaultBy}
 use Rattle.f_check.specs.Told.{Tells}
 use Rattle.f_check.specs.declared.failure.Failure.{Failure}
 use Rattle.f_check.specs.declared.frame.Frame.{Frame}
@@ -34,12 +34,12 @@ pub record Task : Type 0 where
 abbrev pub context : Task → Tys
 context t = names t.around NoTys t.scope
 
--- a term of this type, and a fault of the term, where m is what is at odds
+-- a term of this type, and the first fault of the term
 abbrev pub TypeIs : Task → Ty → Type 0
 TypeIs t ty = IsTypeOf t.e t.around (context t) ty
 
-abbrev pub FaultOf : Task → Option Mismatch → Refusal
-FaultOf t m = FaultBy m t.e t.around (context t)
+abbrev pub FaultOf : Task → Refusal Note Spn
+FaultOf t = FaultNoted t.e t.around (context t)
 
 -- the names are bound, and there is room for numbers
 abbrev pub IsReady : Task → Type 0

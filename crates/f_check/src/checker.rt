@@ -4,7 +4,8 @@ ghost use Rattle.idx_core.specs.declared.span.Span as places;
 ghost use Rattle.f_terms.specs.Ty.{Ty, NoTys};
 ghost use Rattle.f_terms.specs.Limits.{nodes};
 ghost use Rattle.f_terms.specs.Scope.{IsClosed};
-ghost use Rattle.f_terms.specs.Faults.{Fault};
+ghost use Rattle.f_terms.specs.Faults.{FaultNoted, FaultWith, Fault};
+ghost use Rattle.f_terms.specs.Mismatch as plain;
 ghost use Rattle.f_terms.specs.Accepted.{IsAccepted};
 ghost use Rattle.f_terms.specs.Read.{tree, place};
 ghost use Rattle.f_terms.specs.declared.fault.Code as codes;
@@ -14,21 +15,19 @@ ghost use Rattle.f_terms.specs.NotedTerm.{noted_of};
 ghost use Rattle.f_terms.specs.ReadTerm.{count, term_of, spanned};
 ghost use Rattle.f_check.specs.Typed.{typed_term, typed_type};
 ghost use Rattle.f_check.specs.Verdict.{Says, IsTypeOf};
-ghost use Rattle.f_check.specs.Mismatch as plain;
-ghost use Rattle.f_check.specs.Mismatch.{FaultBy, FaultWith};
 ghost use Rattle.f_check.specs.Told.{Tells, read};
 ghost use Rattle.f_terms.specs.Tm.{Spn};
 
 use crate::begin::begin;
 use crate::failure::{Failure, fault_alone, mismatch_alone};
 use crate::frame::{Control, Passed, State};
-use crate::laws::{faults_have_one_mismatch, mismatches_are_of_the_fault};
 use crate::mismatch::Mismatch;
 use crate::notes::{blank, close, follow, note};
 use crate::resume::resume;
 use crate::typed::Typed;
 use f_terms::{
-    FFault, FTerm, FType, no_fault_beside_a_pass, one_fault, one_type, passes_where_typed,
+    FFault, FTerm, FType, no_fault_beside_a_pass, one_fault, one_mismatch, one_type,
+    passes_where_typed,
 };
 use idx_core::OutOfMemory;
 use std::alloc::Global;
@@ -40,7 +39,7 @@ fn type_of(alloc: Global, term: &FTerm) -> Result<(FType, Vec<FType>), Failure>
     requires nodes { nodes (term_of term.now) ≤ 4294967295 }
     ensures { MatchResult result (λ r. IsTypeOf (spanned term.now) 0 NoTys (tree r.0)
         × (count term.now ≤ length r.1.items) × Beside (noted_of term.now r.1.items) NoTys)
-        (λ e. Tells e (λ m. FaultBy m (spanned term.now) 0 NoTys)) }
+        (λ e. Tells e (FaultNoted (spanned term.now) 0 NoTys)) }
 {
     let mut state = State {
         frames: Vec::new(alloc),
@@ -91,7 +90,6 @@ pub fn check(alloc: Global, term: FTerm) -> Result<Typed, (FTerm, FFault)>
     no_fault_beside_a_pass();
     one_fault();
     one_type();
-    mismatches_are_of_the_fault();
     match type_of(alloc, &term) {
         Ok((ty, types)) => Ok(Typed { term, ty, types }),
         Err(e) => Err((term, fault_alone(e))),
@@ -108,8 +106,7 @@ pub fn mismatch_of(alloc: Global, term: &FTerm) -> Result<Option<Mismatch>, OutO
         FaultWith (spanned term.now) 0 NoTys code p m → IfOk result (λ r. read r ≡ m) }
 {
     no_fault_beside_a_pass();
-    mismatches_are_of_the_fault();
-    faults_have_one_mismatch();
+    one_mismatch();
     match type_of(alloc, term) {
         Ok(_) => Ok(None),
         Err(e) => mismatch_alone(e),

@@ -1,7 +1,7 @@
 // What is at odds in a fault: what a type had to be, and the type that is there.
 ghost use Rattle.std.specs.Prelude.{◌≡◌};
 ghost use Rattle.f_terms.specs.Read.{tree};
-ghost use Rattle.f_check.specs.Mismatch as plain;
+ghost use Rattle.f_terms.specs.Mismatch as plain;
 ghost use Rattle.f_check.specs.Told.{read, wish};
 
 use f_terms::FType;

@@ -1,16 +1,16 @@
 -- What passes each check has no fault, and two first faults are equal.
-use Rattle.std.proofs.Common.{◌≡◌, ℕ, ◌+◌, refl, sym, subst}
+use Rattle.std.proofs.Common.{◌≡◌, ℕ, ◌+◌, refl, ap}
+use Rattle.text_core.proofs.Refusals.{Clear, clear_nothing, clear_check, clear_part, One, one_nothing, one_refuse}
+use Rattle.text_core.proofs.Refusals.{one_check, one_part}
 use Rattle.f_terms.specs.Ty.{Ty, TInt, TArrow, TAll, TTuple, TSome, TRef, Tys, MoreTys, shift, put}
 use Rattle.f_terms.specs.Tm.{Tm, SVar, SNum, SFix, SApp, SGen, SInst, STuple, SProj, SArith, SIf0, SLet, SPack, SOpen}
 use Rattle.f_terms.specs.Tm.{SRef, SDeref, SAssign, Tms, NoTms, MoreTms, plain, plain_all}
 use Rattle.f_terms.specs.Typing.{field_ty, raised, in_fix, in_open, HasType, HaveTypes}
-use Rattle.f_terms.specs.Faults.{Passes, PassAll, Refusal, refuse, if_some, Fault, FaultAll}
-use Rattle.f_terms.specs.Laws.{NoFaultBesideAPass, OneFault}
-use Rattle.f_terms.specs.declared.fault.Code.TheVariants.{E11}
+use Rattle.f_terms.specs.Faults.{Note, Passes, PassAll, FaultNoted, FaultAllNoted}
+use Rattle.f_terms.specs.Laws.{NoFaultBesideAPass, OneFault, OneMismatch}
 use Rattle.f_terms.specs.OneType.{one_type, one_list}
-use Rattle.f_terms.proofs.Refusals.{Clear, clear_nothing, clear_check, clear_part, clear_limits, clear_some, One}
-use Rattle.f_terms.proofs.Refusals.{one_nothing, one_refuse, one_check, one_part, one_limits, one_arrow, one_all}
-use Rattle.f_terms.proofs.Refusals.{one_tuple, one_some, one_ref, one_none}
+use Rattle.f_terms.proofs.Refusals.{clear_limits, clear_package, clear_some, one_limits, one_fitting, one_arrow}
+use Rattle.f_terms.proofs.Refusals.{one_all, one_tuple, one_some, one_ref, one_none}
 
 mutual
   pub has_type : (e : Tm) (n : ℕ) (g : Tys) (t : Ty) → Passes e n g t → HasType (plain e) n g t
@@ -42,12 +42,8 @@ one_pass e n g t u h k = one_type (plain e) n g t u (has_type e n g t h) (has_ty
 pub one_pass_all : (es : Tms) (n : ℕ) (g t u : Tys) → PassAll es n g t → PassAll es n g u → t ≡ u
 one_pass_all es n g t u h k = one_list (plain_all es) n g t u (have_types es n g t h) (have_types es n g u k)
 
-clear_some_type : {t u : Ty} (other : Refusal) (go : Ty → Refusal) → t ≡ TSome u → Clear (go u) →
-    Clear (if_some t other go)
-clear_some_type other go e k = subst (λ x. Clear (if_some x other go)) (sym e) k
-
 mutual
-  no_fault : (e : Tm) (n : ℕ) (g : Tys) (t : Ty) → Passes e n g t → Clear (Fault e n g)
+  no_fault : (e : Tm) (n : ℕ) (g : Tys) (t : Ty) → Passes e n g t → Clear (FaultNoted e n g)
   no_fault (SVar s i) n g t h = clear_nothing
   no_fault (SNum s i) n g t h = clear_nothing
   no_fault (SFix s arg res e) n g t h =
@@ -68,7 +64,7 @@ mutual
       (clear_limits (TTuple h.0) s h.3 clear_nothing)
   no_fault (SProj s i e) n g t h =
       clear_part (TTuple h.0) h.2 (no_fault e n g _ h.2) (λ u k. one_pass e n g _ u h.2 k)
-      (clear_some (refuse E11 s) h.1)
+      (clear_some _ h.1)
   no_fault (SArith s op a b) n g t h =
       clear_part TInt h.1 (no_fault a n g _ h.1) (λ u k. one_pass a n g _ u h.1 k) (clear_check refl
       (clear_part TInt h.2 (no_fault b n g _ h.2) (λ u k. one_pass b n g _ u h.2 k) (clear_check refl clear_nothing)))
@@ -79,7 +75,7 @@ mutual
   no_fault (SLet s a b) n g t h =
       clear_part h.0 h.1 (no_fault a n g _ h.1) (λ u k. one_pass a n g _ u h.1 k) (no_fault b n (MoreTys h.0 g) t h.2)
   no_fault (SPack s x e r) n g t h =
-      clear_some_type _ _ h.1 (clear_limits x s h.6 (clear_limits r s h.7
+      clear_package _ _ h.1 (clear_limits x s h.6 (clear_limits r s h.7
       (clear_part (put 0 x h.0) h.5 (no_fault e n g _ h.5) (λ u k. one_pass e n g _ u h.5 k)
       (clear_check refl clear_nothing))))
   no_fault (SOpen s a b) n g t h =
@@ -95,13 +91,13 @@ mutual
       clear_part (TRef h.0) h.2 (no_fault a n g _ h.2) (λ u k. one_pass a n g _ u h.2 k)
       (clear_part h.0 h.3 (no_fault b n g _ h.3) (λ u k. one_pass b n g _ u h.3 k) (clear_check refl clear_nothing))
 
-  no_faults : (es : Tms) (n : ℕ) (g ts : Tys) → PassAll es n g ts → Clear (FaultAll es n g)
+  no_faults : (es : Tms) (n : ℕ) (g ts : Tys) → PassAll es n g ts → Clear (FaultAllNoted es n g)
   no_faults NoTms n g ts h = clear_nothing
   no_faults (MoreTms e es) n g ts h =
       clear_part h.0 h.3 (no_fault e n g _ h.3) (λ u k. one_pass e n g _ u h.3 k) (no_faults es n g h.1 h.4)
 
 mutual
-  fault_one : (e : Tm) (n : ℕ) (g : Tys) → One (Fault e n g)
+  fault_one : (e : Tm) (n : ℕ) (g : Tys) → One (FaultNoted e n g)
   fault_one (SVar s i) n g = one_nothing
   fault_one (SNum s i) n g = one_nothing
   fault_one (SFix s arg res e) n g =
@@ -132,7 +128,8 @@ mutual
       one_part (fault_one a n g) (no_fault a n g) (one_pass a n g) (λ t. fault_one b n (MoreTys t g))
   fault_one (SPack s x e r) n g =
       one_some r one_refuse (λ u. one_limits x s (one_limits r s
-      (one_part (fault_one e n g) (no_fault e n g) (one_pass e n g) (λ t. one_check one_refuse one_nothing))))
+      (one_part (fault_one e n g) (no_fault e n g) (one_pass e n g)
+      (λ t. one_check (one_fitting _ _ _ _) one_nothing))))
   fault_one (SOpen s a b) n g =
       one_part (fault_one a n g) (no_fault a n g) (one_pass a n g) (λ t. one_some t one_refuse (λ u.
       one_part (fault_one b _ _) (no_fault b _ _) (one_pass b _ _) (λ v. one_check one_refuse one_nothing)))
@@ -144,12 +141,17 @@ mutual
       one_part (fault_one a n g) (no_fault a n g) (one_pass a n g) (λ t. one_ref t one_refuse (λ u.
       one_part (fault_one b n g) (no_fault b n g) (one_pass b n g) (λ v. one_check one_refuse one_nothing)))
 
-  faults_one : (es : Tms) (n : ℕ) (g : Tys) → One (FaultAll es n g)
+  faults_one : (es : Tms) (n : ℕ) (g : Tys) → One (FaultAllNoted es n g)
   faults_one NoTms n g = one_nothing
   faults_one (MoreTms e es) n g = one_part (fault_one e n g) (no_fault e n g) (one_pass e n g) (λ t. faults_one es n g)
 
 pub no_fault_beside : NoFaultBesideAPass
-no_fault_beside e n g t c p h k = (no_fault e n g t h).clear c p k
+no_fault_beside e n g t c p h k = (no_fault e n g t h).clear (c, k.0) p k.1
 
 pub one_fault : OneFault
-one_fault e n g c d p q h k = (fault_one e n g).one c d p q h k
+one_fault e n g c d p q h k =
+    let same = (fault_one e n g).one (c, h.0) (d, k.0) p q h.1 k.1 in (ap (λ (x : Note). x.0) same.0, same.1)
+
+pub one_mismatch : OneMismatch
+one_mismatch e n g c d p q m k h i =
+    ap (λ (x : Note). x.1) ((fault_one e n g).one (c, m) (d, k) p q h i).0

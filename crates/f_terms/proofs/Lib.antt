@@ -1,7 +1,7 @@
 mod Admitting
 mod Closing
 mod Decided
-pub mod FaultRows
+mod FaultRows
 mod Replacing
 mod Rows
 mod Sound

@@ -9,7 +9,8 @@ use Rattle.f_terms.specs.Tm.{SRef, SDeref, SAssign, Tms, NoTms, MoreTms, plain, 
 use Rattle.f_terms.specs.Limits.{Within}
 use Rattle.f_terms.specs.Typing.{ty_at, field_ty, raised, in_fix, in_open, HasType, HaveTypes}
 use Rattle.f_terms.specs.Faults.{Passes, PassAll}
-use Rattle.f_terms.specs.Accepted.{TypeWithin, KeepsLimits, AllKeepLimits}
+use Rattle.f_terms.specs.Accepted.{KeepsLimits}
+use Rattle.f_terms.specs.Keeps.{TypeHas, AllKeep}
 use Rattle.f_terms.specs.Laws.{AllWithin, PassesWhereTyped}
 use Rattle.f_terms.specs.OneType.{one_type, some_is, hidden_is}
 use Rattle.f_terms.proofs.Faulty.{has_type}
@@ -99,7 +100,7 @@ passed_within (SRef s e) n g t w h = subst Within (sym h.1) h.3
 passed_within (SDeref s e) n g t w h = ref_within t (passed_within e n g (TRef t) w h)
 passed_within (SAssign s a b) n g t w h = subst Within (sym h.1) (omega arith, omega arith)
 
-type_within : (e : Tm) (n : ℕ) (g : Tys) (t : Ty) → AllWithin g → Passes e n g t → TypeWithin (plain e) n g
+type_within : (e : Tm) (n : ℕ) (g : Tys) (t : Ty) → AllWithin g → Passes e n g t → TypeHas Within (plain e) n g
 type_within e n g t w h u k =
     subst Within (one_type (plain e) n g t u (has_type e n g t h) k) (passed_within e n g t w h)
 
@@ -139,7 +140,7 @@ mutual
   keeps (SDeref s e) n g t w h = (type_within (SDeref s e) n g t w h, keeps e n g _ w h)
   keeps (SAssign s a b) n g t w h = (type_within (SAssign s a b) n g t w h, keeps a n g _ w h.2, keeps b n g _ w h.3)
 
-  keeps_all : (es : Tms) (n : ℕ) (g ts : Tys) → AllWithin g → PassAll es n g ts → AllKeepLimits (plain_all es) n g
+  keeps_all : (es : Tms) (n : ℕ) (g ts : Tys) → AllWithin g → PassAll es n g ts → AllKeep Within (plain_all es) n g
   keeps_all NoTms n g ts w h = tt
   keeps_all (MoreTms e es) n g ts w h = (keeps e n g _ w h.3, keeps_all es n g _ w h.4)
 
@@ -164,7 +165,7 @@ mutual
   passes (SDeref s e) n g t h k = passes e n g _ h k.1
   passes (SAssign s a b) n g t h k = (h.0, h.1, passes a n g _ h.2 k.1, passes b n g _ h.3 k.2)
 
-  pass_all : (es : Tms) (n : ℕ) (g ts : Tys) → HaveTypes (plain_all es) n g ts → AllKeepLimits (plain_all es) n g →
+  pass_all : (es : Tms) (n : ℕ) (g ts : Tys) → HaveTypes (plain_all es) n g ts → AllKeep Within (plain_all es) n g →
       PassAll es n g ts
   pass_all NoTms n g ts h k = h
   pass_all (MoreTms e es) n g ts h k = (h.0, h.1, h.2, passes e n g _ h.3 k.0, pass_all es n g _ h.4 k.1)

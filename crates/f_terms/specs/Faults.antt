@@ -1,12 +1,15 @@
 -- The first fault of typing: each part in turn, whole, with what is asked of it, and then the form itself; a `fix` has
 -- its type looked at before its body, and a `pack` its two types before its part.
-use Rattle.std.specs.Prelude.{◌≡◌, ℕ, ◌+◌, ◌⊎◌, Option, Some, None}
+use Rattle.std.specs.Prelude.{◌≡◌, ℕ, ◌+◌, Option, Some, None}
+use Rattle.text_core.specs.Refusals.{Refusal, nothing, refuse, check, part}
 use Rattle.f_terms.specs.Ty.{Ty, TInt, TVar, TArrow, TAll, TTuple, TSome, TRef, Tys, NoTys, MoreTys, shift, put, Below}
 use Rattle.f_terms.specs.Tm.{Spn, Tm, SVar, SNum, SFix, SApp, SGen, SInst, STuple, SProj, SArith, SIf0, SLet, SPack}
 use Rattle.f_terms.specs.Tm.{SOpen, SRef, SDeref, SAssign, Tms, NoTms}
 use Rattle.f_terms.specs.Tm.{MoreTms, span_of}
 use Rattle.f_terms.specs.Limits.{Shallow, Small, Within}
 use Rattle.f_terms.specs.Typing.{ty_at, field_ty, raised, in_fix, in_open}
+use Rattle.f_terms.specs.Mismatch.{Wanted, WType, WFunction, WPolymorphic, WTuple, WField, WPackage, WReference}
+use Rattle.f_terms.specs.Mismatch.{WOutside, Mismatch, odds}
 use Rattle.f_terms.specs.declared.fault.Code.{Code}
 use Rattle.f_terms.specs.declared.fault.Code.TheVariants.{E07, E08, E09, E10, E11, E12, E13, E14, E16, E17, E18}
 use Rattle.f_terms.specs.declared.fault.Code.TheVariants.{E21, E22, L4, L5}
@@ -43,30 +46,23 @@ abbrev mutual
   PassAll NoTms n g ts = ts ≡ NoTys
   PassAll (MoreTms e es) n g ts = (t : Ty) × (us : Tys) × (ts ≡ MoreTys t us) × Passes e n g t × PassAll es n g us
 
--- which fault is the first, and at which place
-abbrev pub Refusal : Type 1
-Refusal = Code → Spn → Type 0
+-- a code, with what is at odds
+abbrev pub Note : Type 0
+Note = Code × Option Mismatch
 
-abbrev pub nothing : Refusal
-nothing c p = ⊥
+-- a fault that says no more than its code, and one that says what was wanted of which type under n type names
+abbrev pub bare : Code → Spn → Refusal Note Spn
+bare code s = refuse (code, None) s
 
-abbrev pub refuse : Code → Spn → Refusal
-refuse code span c p = (c ≡ code) × (p ≡ span)
-
--- a fact is checked: the fault where it does not hold, else the rest follows
-abbrev pub check : Type 0 → Refusal → Refusal → Refusal
-check P fault rest c p = ((P → ⊥) × fault c p) ⊎ (P × rest c p)
-
--- a part is checked: its fault, or the rest follows, with the type that it passes with
-abbrev pub part : {A : Type 0} → Refusal → (A → Type 0) → (A → Refusal) → Refusal
-part fault Ok rest c p = fault c p ⊎ ((t : _) × Ok t × rest t c p)
+abbrev pub at_odds : Code → ℕ → Wanted → Ty → Spn → Refusal Note Spn
+at_odds code n w t s = refuse (code, odds n w t) s
 
 -- L4 and L5 of a type, L4 first
-abbrev pub limits : Ty → Spn → Refusal → Refusal
-limits t s rest = check (Shallow t) (refuse L4 s) (check (Small t) (refuse L5 s) rest)
+abbrev pub limits : Ty → Spn → Refusal Note Spn → Refusal Note Spn
+limits t s rest = check (Shallow t) (bare L4 s) (check (Small t) (bare L5 s) rest)
 
 -- by the form of a type
-abbrev pub if_arrow : Ty → Refusal → (Ty → Ty → Refusal) → Refusal
+abbrev pub if_arrow : Ty → Refusal Note Spn → (Ty → Ty → Refusal Note Spn) → Refusal Note Spn
 if_arrow (TArrow a b) other go = go a b
 if_arrow TInt other go = other
 if_arrow (TVar i) other go = other
@@ -75,7 +71,7 @@ if_arrow (TTuple ts) other go = other
 if_arrow (TSome t) other go = other
 if_arrow (TRef t) other go = other
 
-abbrev pub if_all : Ty → Refusal → (Ty → Refusal) → Refusal
+abbrev pub if_all : Ty → Refusal Note Spn → (Ty → Refusal Note Spn) → Refusal Note Spn
 if_all (TAll t) other go = go t
 if_all TInt other go = other
 if_all (TVar i) other go = other
@@ -84,7 +80,7 @@ if_all (TTuple ts) other go = other
 if_all (TSome t) other go = other
 if_all (TRef t) other go = other
 
-abbrev pub if_tuple : Ty → Refusal → (Tys → Refusal) → Refusal
+abbrev pub if_tuple : Ty → Refusal Note Spn → (Tys → Refusal Note Spn) → Refusal Note Spn
 if_tuple (TTuple ts) other go = go ts
 if_tuple TInt other go = other
 if_tuple (TVar i) other go = other
@@ -93,7 +89,7 @@ if_tuple (TAll t) other go = other
 if_tuple (TSome t) other go = other
 if_tuple (TRef t) other go = other
 
-abbrev pub if_some : Ty → Refusal → (Ty → Refusal) → Refusal
+abbrev pub if_some : Ty → Refusal Note Spn → (Ty → Refusal Note Spn) → Refusal Note Spn
 if_some (TSome t) other go = go t
 if_some TInt other go = other
 if_some (TVar i) other go = other
@@ -102,7 +98,7 @@ if_some (TAll t) other go = other
 if_some (TTuple ts) other go = other
 if_some (TRef t) other go = other
 
-abbrev pub if_ref : Ty → Refusal → (Ty → Refusal) → Refusal
+abbrev pub if_ref : Ty → Refusal Note Spn → (Ty → Refusal Note Spn) → Refusal Note Spn
 if_ref (TRef t) other go = go t
 if_ref TInt other go = other
 if_ref (TVar i) other go = other
@@ -111,51 +107,77 @@ if_ref (TAll t) other go = other
 if_ref (TTuple ts) other go = other
 if_ref (TSome t) other go = other
 
-abbrev pub if_none : Option Ty → Refusal → Refusal
+abbrev pub if_none : Option Ty → Refusal Note Spn → Refusal Note Spn
 if_none None fault = fault
 if_none (Some t) fault = nothing
 
+-- E17 of a part of type t under n type names, where w was wanted: named where it keeps the limits on types
+abbrev pub fitting : ℕ → Ty → Ty → Spn → Refusal Note Spn
+fitting n w t s = check (Within w) (bare E17 s) (at_odds E17 n (WType w) t s)
+
 -- the first fault of a term under n type variables, with the types g of the value variables
 abbrev mutual
-  pub Fault : Tm → ℕ → Tys → Refusal
-  Fault (SVar s i) n g = nothing
-  Fault (SNum s i) n g = nothing
-  Fault (SFix s arg res e) n g =
-      limits (TArrow arg res) s (part (Fault e n (in_fix arg res g)) (Passes e n (in_fix arg res g))
-      (λ t. check (t ≡ res) (refuse E14 (span_of e)) nothing))
-  Fault (SApp s f x) n g =
-      part (Fault f n g) (Passes f n g) (λ t. if_arrow t (refuse E07 (span_of f)) (λ a b.
-      part (Fault x n g) (Passes x n g) (λ u. check (u ≡ a) (refuse E08 (span_of x)) nothing)))
-  Fault (SGen s e) n g = part (Fault e (n + 1) (raised g)) (Passes e (n + 1) (raised g))
+  pub FaultNoted : Tm → ℕ → Tys → Refusal Note Spn
+  FaultNoted (SVar s i) n g = nothing
+  FaultNoted (SNum s i) n g = nothing
+  FaultNoted (SFix s arg res e) n g =
+      limits (TArrow arg res) s (part (FaultNoted e n (in_fix arg res g)) (Passes e n (in_fix arg res g))
+      (λ t. check (t ≡ res) (at_odds E14 n (WType res) t (span_of e)) nothing))
+  FaultNoted (SApp s f x) n g =
+      part (FaultNoted f n g) (Passes f n g) (λ t.
+      if_arrow t (at_odds E07 n WFunction t (span_of f)) (λ a b.
+      part (FaultNoted x n g) (Passes x n g) (λ u.
+      check (u ≡ a) (at_odds E08 n (WType a) u (span_of x)) nothing)))
+  FaultNoted (SGen s e) n g = part (FaultNoted e (n + 1) (raised g)) (Passes e (n + 1) (raised g))
       (λ t. limits (TAll t) s nothing)
-  Fault (SInst s e a) n g =
-      part (Fault e n g) (Passes e n g)
-      (λ t. if_all t (refuse E09 (span_of e)) (λ b. limits a s (limits (put 0 a b) s nothing)))
-  Fault (STuple s es) n g = part (FaultAll es n g) (PassAll es n g) (λ ts. limits (TTuple ts) s nothing)
-  Fault (SProj s i e) n g =
-      part (Fault e n g) (Passes e n g)
-      (λ t. if_tuple t (refuse E10 (span_of e)) (λ ts. if_none (field_ty ts i) (refuse E11 s)))
-  Fault (SArith s op a b) n g =
-      part (Fault a n g) (Passes a n g) (λ t. check (t ≡ TInt) (refuse E12 (span_of a))
-      (part (Fault b n g) (Passes b n g) (λ u. check (u ≡ TInt) (refuse E12 (span_of b)) nothing)))
-  Fault (SIf0 s c a b) n g =
-      part (Fault c n g) (Passes c n g) (λ t. check (t ≡ TInt) (refuse E12 (span_of c))
-      (part (Fault a n g) (Passes a n g)
-      (λ u. part (Fault b n g) (Passes b n g) (λ v. check (v ≡ u) (refuse E13 (span_of b)) nothing))))
-  Fault (SLet s a b) n g = part (Fault a n g) (Passes a n g) (λ t. Fault b n (MoreTys t g))
-  Fault (SPack s h e r) n g =
-      if_some r (refuse E16 s) (λ u. limits h s (limits r s
-      (part (Fault e n g) (Passes e n g) (λ t. check (t ≡ put 0 h u) (refuse E17 (span_of e)) nothing))))
-  Fault (SOpen s a b) n g =
-      part (Fault a n g) (Passes a n g) (λ t. if_some t (refuse E16 (span_of a)) (λ u.
-      part (Fault b (n + 1) (in_open u g)) (Passes b (n + 1) (in_open u g))
-      (λ v. check ((w : Ty) × IsOutside n v w) (refuse E18 (span_of b)) nothing)))
-  Fault (SRef s e) n g = part (Fault e n g) (Passes e n g) (λ t. limits (TRef t) s nothing)
-  Fault (SDeref s e) n g = part (Fault e n g) (Passes e n g) (λ t. if_ref t (refuse E21 (span_of e)) (λ u. nothing))
-  Fault (SAssign s a b) n g =
-      part (Fault a n g) (Passes a n g) (λ t. if_ref t (refuse E21 (span_of a)) (λ u.
-      part (Fault b n g) (Passes b n g) (λ v. check (v ≡ u) (refuse E22 (span_of b)) nothing)))
+  FaultNoted (SInst s e a) n g =
+      part (FaultNoted e n g) (Passes e n g)
+      (λ t. if_all t (at_odds E09 n WPolymorphic t (span_of e))
+      (λ b. limits a s (limits (put 0 a b) s nothing)))
+  FaultNoted (STuple s es) n g =
+      part (FaultAllNoted es n g) (PassAll es n g) (λ ts. limits (TTuple ts) s nothing)
+  FaultNoted (SProj s i e) n g =
+      part (FaultNoted e n g) (Passes e n g)
+      (λ t. if_tuple t (at_odds E10 n WTuple t (span_of e))
+      (λ ts. if_none (field_ty ts i) (at_odds E11 n WField t s)))
+  FaultNoted (SArith s op a b) n g =
+      part (FaultNoted a n g) (Passes a n g)
+      (λ t. check (t ≡ TInt) (at_odds E12 n (WType TInt) t (span_of a))
+      (part (FaultNoted b n g) (Passes b n g)
+      (λ u. check (u ≡ TInt) (at_odds E12 n (WType TInt) u (span_of b)) nothing)))
+  FaultNoted (SIf0 s c a b) n g =
+      part (FaultNoted c n g) (Passes c n g)
+      (λ t. check (t ≡ TInt) (at_odds E12 n (WType TInt) t (span_of c))
+      (part (FaultNoted a n g) (Passes a n g)
+      (λ u. part (FaultNoted b n g) (Passes b n g)
+      (λ v. check (v ≡ u) (at_odds E13 n (WType u) v (span_of b)) nothing))))
+  FaultNoted (SLet s a b) n g = part (FaultNoted a n g) (Passes a n g) (λ t. FaultNoted b n (MoreTys t g))
+  FaultNoted (SPack s h e r) n g =
+      if_some r (at_odds E16 n WPackage r s) (λ u. limits h s (limits r s
+      (part (FaultNoted e n g) (Passes e n g)
+      (λ t. check (t ≡ put 0 h u) (fitting n (put 0 h u) t (span_of e)) nothing))))
+  FaultNoted (SOpen s a b) n g =
+      part (FaultNoted a n g) (Passes a n g)
+      (λ t. if_some t (at_odds E16 n WPackage t (span_of a)) (λ u.
+      part (FaultNoted b (n + 1) (in_open u g)) (Passes b (n + 1) (in_open u g))
+      (λ v. check ((w : Ty) × IsOutside n v w) (at_odds E18 (n + 1) WOutside v (span_of b)) nothing)))
+  FaultNoted (SRef s e) n g = part (FaultNoted e n g) (Passes e n g) (λ t. limits (TRef t) s nothing)
+  FaultNoted (SDeref s e) n g = part (FaultNoted e n g) (Passes e n g)
+      (λ t. if_ref t (at_odds E21 n WReference t (span_of e)) (λ u. nothing))
+  FaultNoted (SAssign s a b) n g =
+      part (FaultNoted a n g) (Passes a n g)
+      (λ t. if_ref t (at_odds E21 n WReference t (span_of a)) (λ u.
+      part (FaultNoted b n g) (Passes b n g)
+      (λ v. check (v ≡ u) (at_odds E22 n (WType u) v (span_of b)) nothing)))
 
-  pub FaultAll : Tms → ℕ → Tys → Refusal
-  FaultAll NoTms n g = nothing
-  FaultAll (MoreTms e es) n g = part (Fault e n g) (Passes e n g) (λ t. FaultAll es n g)
+  pub FaultAllNoted : Tms → ℕ → Tys → Refusal Note Spn
+  FaultAllNoted NoTms n g = nothing
+  FaultAllNoted (MoreTms e es) n g = part (FaultNoted e n g) (Passes e n g) (λ t. FaultAllNoted es n g)
+
+-- the first fault, its place, and what is at odds in it
+abbrev pub FaultWith : Tm → ℕ → Tys → Code → Spn → Option Mismatch → Type 0
+FaultWith e n g c p m = FaultNoted e n g (c, m) p
+
+-- the first fault and its place
+abbrev pub Fault : Tm → ℕ → Tys → Code → Spn → Type 0
+Fault e n g c p = (m : Option Mismatch) × FaultWith e n g c p m

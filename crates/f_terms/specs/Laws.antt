@@ -1,11 +1,12 @@
 -- Laws of the source calculus.
-use Rattle.std.specs.Prelude.{◌≡◌, ℕ, ℤ, ◌+◌, ◌≤◌, ◌⊎◌, ◌↔◌}
+use Rattle.std.specs.Prelude.{◌≡◌, ℕ, ℤ, ◌+◌, ◌≤◌, ◌⊎◌, ◌↔◌, Option}
 use Rattle.f_terms.specs.Ty.{Ty, TAll, Tys, NoTys, MoreTys, shift, put}
 use Rattle.f_terms.specs.Tm.{Spn, Tm, Term, plain}
 use Rattle.f_terms.specs.Limits.{Within}
 use Rattle.f_terms.specs.Scope.{IsClosed}
 use Rattle.f_terms.specs.Typing.{HasType, IsProgram}
-use Rattle.f_terms.specs.Faults.{Passes, Fault}
+use Rattle.f_terms.specs.Mismatch.{Mismatch}
+use Rattle.f_terms.specs.Faults.{Passes, FaultWith, Fault}
 use Rattle.f_terms.specs.Accepted.{KeepsLimits}
 use Rattle.f_terms.specs.Eval.{Val, Vals, Gives, cells, eval, eval_by, turn, Evaluates, IsSpent}
 use Rattle.f_terms.specs.Replaced.{replaced, values_replaced, result_replaced}
@@ -45,6 +46,11 @@ PassOrFault = (e : Tm) → IsClosed (plain e) →
 -- two first faults are equal, in code and place
 abbrev pub OneFault : Type 0
 OneFault = (e : Tm) (n : ℕ) (g : Tys) (c d : Code) (p q : Spn) → Fault e n g c p → Fault e n g d q → (c ≡ d) × (p ≡ q)
+
+-- and so is what is at odds in them
+abbrev pub OneMismatch : Type 0
+OneMismatch = (e : Tm) (n : ℕ) (g : Tys) (c d : Code) (p q : Spn) (m k : Option Mismatch) →
+    FaultWith e n g c p m → FaultWith e n g d q k → m ≡ k
 
 -- the rules of evaluation with no bound on the depth: those of `eval_by`, where a body is entered by `turn`
 abbrev pub KeepsRules : Type 0

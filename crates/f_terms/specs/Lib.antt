@@ -2,9 +2,11 @@ pub mod Accepted
 pub mod Cells
 pub mod Eval
 pub mod Faults
+pub mod Keeps
 pub mod Laws
 pub mod Limits
 pub mod Made
+pub mod Mismatch
 pub mod Noted
 pub mod NotedProps
 pub mod NotedTerm

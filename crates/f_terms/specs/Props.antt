@@ -10,8 +10,10 @@ use Rattle.f_terms.specs.Ty.{put, Below}
 use Rattle.f_terms.specs.Tm.{Term, MVar, MNum, MFix, MApp, MGen, MInst, MTuple, MProj, MArith, MIf0, MLet, MPack, MOpen}
 use Rattle.f_terms.specs.Tm.{MRef, MDeref, MAssign, Terms, NoTerms}
 use Rattle.f_terms.specs.Tm.{MoreTerms}
+use Rattle.f_terms.specs.Limits.{Within}
 use Rattle.f_terms.specs.Typing.{ty_at, field_ty, raised, in_fix, in_open, HasType, HaveTypes, IsTyped, IsProgram}
-use Rattle.f_terms.specs.Accepted.{TypeWithin, KeepsLimits, AllKeepLimits, IsAccepted}
+use Rattle.f_terms.specs.Keeps.{TypeHas, AllKeep}
+use Rattle.f_terms.specs.Accepted.{KeepsLimits, IsAccepted}
 use Rattle.f_terms.specs.OneType.{one_type}
 
 -- equality of types is decided
@@ -210,7 +212,7 @@ typed_prop e t = has_type_prop e 0 NoTys t
 pub program_prop : (e : Term) → IsProp (IsProgram e)
 program_prop e = has_type_prop e 0 NoTys TInt
 
-type_within_prop : (e : Term) (n : ℕ) (g : Tys) → IsProp (TypeWithin e n g)
+type_within_prop : (e : Term) (n : ℕ) (g : Tys) → IsProp (TypeHas Within e n g)
 type_within_prop e n g = hlevel props
 
 mutual
@@ -236,7 +238,7 @@ mutual
   keeps_prop (MAssign a b) n g = hlevel
       (type_within_prop (MAssign a b) n g, keeps_prop a n g, keeps_prop b n g)
 
-  all_keep_prop : (es : Terms) (n : ℕ) (g : Tys) → IsProp (AllKeepLimits es n g)
+  all_keep_prop : (es : Terms) (n : ℕ) (g : Tys) → IsProp (AllKeep Within es n g)
   all_keep_prop NoTerms n g = hlevel
   all_keep_prop (MoreTerms e es) n g = hlevel (keeps_prop e n g, all_keep_prop es n g)
 

@@ -1,7 +1,7 @@
 // Laws of the source calculus, as functions with an empty body that callers cite.
 ghost use Rattle.f_terms.specs.Laws.{PutsExchange, PutUnderABinder, OneType, PassesWhereTyped, NoFaultBesideAPass};
-ghost use Rattle.f_terms.specs.Laws.{PassOrFault, OneFault, KeepsRules, MoreTurnsKeepTheValue, LeavesAtMost, OneAnswer};
-ghost use Rattle.f_terms.specs.Laws.{NeverStuck, StoreGrows, PackagesDoNotShow};
+ghost use Rattle.f_terms.specs.Laws.{PassOrFault, OneFault, OneMismatch, KeepsRules, MoreTurnsKeepTheValue};
+ghost use Rattle.f_terms.specs.Laws.{LeavesAtMost, OneAnswer, NeverStuck, StoreGrows, PackagesDoNotShow};
 
 /// For i at most j, a put of u for i and then of v for j is a put of v, shifted, for j + 1 and then of u, with v put
 /// into it, for i.
@@ -37,6 +37,11 @@ pub fn pass_or_fault()
 /// Two first faults of a term are equal, in code and place.
 pub fn one_fault()
     ensures { OneFault }
+{}
+
+/// What is at odds in two first faults of a term is equal: these types, or that no two are.
+pub fn one_mismatch()
+    ensures { OneMismatch }
 {}
 
 /// Evaluation keeps its rules with no bound on how deep bodies are entered.

@@ -1,5 +1,5 @@
 -- Each token is told as one that is listed.
-use Rattle.std.proofs.Common.{◌≡◌, ℕ, ℤ, pos, negsuc, slice_get, refl, Some}
+use Rattle.std.proofs.Common.{◌≡◌, ℕ, ℤ, pos, negsuc, List, slice_get, refl, Option, Some}
 use Rattle.idx_core.specs.declared.span.Span.{Span}
 use Rattle.f_lexer.specs.declared.kind.Kind.{Kind}
 use Rattle.f_lexer.specs.declared.kind.Kind.TheVariants as k
@@ -8,13 +8,10 @@ use Rattle.f_grammar.specs.declared.cursor.Wanted.TheVariants as want
 use Rattle.f_grammar.specs.Grammar.{tok}
 use Rattle.f_grammar.specs.Machine as m
 use Rattle.f_grammar.specs.Machine.{table, Line, fits, after}
-use Rattle.expected.proofs.Same.{same_takes}
-use Rattle.f_wanted.specs.Words.{kinds, sample}
-use Rattle.f_wanted.specs.Text.{IsTold, AllAreTold}
-
--- a token of the very kind
-told_at : (i : ℕ) (kind : Kind) (s : Span) → slice_get kinds i ≡ Some kind → IsTold (tok kind s)
-told_at i kind s e = (i, kind, e, λ st. same_takes table (tok kind s) (sample kind) (λ c. refl) (λ n. refl) st)
+use Rattle.expected.specs.Wanted.{IsTold}
+use Rattle.expected.proofs.Same.{told_as}
+use Rattle.f_wanted.specs.Words.{source_kinds}
+use Rattle.f_wanted.specs.Text.{AllAreTold}
 
 -- numbers are told apart by their sign alone
 plain_fits : (y z : ℤ) (c : Wanted) → fits c (k.Plain y) ≡ fits c (k.Plain z)
@@ -33,7 +30,16 @@ negative_after : (y z : ℤ) (n : Line) → after n (k.Negative y) ≡ after n (
 negative_after y z m.LE = refl
 negative_after y z _ = refl
 
-told : (kind : Kind) (s : Span) → IsTold (tok kind s)
+-- a token of the very kind
+told_at : (i : ℕ) (kind : Kind) (s : Span) {wider : Option Kind} {words : List ℕ} →
+    slice_get source_kinds.kinds i ≡ Some (kind, wider, words) → IsTold table source_kinds (tok kind s)
+told_at i kind s e = told_as table source_kinds i (tok kind s) kind e (λ c. refl) (λ n. refl)
+
+told : (kind : Kind) (s : Span) → IsTold table source_kinds (tok kind s)
+told (k.Plain z) s = told_as table source_kinds 19 (tok (k.Plain z) s) (k.Plain (pos 1)) refl
+    (plain_fits z (pos 1)) (plain_after z (pos 1))
+told (k.Negative z) s = told_as table source_kinds 20 (tok (k.Negative z) s) (k.Negative (negsuc 0)) refl
+    (negative_fits z (negsuc 0)) (negative_after z (negsuc 0))
 told k.In s = told_at 0 k.In s refl
 told k.As s = told_at 1 k.As s refl
 told k.RightParen s = told_at 2 k.RightParen s refl
@@ -53,22 +59,6 @@ told k.Int s = told_at 15 k.Int s refl
 told k.All s = told_at 16 k.All s refl
 told k.Some s = told_at 17 k.Some s refl
 told k.Name s = told_at 18 k.Name s refl
-told (k.Plain z) s = (
-  19,
-  k.Plain (pos 1),
-  refl,
-  λ st.
-      same_takes table (tok (k.Plain z) s) (sample (k.Plain (pos 1))) (plain_fits z (pos 1))
-      (plain_after z (pos 1)) st,
-)
-told (k.Negative z) s = (
-  20,
-  k.Negative (negsuc 0),
-  refl,
-  λ st.
-      same_takes table (tok (k.Negative z) s) (sample (k.Negative (negsuc 0))) (negative_fits z (negsuc 0))
-      (negative_after z (negsuc 0)) st,
-)
 told k.LeftParen s = told_at 21 k.LeftParen s refl
 told k.LeftAngle s = told_at 22 k.LeftAngle s refl
 told k.Hash s = told_at 23 k.Hash s refl

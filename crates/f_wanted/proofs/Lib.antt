@@ -1,4 +1,3 @@
 pub mod AllKinds
 pub mod Rows
 mod Texts
-pub mod Walking

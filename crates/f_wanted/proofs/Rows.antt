@@ -1,58 +1,43 @@
--- The rows of the table as they are kept.
-use Rattle.std.proofs.Common.{◌≡◌, refl, ap}
-use Rattle.text_core.specs.Table.{then_more}
+-- The table as data says what the grammar's table says.
+use Rattle.std.proofs.Common.{◌≡◌, refl}
+use Rattle.idx_core.specs.declared.span.Span.{Span}
 use Rattle.f_lexer.specs.declared.kind.Kind.{Kind}
 use Rattle.f_lexer.specs.declared.kind.Kind.TheVariants as k
+use Rattle.f_grammar.specs.Grammar.{tok}
 use Rattle.f_grammar.specs.Machine as m
 use Rattle.f_grammar.specs.Machine.{table}
-use Rattle.expected.specs.Owing.{IsKept, first_or}
-use Rattle.f_wanted.specs.Table.{line_of, kept_line, kept, kept_row, source_kept, source_owes, keyword_after}
-use Rattle.f_wanted.specs.Table.{angle_after}
-use Rattle.f_wanted.specs.Table.{argument_after, binder_after}
+use Rattle.expected.specs.Owing.{IsKept, after, may_end, kept_row}
+use Rattle.f_wanted.specs.Table.{kept_line, source_owes}
 
-line_back : (n : m.Line) → line_of (kept_line n) ≡ n
-line_back m.LE = refl
-line_back _ = refl
+rows_are : (n : m.Line) (kind : Kind) (s : Span) →
+    after source_owes (kept_line n) (tok kind s) ≡ kept_row table kept_line (m.after n kind)
+rows_are m.LE k.Name s = refl
+rows_are m.LP k.Name s = refl
+rows_are m.LParam k.Name s = refl
+rows_are m.LBranches k.Name s = refl
+rows_are m.LFields k.Name s = refl
+rows_are m.LHidden k.Name s = refl
+rows_are m.LNames k.Name s = refl
+rows_are m.MoreParts k.Name s = refl
+rows_are m.MoreFactors k.Name s = refl
+rows_are m.MoreSums k.Name s = refl
+rows_are m.MoreAssign k.Name s = refl
+rows_are m.MoreFields k.Name s = refl
+rows_are m.LT k.Name s = refl
+rows_are m.LU k.Name s = refl
+rows_are m.LTypes k.Name s = refl
+rows_are m.MoreArrow k.Name s = refl
+rows_are m.MoreTypes k.Name s = refl
+rows_are _ _ s = refl
 
-pub kept_is : IsKept table source_owes source_kept
+ends_are : (n : m.Line) → may_end source_owes (kept_line n) ≡ m.may_end n
+ends_are m.LE = refl
+ends_are _ = refl
+
+pub kept_is : IsKept table source_owes kept_line
 kept_is = record {
-  fits = λ c t. refl;
-  after = λ n t. ap (λ l. kept_row (m.after l t.kind)) (line_back n);
-  may_end = λ n. ap (λ l. m.may_end l) (line_back n);
+  same_fits = λ k c. refl;
+  same_after = λ n c. rows_are n c.kind c.span;
+  same_ends = ends_are;
+  same_first = refl;
 }
-
--- the lines that go on as another line does
-pub expr_is : (c : Kind) →
-    kept_row (m.expr_after c)
-    ≡ first_or (kept_row (keyword_after c)) (then_more (kept_row (m.part_after c)) (kept m.sum_tail))
-expr_is k.Fix = refl
-expr_is k.Gen = refl
-expr_is k.Let = refl
-expr_is k.Pack = refl
-expr_is k.Open = refl
-expr_is _ = refl
-
-pub fields_is : (c : Kind) →
-    kept_row (m.fields_after c)
-    ≡ first_or (kept_row (angle_after c)) (then_more (kept_row (m.expr_after c)) (kept m.fields_tail))
-fields_is k.RightAngle = refl
-fields_is _ = refl
-
-pub parts_is : (c : Kind) →
-    kept_row (m.parts_after c)
-    ≡ first_or (kept_row (argument_after c)) (then_more (kept_row (m.part_after c)) (kept m.parts_tail))
-parts_is k.LeftBracket = refl
-parts_is _ = refl
-
-pub type_is : (c : Kind) →
-    kept_row (m.type_after c)
-    ≡ first_or (kept_row (binder_after c)) (then_more (kept_row (m.unit_after c)) (kept m.type_tail))
-type_is k.All = refl
-type_is k.Some = refl
-type_is _ = refl
-
-pub types_is : (c : Kind) →
-    kept_row (m.types_after c)
-    ≡ first_or (kept_row (angle_after c)) (then_more (kept_row (m.type_after c)) (kept m.types_tail))
-types_is k.RightAngle = refl
-types_is _ = refl

@@ -1,27 +1,13 @@
 -- Worked lines, proved by computing.
-use Rattle.std.proofs.Common.{◌≡◌, ℕ, suc, zero, ◌+◌, List, [], ◌∷◌, drop, length, refl, codes}
-use Rattle.text_core.specs.Tokens.{Item, Gap, Spelling, Nothing}
+use Rattle.std.proofs.Common.{◌≡◌, ℕ, List, [], refl, codes}
 use Rattle.text_core.specs.Lexeme.{item}
-use Rattle.f_lexer.specs.declared.token.Token.{Token}
-use Rattle.f_lexer.specs.declared.kind.Kind.{Kind}
 use Rattle.f_lexer.specs.Source.{source}
 use Rattle.f_grammar.specs.Grammar.{tok}
+use Rattle.expected.proofs.Worked.{line_by}
 use Rattle.f_wanted.specs.Text.{wanted_line}
 
--- the tokens of a text of at most n bytes from the place i on
-abbrev tokens_by : (ℕ → List ℕ → List Token) → ℕ → List ℕ → Item Kind → List Token
-tokens_by further i s (Gap k) = further (i + k) (drop k s)
-tokens_by further i s (Spelling kind k) =
-    tok kind (record { start = i; end = i + k }) ∷ further (i + k) (drop k s)
-tokens_by further i s Nothing = []
-
-abbrev tokens_from : ℕ → ℕ → List ℕ → List Token
-tokens_from zero i s = []
-tokens_from (suc n) i [] = []
-tokens_from (suc n) i (b ∷ s) = tokens_by (λ j r. tokens_from n j r) i (b ∷ s) (item source (b ∷ s))
-
 abbrev line : List ℕ → ℕ → ℕ → List ℕ
-line text start end = wanted_line text (record { start = start; end = end }) (tokens_from (length text) 0 text)
+line = line_by (item source) tok wanted_line
 
 cut_short : line (codes "(1 +") 4 4
     ≡ codes "wanted one of: a name a number ~1 ( < # ! if0 ref; found the end"

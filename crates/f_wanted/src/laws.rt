@@ -2,7 +2,7 @@
 ghost use Rattle.f_grammar.specs.Machine.{table};
 ghost use Rattle.expected.specs.Wanted.{TakesWhatGoesOn, UnexpectedIsTold, CutShortIsTold, FewBytes};
 ghost use Rattle.f_wanted.specs.Words.{source_kinds};
-ghost use Rattle.f_wanted.specs.Text.{OneLine, AllAreTold};
+ghost use Rattle.f_wanted.specs.Text.{OneLine, AllAreTold, AllAreWorded};
 
 /// The kinds of tokens that are told are exactly those with which some expression of the grammar goes on there.
 pub fn takes_what_goes_on()
@@ -12,6 +12,12 @@ pub fn takes_what_goes_on()
 /// Each token is told as its kind is, so no kind of tokens is left out.
 pub fn all_are_told()
     ensures { AllAreTold }
+{}
+
+/// The words for a kind are what is cut into one token of that kind, but for names and numbers, which have words of
+/// their own; and no kind has a wider one, by which it would be left out.
+pub fn all_are_worded()
+    ensures { AllAreWorded }
 {}
 
 /// There is a line at each first unexpected token of a text.

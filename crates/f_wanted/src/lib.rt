@@ -7,6 +7,7 @@ mod table;
 mod words;
 
 pub use laws::{
-    all_are_told, cut_short_is_told, few_bytes, one_line, takes_what_goes_on, unexpected_is_told,
+    all_are_told, all_are_worded, cut_short_is_told, few_bytes, one_line, takes_what_goes_on,
+    unexpected_is_told,
 };
 pub use source::source_wanted;

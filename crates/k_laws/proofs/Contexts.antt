@@ -10,7 +10,7 @@ use Rattle.f_terms.specs.Ty.{Ty, Tys, NoTys, MoreTys, shift}
 use Rattle.f_terms.specs.Tm.{Term, MVar, MNum, MFix, MApp, MGen, MInst, MTuple, MProj, MArith, MIf0, MLet, MPack}
 use Rattle.f_terms.specs.Tm.{MOpen, MRef, MDeref, MAssign}
 use Rattle.k_laws.proofs.Below.{Belows}
-use Rattle.k_laws.specs.Keeps.{Keeps, TypeHas}
+use Rattle.f_terms.specs.Keeps.{Keeps, TypeHas}
 use Rattle.k_laws.specs.Cps.{taking, kat, Atom, Level, Literal}
 use Rattle.k_laws.specs.Translates.{AnyRest, atom_of, cps}
 use Rattle.k_laws.proofs.KTypes.{LevelsIn, lift_lift, deeper, raised_at}

@@ -3,13 +3,13 @@ use Rattle.std.proofs.Common.{◌≡◌, ◌≤◌, ℕ, zero, suc, ◌+◌, ◌
 use Rattle.f_terms.specs.Ty.{Ty, TInt, TVar, TArrow, TAll, TTuple, TSome, TRef, Tys, NoTys, MoreTys, depth, depths}
 use Rattle.f_terms.specs.Tm.{Term, MVar, MNum, MFix, MApp, MGen, MInst, MTuple, MProj, MArith, MIf0, MLet, MPack}
 use Rattle.f_terms.specs.Tm.{MOpen, MRef, MDeref, MAssign, Terms, NoTerms, MoreTerms}
-use Rattle.f_terms.specs.Limits.{Shallow, nodes}
+use Rattle.f_terms.specs.Limits.{Shallow, Within, nodes}
 use Rattle.f_terms.specs.Typing.{raised, in_fix, in_open}
-use Rattle.f_terms.specs.Accepted.{KeepsLimits, AllKeepLimits}
+use Rattle.f_terms.specs.Accepted.{KeepsLimits}
 use Rattle.term_core.specs.Ends.{under}
 use Rattle.k_terms.specs.Reach.{kreach, kreaches, kbinds, kbinds_all, KWithin}
 use Rattle.k_laws.specs.Cps.{kty, all_kty, taking}
-use Rattle.k_laws.specs.Keeps.{Keeps, AllKeep}
+use Rattle.f_terms.specs.Keeps.{Keeps, AllKeep}
 use Rattle.k_laws.specs.Correct.{KeepsReach}
 use Rattle.k_laws.proofs.Typed.{each_type}
 
@@ -72,7 +72,7 @@ mutual
   shallow_all (MDeref e) n g h = ((λ t k. (h.0 t k).0), shallow_all e n g h.1)
   shallow_all (MAssign x y) n g h = ((λ t k. (h.0 t k).0), shallow_all x n g h.1, shallow_all y n g h.2)
 
-  all_shallow : (es : Terms) (n : ℕ) (g : Tys) → AllKeepLimits es n g → AllKeep Shallow es n g
+  all_shallow : (es : Terms) (n : ℕ) (g : Tys) → AllKeep Within es n g → AllKeep Shallow es n g
   all_shallow NoTerms n g h = tt
   all_shallow (MoreTerms e es) n g h = (shallow_all e n g h.0, all_shallow es n g h.1)
 

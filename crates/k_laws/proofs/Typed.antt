@@ -11,7 +11,7 @@ use Rattle.f_terms.specs.Ty.{Ty, TInt, TArrow, TAll, TTuple, TSome, TRef, Tys, N
 use Rattle.f_terms.specs.Tm.{Term, MVar, MNum, MFix, MApp, MGen, MInst, MTuple, MProj, MArith, MIf0, MLet, MPack}
 use Rattle.f_terms.specs.Tm.{MOpen, MRef, MDeref, MAssign, Terms, NoTerms, MoreTerms}
 use Rattle.k_laws.proofs.Below.{Belows, typing_below, belows_raised}
-use Rattle.k_laws.specs.Keeps.{Keeps, AllKeep}
+use Rattle.f_terms.specs.Keeps.{Keeps, AllKeep}
 use Rattle.f_terms.specs.Limits.{nodes, nodes_all}
 use Rattle.k_laws.specs.Cps.{kty, all_kty, taking, spot, kat, kcat, Atom, Level}
 use Rattle.k_laws.specs.Translates.{Plain, Made, NoThings, MoreThings, stands, number, tuple_of, Form, Forms, AnyRest}

@@ -1,6 +1,5 @@
 pub mod Cps
 pub mod Translates
-pub mod Keeps
 pub mod Count
 pub mod Annotate
 pub mod Annotated

@@ -1,4 +1,5 @@
--- Rows up to a place: of the blocks of a program one after the other, and of a program that is cut there, which are those
+-- Rows up to a place: of the blocks of a program one after the other, and of a program that is cut there, which are
+-- those
 -- of the whole program.
 use Rattle.std.proofs.Common.{◌≡◌, ◌∙◌, ◌<◌, ◌≤◌, ℕ, zero, suc, ◌+◌, List, [], ◌∷◌, ◌++◌, drop, get_or, length, refl}
 use Rattle.std.proofs.Common.{sym, ap, Bool, true, false, ◌||◌, Option, Some, None, subst, arith, if◌then◌else◌}
@@ -55,7 +56,8 @@ module _ (text : List ℕ) (P : TProg) (place : Span) (blocks : List Block) wher
       subst (RowsBy text P place i (spanned x) (spanned_blocks (drop (suc i) blocks)) (row.0 ++ rest)) (sym row.1.0)
       (row.0, rest, row.1.1, later, refl) in
       let all : AreBlocksTo text P place i (spanned_blocks (drop i blocks)) (row.0 ++ rest) =
-      subst (λ (ys : List Block). AreBlocksTo text P place i (spanned_blocks ys) (row.0 ++ rest)) (sym (split_at i x is lt))
+      subst (λ (ys : List Block). AreBlocksTo text P place i (spanned_blocks ys) (row.0 ++ rest))
+      (sym (split_at i x is lt))
       here in
       let same : page ++ (row.0 ++ rest) ≡ end ++ rest = rw row.2 (simp append_assoc) in
       subst (AreBlocksTo text P place 0 (spanned_blocks blocks)) same (left (row.0 ++ rest) all)
@@ -68,7 +70,8 @@ module _ (text : List ℕ) (P : TProg) (place : Span) (blocks : List Block) wher
       let here : AreBlocksTo text P place i (spanned_blocks (x ∷ drop (suc i) blocks)) row.0 =
       subst (RowsBy text P place i (spanned x) (spanned_blocks (drop (suc i) blocks)) row.0) (sym row.1.0) row.1.1 in
       let all : AreBlocksTo text P place i (spanned_blocks (drop i blocks)) row.0 =
-      subst (λ (ys : List Block). AreBlocksTo text P place i (spanned_blocks ys) row.0) (sym (split_at i x is lt)) here in
+      subst (λ (ys : List Block). AreBlocksTo text P place i (spanned_blocks ys) row.0) (sym (split_at i x is lt)) here
+      in
       subst (AreBlocksTo text P place 0 (spanned_blocks blocks)) (sym row.2) (left row.0 all)
 
   pub last_to : (i : ℕ) (page : List ℕ) → length blocks ≤ i → BlocksLeftTo text P place blocks i page →
@@ -272,7 +275,8 @@ module _ (text : List ℕ) (Q P : TProg) where
               parts.0,
               parts.1,
               block_moved b (length x.body)
-                  (λ i n g le. at_first b i n g (known 0 i n g (λ t. absurd (let q : true ≡ false = sym t ∙ e in cc)))) x
+                  (λ i n g le. at_first b i n g (known 0 i n g (λ t. absurd (let q : true ≡ false = sym t ∙ e in
+                  cc)))) x
                   parts.0 (omega arith) parts.2,
               more e parts.1 parts.3,
               parts.4,

@@ -77,9 +77,9 @@ fn blocks_to(
 
 /// The listing of a program of an assembly text that the typing rules refuse, up to the place of its first fault (own
 /// choice): the rows of each block that is accepted before it, and of the block with the fault the label, what is known
-/// at its start, the instructions before the fault, each with the register that it sets, and what is known at the fault,
-/// all in the form of `listing_of`. No rows where the fault is the first block's label or one of the data, which are
-/// looked at before the blocks. An error is want of memory.
+/// at its start, the instructions before the fault, each with the register that it sets, and what is known at the
+/// fault, all in the form of `listing_of`. No rows where the fault is the first block's label or one of the data, which
+/// are looked at before the blocks. An error is want of memory.
 pub fn listing_to(
     alloc: Global,
     text: &[u8],

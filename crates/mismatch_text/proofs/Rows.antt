@@ -1,12 +1,12 @@
 -- Worked lines, proved by computing.
-use Rattle.std.proofs.Common.{◌≡◌, [], refl, codes, None, Some, false}
+use Rattle.std.proofs.Common.{◌≡◌, [], refl, codes, None, Some, false, true}
 use Rattle.std.specs.Fmt.{digits}
 use Rattle.f_terms.specs.Ty.{TInt, TVar, TArrow, TAll, TTuple, NoTys, MoreTys}
-use Rattle.f_check.specs.Mismatch.{WType, WFunction, WField, WOutside}
-use Rattle.t_types.specs.Tree.{IntTy, CodeTy, TupleTy, NoRegs, MoreRegs, NoFields, MoreFields}
-use Rattle.t_mismatch.specs.Mismatch.{Types, NoPackage, Register}
+use Rattle.f_terms.specs.Mismatch.{WType, WFunction, WField, WOutside}
+use Rattle.t_types.specs.Tree.{IntTy, VarTy, CodeTy, ExistsTy, TupleTy, NoRegs, MoreRegs, NoFields, MoreFields}
+use Rattle.t_rules.specs.Mismatch.{Types, NoPackage, Register}
 use Rattle.mismatch_text.specs.Line.{source_line, not_int_line, assembly_line}
-use Rattle.mismatch_text.specs.Apart.{source_lines}
+use Rattle.mismatch_text.specs.Apart.{source_lines, assembly_lines}
 
 none : source_line None ≡ []
 none = refl
@@ -78,3 +78,23 @@ label : assembly_line (Some (Register 1 IntTy (Some (CodeTy 0 (MoreRegs 1 IntTy 
     ≡ codes "wanted r1:int, found r1:all[]{r1:int}"
 unfolding digits
 label = refl
+
+-- of a field that wants a tuple whose field is set
+unset : assembly_lines
+    (Some (Types (TupleTy (MoreFields IntTy true NoFields)) (TupleTy (MoreFields IntTy false NoFields)) 0))
+    ≡ codes "wanted <int^1>, found <int^0>\nat the flag of field 0: wanted ^1, found ^0"
+unfolding digits
+unset = refl
+
+-- of r2 that a target wants with a package of the one type name in scope, which `a0` is, and that holds a package of
+-- the type that it hides
+below : assembly_lines (Some (Register 2 (ExistsTy (VarTy 1)) (Some (ExistsTy (VarTy 0))) 1))
+    ≡ codes "wanted r2:some t0. a0, found r2:some t0. t0\nat the body: wanted a0, found t0"
+unfolding digits
+below = refl
+
+-- of a label that wants nothing, where one that wants r1 is asked for
+lacking : assembly_lines (Some (Register 1 (CodeTy 0 (MoreRegs 1 IntTy NoRegs)) (Some (CodeTy 0 NoRegs)) 0))
+    ≡ codes "wanted r1:all[]{r1:int}, found r1:all[]{}\nat register r1: wanted int, found nothing"
+unfolding digits
+lacking = refl

@@ -4,13 +4,19 @@ use Rattle.std.specs.Prelude.{ℕ, ◌+◌, ◌-◌, nat_le, List, [], ◌∷◌
 use Rattle.std.specs.Prelude.{decimal}
 use Rattle.f_terms.specs.Ty as source
 use Rattle.f_terms.specs.Text as source_text
-use Rattle.f_check.specs.Mismatch as source_at_odds
-use Rattle.f_check.specs.Mismatch.{WType}
+use Rattle.f_terms.specs.Mismatch as source_at_odds
+use Rattle.f_terms.specs.Mismatch.{WType}
 use Rattle.type_path.specs.declared.step.Step.{Step}
-use Rattle.type_path.specs.declared.step.Step.TheVariants.{Argument, Result, Body, Cell, Field}
+use Rattle.type_path.specs.declared.step.Step.TheVariants.{Argument, Result, Body, Cell, Field, Flag, Register}
 use Rattle.type_path.specs.Paths.{Path}
 use Rattle.type_path.specs.Source as source_path
-use Rattle.mismatch_text.specs.Line.{line, source_line}
+use Rattle.type_path.specs.Assembly as assembly_path
+use Rattle.type_path.specs.Assembly.{Part, Whole, FlagOf, bound}
+use Rattle.t_types.specs.Tree as assembly
+use Rattle.t_trace.specs.Line as assembly_text
+use Rattle.t_rules.specs.Mismatch as assembly_at_odds
+use Rattle.t_rules.specs.Mismatch.{Types, NoPackage}
+use Rattle.mismatch_text.specs.Line.{line, source_line, assembly_line}
 
 -- ---- the path
 
@@ -20,6 +26,8 @@ step_text Result = codes "the result"
 step_text Body = codes "the body"
 step_text Cell = codes "the cell"
 step_text (Field i) = codes "field " ++ decimal i
+step_text (Flag i) = codes "the flag of field " ++ decimal i
+step_text (Register r) = codes "register r" ++ decimal r
 
 -- The steps in order, the first behind these words and each other behind `, then `, as far as they have room; dots for
 -- those that are left.
@@ -80,3 +88,39 @@ wanted_below names other found = []
 abbrev pub source_lines : Option source_at_odds.Mismatch → List ℕ
 source_lines None = []
 source_lines (Some m) = source_line (Some m) ++ wanted_below m.names m.wanted m.found
+
+-- ---- of an assembly text
+
+-- a part of a type where so many type names are in scope, with so many bound around it in the whole; or that there is
+-- none
+abbrev pub assembly_part_text : (names depth : ℕ) → Option Part → List ℕ
+assembly_part_text names depth None = codes "nothing"
+assembly_part_text names depth (Some (Whole type)) = assembly_text.text_at names depth type
+assembly_part_text names depth (Some (FlagOf flag)) = assembly_text.flag_text flag
+
+abbrev pub assembly_part_at : (names : ℕ) → assembly.Ty → Path → List ℕ
+assembly_part_at names type p = assembly_part_text names (bound p (Whole type)) (assembly_path.part p type)
+
+abbrev pub assembly_apart_at : (names : ℕ) (wanted found : assembly.Ty) → Path → List ℕ
+assembly_apart_at names wanted found p =
+    apart_text p (assembly_part_at names wanted p) (assembly_part_at names found p)
+
+abbrev pub assembly_below_of : (names : ℕ) (wanted found : assembly.Ty) → Option Path → List ℕ
+assembly_below_of names wanted found None = []
+assembly_below_of names wanted found (Some []) = []
+assembly_below_of names wanted found (Some (s ∷ p)) = assembly_apart_at names wanted found (s ∷ p)
+
+-- the line below that of two types, or nothing: the first place at which the found one does not fit the wanted one
+abbrev pub assembly_below : (names : ℕ) (wanted found : assembly.Ty) → List ℕ
+assembly_below names wanted found = assembly_below_of names wanted found (assembly_path.misfit wanted found)
+
+abbrev pub mismatch_below : assembly_at_odds.Mismatch → List ℕ
+mismatch_below (Types wanted found names) = assembly_below names wanted found
+mismatch_below (NoPackage found names) = []
+mismatch_below (assembly_at_odds.Register register wanted None names) = []
+mismatch_below (assembly_at_odds.Register register wanted (Some found) names) = assembly_below names wanted found
+
+-- the lines of an assembly text's fault, or nothing where no types are at odds
+abbrev pub assembly_lines : Option assembly_at_odds.Mismatch → List ℕ
+assembly_lines None = []
+assembly_lines (Some m) = assembly_line (Some m) ++ mismatch_below m

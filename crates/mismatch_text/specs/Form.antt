@@ -1,7 +1,7 @@
 -- The form of the type that is found at a fault of a source text.
 use Rattle.std.specs.Prelude.{Option, Some, None}
 use Rattle.f_terms.specs.Ty.{Ty, TInt, TVar, TArrow, TAll, TTuple, TSome, TRef}
-use Rattle.f_check.specs.Mismatch.{Mismatch}
+use Rattle.f_terms.specs.Mismatch.{Mismatch}
 use Rattle.fault_hint.specs.declared.form.Form.{Form}
 use Rattle.fault_hint.specs.declared.form.Form.TheVariants.{Untold, Integer, Variable, Function, Polymorphic, Tuple}
 use Rattle.fault_hint.specs.declared.form.Form.TheVariants.{Package, Reference}

@@ -3,10 +3,10 @@
 use Rattle.std.specs.Prelude.{ℕ, List, [], ◌++◌, Option, Some, None, codes, decimal}
 use Rattle.f_terms.specs.Ty as source
 use Rattle.f_terms.specs.Text as source_text
-use Rattle.f_check.specs.Mismatch as source_at_odds
-use Rattle.f_check.specs.Mismatch.{WType, WFunction, WPolymorphic, WTuple, WField, WPackage, WReference, WOutside}
+use Rattle.f_terms.specs.Mismatch as source_at_odds
+use Rattle.f_terms.specs.Mismatch.{WType, WFunction, WPolymorphic, WTuple, WField, WPackage, WReference, WOutside}
 use Rattle.t_types.specs.Tree.{Ty}
-use Rattle.t_mismatch.specs.Mismatch.{Mismatch, Types, NoPackage, Register}
+use Rattle.t_rules.specs.Mismatch.{Mismatch, Types, NoPackage, Register}
 use Rattle.t_trace.specs.Line as assembly_text
 
 -- what was wanted, and what was found

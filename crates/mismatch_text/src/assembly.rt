@@ -102,9 +102,11 @@ fn register_line(
     Ok(line)
 }
 
-/// The line on the types that are at odds in a fault of an assembly text (own choice), without its end; nothing where
-/// no types are. An error is want of memory.
-pub fn assembly_line(alloc: Global, mismatch: &Option<Mismatch>) -> Result<Vec<u8>, OutOfMemory>
+// The line on the types that are at odds in a fault of an assembly text, without its end; nothing where no types are.
+pub(crate) fn assembly_line(
+    alloc: Global,
+    mismatch: &Option<Mismatch>,
+) -> Result<Vec<u8>, OutOfMemory>
     ensures { IfOk result (λ made. made.items ≡ assembly_line (mismatch_or_none mismatch.now)) }
 {
     match mismatch {

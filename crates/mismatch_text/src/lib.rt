@@ -3,6 +3,7 @@
 
 mod apart;
 mod assembly;
+mod assembly_apart;
 mod form;
 mod laws;
 mod source;
@@ -10,8 +11,8 @@ mod steps;
 mod value;
 
 pub use apart::source_lines;
-pub use assembly::assembly_line;
+pub use assembly_apart::assembly_lines;
 pub use form::{form_of, found_form};
 pub use laws::paths_are_short;
-pub use source::{not_int_line, source_line};
+pub use source::not_int_line;
 pub use value::value_place;

@@ -3,7 +3,7 @@ ghost use Rattle.std.specs.Prelude.{◌≡◌, ◌++◌, IfOk, OnOk};
 ghost use Rattle.f_terms.specs.Read.{tree};
 ghost use Rattle.f_terms.specs.Text.{text_at};
 ghost use Rattle.f_check.specs.Told.{wish, read};
-ghost use Rattle.f_check.specs.Mismatch.{WOutside};
+ghost use Rattle.f_terms.specs.Mismatch.{WOutside};
 ghost use Rattle.mismatch_text.specs.Line.{line, wanted_text, source_line, not_int_line};
 
 use f_check::{Mismatch, Wanted};
@@ -58,9 +58,11 @@ fn write_wanted(
     }
 }
 
-/// The line on the types that are at odds in a fault of a source text (own choice), without its end; nothing where no
-/// types are. An error is want of memory.
-pub fn source_line(alloc: Global, mismatch: &Option<Mismatch>) -> Result<Vec<u8>, OutOfMemory>
+// The line on the types that are at odds in a fault of a source text, without its end; nothing where no types are.
+pub(crate) fn source_line(
+    alloc: Global,
+    mismatch: &Option<Mismatch>,
+) -> Result<Vec<u8>, OutOfMemory>
     ensures { IfOk result (λ made. made.items ≡ source_line (read mismatch.now)) }
 {
     let mut line = Vec::new(alloc);

@@ -12,13 +12,13 @@ use type_path::Step;
 // So many bytes the steps that are told may take.
 const ROOM: usize = 89;
 
-// A field by its number.
-fn write_field(text: &mut Vec<u8>, i: u64) -> Result<(), OutOfMemory>
-    ensures { OnOk result (text.new.items ≡ text.old.items ++ (codes "field " ++ decimal i)) }
+// Words and a number.
+fn write_numbered(text: &mut Vec<u8>, words: &[u8], number: u64) -> Result<(), OutOfMemory>
+    ensures { OnOk result (text.new.items ≡ text.old.items ++ (words.now ++ decimal number)) }
 {
     let mut digits = Buffer::new();
-    text.extend_from_slice(b"field ")?;
-    text.extend_from_slice(digits.format(i).as_bytes())?;
+    text.extend_from_slice(words)?;
+    text.extend_from_slice(digits.format(number).as_bytes())?;
     Ok(())
 }
 
@@ -31,7 +31,9 @@ fn write_step(text: &mut Vec<u8>, step: Step) -> Result<(), OutOfMemory>
         Step::Result => write_words(text, b"the result"),
         Step::Body => write_words(text, b"the body"),
         Step::Cell => write_words(text, b"the cell"),
-        Step::Field(i) => write_field(text, i),
+        Step::Field(i) => write_numbered(text, b"field ", i),
+        Step::Flag(i) => write_numbered(text, b"the flag of field ", i),
+        Step::Register(r) => write_numbered(text, b"register r", r),
     }
 }
 

@@ -2,12 +2,16 @@
 use crate::counts::{Sizes, sizes_of};
 use crate::stop::Stop;
 use a_pass::allocate;
+use a_terms::AProgram;
 use c_pass::close;
+use c_terms::CProgram;
 use f_check::{Program, Typed, check};
 use f_terms::{FFault, FTerm, admit};
 use h_pass::hoist;
+use h_terms::HProgram;
 use idx_core::{OutOfMemory, Span};
 use k_pass::cps;
+use k_terms::KProgram;
 use std::alloc::Global;
 use t_gen::generate;
 
@@ -54,29 +58,50 @@ fn checked(alloc: Global, term: FTerm) -> Result<Program, Stop> {
     typed.program().map_err(not_int)
 }
 
-// The sizes, where all passes are done.
+// What comes of a program, from the last pass to the first, is the sizes, where all passes are done. One function for
+// each pass: a value that lives while another one is made makes the proof dearer.
+fn generated(
+    alloc: Global,
+    allocated: &AProgram,
+    last: Pass,
+) -> Result<Option<Sizes>, OutOfMemory> {
+    if last == Pass::Allocate {
+        return Ok(None);
+    }
+    let generated = generate(alloc, allocated)?;
+    Ok(Some(sizes_of(allocated, &generated)))
+}
+
+fn allocated(alloc: Global, hoisted: &HProgram, last: Pass) -> Result<Option<Sizes>, OutOfMemory> {
+    if last == Pass::Hoist {
+        return Ok(None);
+    }
+    let allocated = allocate(alloc, hoisted)?;
+    generated(alloc, &allocated, last)
+}
+
+fn hoisted(alloc: Global, closed: CProgram, last: Pass) -> Result<Option<Sizes>, OutOfMemory> {
+    if last == Pass::Close {
+        return Ok(None);
+    }
+    let hoisted = hoist(alloc, closed)?;
+    allocated(alloc, &hoisted, last)
+}
+
+fn closed(alloc: Global, converted: &KProgram, last: Pass) -> Result<Option<Sizes>, OutOfMemory> {
+    if last == Pass::Cps {
+        return Ok(None);
+    }
+    let closed = close(alloc, converted)?;
+    hoisted(alloc, closed, last)
+}
+
 fn converted(alloc: Global, program: &Program, last: Pass) -> Result<Option<Sizes>, OutOfMemory> {
     if last == Pass::Check {
         return Ok(None);
     }
     let converted = cps(alloc, program)?;
-    if last == Pass::Cps {
-        return Ok(None);
-    }
-    let closed = close(alloc, &converted)?;
-    if last == Pass::Close {
-        return Ok(None);
-    }
-    let hoisted = hoist(alloc, closed)?;
-    if last == Pass::Hoist {
-        return Ok(None);
-    }
-    let allocated = allocate(alloc, &hoisted)?;
-    if last == Pass::Allocate {
-        return Ok(None);
-    }
-    let generated = generate(alloc, &allocated)?;
-    Ok(Some(sizes_of(&allocated, &generated)))
+    closed(alloc, &converted, last)
 }
 
 /// Takes the term through the passes. After the last one come the sizes of what it was given and of what it made.

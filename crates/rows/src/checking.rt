@@ -49,6 +49,12 @@ fn is_told(alloc: Global, command: &Command, came: &[u8]) -> Result<(), Unlike> 
     Ok(())
 }
 
+// What is wanted on the output.
+fn is_shown(alloc: Global, command: &Command, came: &[u8]) -> Result<(), Unlike> {
+    let wanted = bytes_of(alloc, command.out)?;
+    is_same(alloc, "output", &wanted, came)
+}
+
 // What came of a command is what is wanted of it.
 fn is_answer(
     alloc: Global,
@@ -56,9 +62,8 @@ fn is_answer(
     outputs: &Outputs,
     status: u8,
 ) -> Result<(), Unlike> {
-    let wanted = bytes_of(alloc, command.out)?;
     is_told(alloc, command, outputs.err.taken())?;
-    is_same(alloc, "output", &wanted, outputs.out.taken())?;
+    is_shown(alloc, command, outputs.out.taken())?;
     is_number(
         alloc,
         "status",
@@ -130,11 +135,16 @@ fn does_own(alloc: Global, files: &mut MemFiles, row: &Row) -> Result<(), Unlike
     does(alloc, files, Outputs { out, err }, &command)
 }
 
+// The row holds over these files.
+fn holds(alloc: Global, files: &mut MemFiles, row: &Row) -> Result<(), Unlike> {
+    does_first(alloc, files, row)?;
+    does_own(alloc, files, row)?;
+    are_left(alloc, files, row)?;
+    is_as_said(alloc, files, row)
+}
+
 /// The row holds.
 pub fn check(alloc: Global, row: &Row) -> Result<(), Unlike> {
     let mut files = files_before(alloc, row)?;
-    does_first(alloc, &mut files, row)?;
-    does_own(alloc, &mut files, row)?;
-    are_left(alloc, &files, row)?;
-    is_as_said(alloc, &files, row)
+    holds(alloc, &mut files, row)
 }

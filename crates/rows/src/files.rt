@@ -39,22 +39,45 @@ pub fn failing(alloc: Global, row: &Row, what: &str) -> Result<Vec<(u64, u64)>, 
     Ok(failing)
 }
 
+fn insert(
+    files: &mut BTreeMap<String, Vec<u8>>,
+    name: String,
+    content: Vec<u8>,
+) -> Result<(), Unlike> {
+    files.insert(name, content)?;
+    Ok(())
+}
+
+fn add_file(
+    alloc: Global,
+    files: &mut BTreeMap<String, Vec<u8>>,
+    name: &str,
+    text: &Value,
+) -> Result<(), Unlike> {
+    let content = text_of(alloc, text)?;
+    let name = String::from_str(alloc, name)?;
+    insert(files, name, content)
+}
+
 // Adds the file with the text of the row, if it has one.
 fn add_text(alloc: Global, files: &mut BTreeMap<String, Vec<u8>>, row: &Row) -> Result<(), Unlike> {
     let name = row.string("file", "x")?;
-    if let Some(text) = row.said("text") {
-        let content = text_of(alloc, text)?;
-        let name = String::from_str(alloc, name)?;
-        files.insert(name, content)?;
+    match row.said("text") {
+        Some(text) => add_file(alloc, files, name, text),
+        None => Ok(()),
     }
-    Ok(())
+}
+
+fn named(alloc: Global, row: &Row) -> Result<BTreeMap<String, Vec<u8>>, Unlike> {
+    let mut files = BTreeMap::new(alloc);
+    add_text(alloc, &mut files, row)?;
+    Ok(files)
 }
 
 /// The file with the text of the row, if it has one.
 pub fn files_before(alloc: Global, row: &Row) -> Result<MemFiles, Unlike> {
     let failing = failing(alloc, row, "files")?;
-    let mut files = BTreeMap::new(alloc);
-    add_text(alloc, &mut files, row)?;
+    let files = named(alloc, row)?;
     Ok(MemFiles::new(files, failing))
 }
 

@@ -7,7 +7,7 @@ use toml::Value;
 // So many bytes of a text are shown.
 const MOST_SHOWN: usize = 400;
 
-fn add_times(bytes: &mut Vec<u8>, text: &str, times: u64) -> Result<(), AllocError> {
+fn add_times(bytes: &mut Vec<u8>, text: &str, times: u64) -> Result<(), Unlike> {
     for _ in 0..times {
         bytes.extend_from_slice(text.as_bytes())?;
     }
@@ -24,10 +24,10 @@ fn add_byte(bytes: &mut Vec<u8>, value: &Value) -> Result<(), Unlike> {
 // A string, once or so many times, or one byte.
 fn add_piece(bytes: &mut Vec<u8>, piece: &Value) -> Result<(), Unlike> {
     if let Some(text) = piece.as_str() {
-        return Ok(add_times(bytes, text, 1)?);
+        return add_times(bytes, text, 1);
     }
     match repeated(piece) {
-        Some((text, times)) => Ok(add_times(bytes, text, times)?),
+        Some((text, times)) => add_times(bytes, text, times),
         None => add_byte(bytes, piece),
     }
 }

@@ -22,9 +22,8 @@ use Rattle.t_mismatch.specs.declared.refusal.Refusal.{Refusal}
 use Rattle.t_registers.specs.Labels.{Field}
 use Rattle.t_rules.specs.Rules.{Typed, EndTyped, SeqAccepted, BlockAccepted, BlocksAccepted, DatumAccepted}
 use Rattle.t_rules.specs.Rules.{DataAccepted, HeapAccepted, FirstTakesNothing}
-use Rattle.t_mismatch.specs.Mismatch.{Note, InstrFaultWith, EndFaultWith, BodyFaultWith, BlockFaultWith}
-use Rattle.t_mismatch.specs.Mismatch.{BlocksFaultWith, DatumFaultWith, DataFaultWith, HeapFaultWith}
-use Rattle.t_mismatch.specs.Mismatch.{FirstBlockFaultWith, ProgramNoted}
+use Rattle.t_rules.specs.Faults.{Note, InstrFaultWith, EndFaultWith, BodyFaultWith, BlockFaultWith, BlocksFaultWith}
+use Rattle.t_rules.specs.Faults.{DatumFaultWith, DataFaultWith, HeapFaultWith, FirstBlockFaultWith, ProgramNoted}
 use Rattle.t_mismatch.specs.Refusals.{SaysWith}
 use Rattle.t_check.specs.Verdict.{IsEnd, IsBlock, AreBlocks, IsProgram}
 use Rattle.t_check.proofs.Typing.{says_map}

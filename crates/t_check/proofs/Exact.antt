@@ -8,10 +8,10 @@ use Rattle.t_terms.specs.declared.fault.TCode.{TCode}
 use Rattle.t_terms.specs.declared.fault.TFault.{TFault}
 use Rattle.t_terms.specs.declared.fault.TFault.TheVariants as fault
 use Rattle.t_rules.specs.Rules.{Accepted}
-use Rattle.t_rules.specs.Faults.{ProgramFault}
-use Rattle.t_rules.specs.LawsFaults.{NoFaultWhereAccepted, AtMostOneFault}
-use Rattle.t_mismatch.specs.Mismatch.{told, ProgramNoted, ProgramFaultWith, MismatchIsOfTheFault, AtMostOneMismatch}
-use Rattle.t_mismatch.specs.Mismatch as plain
+use Rattle.t_rules.specs.Mismatch.{told}
+use Rattle.t_rules.specs.Faults.{ProgramNoted, ProgramFaultWith, ProgramFault}
+use Rattle.t_rules.specs.LawsFaults.{NoFaultWhereAccepted, AtMostOneFault, AtMostOneMismatch}
+use Rattle.t_rules.specs.Mismatch as plain
 use Rattle.t_mismatch.specs.ReadMismatch.{mismatch_or_none}
 use Rattle.t_mismatch.specs.Refusals.{SaysWith, IsBelow, IsMismatchOf, odds_at, fault_of}
 use Rattle.t_check.specs.Verdict.{Says}
@@ -32,16 +32,16 @@ module _ (P : SProg) where
 
 module _ (P : SProg) (us : List Ty) where
   -- what callers see of a refusal
-  pub said : MismatchIsOfTheFault → (f : Refusal) → SaysWith us f (ProgramNoted P) → Says (fault_of f) (ProgramFault P)
-  said same Memory k = tt
-  said same (Refused c s) k = same P c s None k
-  said same (AtOdds c s odds) k = same P c s (told (odds_at us odds)) k.1
+  pub said : (f : Refusal) → SaysWith us f (ProgramNoted P) → Says (fault_of f) (ProgramFault P)
+  said Memory k = tt
+  said (Refused c s) k = (None, k)
+  said (AtOdds c s odds) k = (told (odds_at us odds), k.1)
 
   -- what is at odds in the first fault
-  module _ (same : MismatchIsOfTheFault) (one : AtMostOneFault) (c : TCode) (s : Span) (h : ProgramFault P c s) where
+  module _ (one : AtMostOneFault) (c : TCode) (s : Span) (h : ProgramFault P c s) where
     at_it : (d : TCode) (p : Span) (m : Option plain.Mismatch) → ProgramFaultWith P d p m → ProgramFaultWith P c s m
     at_it d p m k =
-        let r = one P d c p s (same P d p m k) h in
+        let r = one P d c p s (m, k) h in
         subst (λ q. ProgramFaultWith P c q m) r.1 (subst (λ e. ProgramFaultWith P e p m) r.0 k)
 
     pub tells : (f : Refusal) → SaysWith us f (ProgramNoted P) → (r : Result (Option Mismatch) OutOfMemory) →

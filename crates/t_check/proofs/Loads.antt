@@ -11,7 +11,8 @@ use Rattle.t_types.proofs.FitsLaws.{field_over}
 use Rattle.t_types.specs.WellFormed.{max_names}
 use Rattle.t_terms.specs.declared.fault.TCode.{TCode}
 use Rattle.t_terms.specs.declared.fault.TCode.TheVariants.{T09, T11, T19}
-use Rattle.t_mismatch.specs.Mismatch.{Note, told, Types, FaultWith, bare, fitting, register, integer, tuple, field_at}
+use Rattle.t_rules.specs.Mismatch.{told, Types}
+use Rattle.t_rules.specs.Faults.{Note, FaultWith, bare, fitting, register, integer, tuple, field_at}
 use Rattle.t_intern.specs.Marks.{marked_fields}
 use Rattle.t_intern.specs.Nodes.{at, fields_at}
 use Rattle.t_types.specs.Bounds.{Bounded}

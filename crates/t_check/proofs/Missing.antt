@@ -11,7 +11,8 @@ use Rattle.t_intern.specs.Grown.{Grown}
 use Rattle.t_intern.specs.Nodes.{at, regs_at}
 use Rattle.t_intern.proofs.Growing.{grown_at}
 use Rattle.t_registers.specs.Known.{known, IsSound}
-use Rattle.t_mismatch.specs.Mismatch.{KnownFits, Note, told, FaultWith, Register, at_odds, FileFaultWith}
+use Rattle.t_rules.specs.Mismatch.{told, Register}
+use Rattle.t_rules.specs.Faults.{KnownFits, Note, FaultWith, at_odds, FileFaultWith}
 use Rattle.t_mismatch.specs.Refusals.{SaysWith}
 use Rattle.t_check.specs.Verdict.{IsRegFit}
 use Rattle.t_mismatch.specs.declared.refusal.Refusal.{Refusal}

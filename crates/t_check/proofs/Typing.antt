@@ -17,10 +17,9 @@ use Rattle.t_mismatch.specs.declared.refusal.Refusal.TheVariants.{Memory, Refuse
 use Rattle.t_mismatch.specs.declared.odds.Odds.TheVariants as odds
 use Rattle.t_rules.specs.Registers.{no_types, inst_file, with_reg}
 use Rattle.t_rules.specs.Rules.{BaseHas, Has, Enters, DatumAccepted}
-use Rattle.t_mismatch.specs.Mismatch.{Note, told, Types, NoPackage, FaultWith, bare, at_odds, fitting, if_code}
-use Rattle.t_mismatch.specs.Mismatch.{if_exists}
-use Rattle.t_mismatch.specs.Mismatch.{PackFaultWith, ValueFaultWith, FileFaultWith, EnterFaultWith, InstrFaultWith}
-use Rattle.t_mismatch.specs.Mismatch.{DatumFaultWith}
+use Rattle.t_rules.specs.Mismatch.{told, Types, NoPackage}
+use Rattle.t_rules.specs.Faults.{Note, FaultWith, bare, at_odds, fitting, if_code, if_exists, PackFaultWith}
+use Rattle.t_rules.specs.Faults.{ValueFaultWith, FileFaultWith, EnterFaultWith, InstrFaultWith, DatumFaultWith}
 use Rattle.t_types.specs.Bounds.{Bounded, OwedFile}
 use Rattle.t_intern.specs.Grown.{IsNumber}
 use Rattle.t_intern.specs.Nodes.{at}

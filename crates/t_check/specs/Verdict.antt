@@ -19,13 +19,13 @@ use Rattle.t_terms.specs.declared.fault.TFault.TheVariants.{Memory, Refused}
 use Rattle.t_rules.specs.Registers.{inst_file}
 use Rattle.t_rules.specs.Rules.{BaseHas, Has, Enters, Typed, EndTyped, BlockAccepted, BlocksAccepted, DatumAccepted}
 use Rattle.t_rules.specs.Rules.{DataAccepted, HeapAccepted, Accepted}
-use Rattle.t_rules.specs.Faults.{Fault, ProgramFault}
 use Rattle.t_types.specs.Bounds.{Bounded, OwedFile}
 use Rattle.t_check.specs.Checked.{checked_program}
-use Rattle.t_mismatch.specs.Mismatch.{KnownFits, Register, at_odds, register, integer, tuple, field_at, BaseFaultWith}
-use Rattle.t_mismatch.specs.Mismatch.{PackFaultWith, ValueFaultWith, FileFaultWith, EnterFaultWith, StoreFaultWith}
-use Rattle.t_mismatch.specs.Mismatch.{InstrFaultWith, EndFaultWith, BlockFaultWith, BlocksFaultWith, DatumFaultWith}
-use Rattle.t_mismatch.specs.Mismatch.{DataFaultWith, HeapFaultWith, ProgramNoted}
+use Rattle.t_rules.specs.Mismatch.{Register}
+use Rattle.t_rules.specs.Faults.{KnownFits, at_odds, register, integer, tuple, field_at, BaseFaultWith, PackFaultWith}
+use Rattle.t_rules.specs.Faults.{ValueFaultWith, FileFaultWith, EnterFaultWith, StoreFaultWith, InstrFaultWith}
+use Rattle.t_rules.specs.Faults.{EndFaultWith, BlockFaultWith, BlocksFaultWith, DatumFaultWith, DataFaultWith}
+use Rattle.t_rules.specs.Faults.{HeapFaultWith, ProgramNoted, Fault, ProgramFault}
 use Rattle.t_mismatch.specs.Refusals.{SaysWith}
 use Rattle.t_intern.specs.Grown.{AreRegs, IsNumber}
 use Rattle.t_intern.specs.Nodes.{at}

@@ -6,10 +6,9 @@ ghost use Rattle.t_types.specs.Read.{file};
 ghost use Rattle.t_terms.specs.ReadProgram.{program as program_of, spanned_program};
 ghost use Rattle.t_terms.specs.declared.fault.TCode as codes;
 ghost use Rattle.t_rules.specs.Rules.{Accepted};
-ghost use Rattle.t_rules.specs.Faults.{ProgramFault};
+ghost use Rattle.t_rules.specs.Mismatch as odds;
+ghost use Rattle.t_rules.specs.Faults.{ProgramFault, ProgramFaultWith};
 ghost use Rattle.t_check.specs.Checked.{checked_program};
-ghost use Rattle.t_mismatch.specs.Mismatch as odds;
-ghost use Rattle.t_mismatch.specs.Mismatch.{ProgramFaultWith};
 ghost use Rattle.t_mismatch.specs.ReadMismatch.{mismatch_or_none};
 ghost use Rattle.t_check.specs.Verdict.{IsJudged, IsVerdict, AcceptsOrWants, RefusesOrWants};
 
@@ -18,9 +17,9 @@ use crate::program::check_program;
 use idx_core::{OutOfMemory, Salt};
 use std::alloc::Global;
 use t_intern::Types;
-use t_mismatch::{Mismatch, at_most_one_mismatch, mismatch_is_of_the_fault};
+use t_mismatch::Mismatch;
 use t_registers::{Labels, Registers};
-use t_rules::{at_most_one_fault, no_fault_where_accepted};
+use t_rules::{at_most_one_fault, at_most_one_mismatch, no_fault_where_accepted};
 use t_salt::salt_of;
 use t_terms::{TFault, TProgram};
 
@@ -38,7 +37,6 @@ pub(crate) struct Checker<'a> {
 fn judge(alloc: Global, types: &mut Types, program: &TProgram) -> Result<(), TFault>
     ensures { IsJudged (spanned_program program.now) result }
 {
-    mismatch_is_of_the_fault();
     match check_program(alloc, types, program) {
         Ok(()) => Ok(()),
         Err(refusal) => Err(refusal.fault()),
@@ -100,7 +98,6 @@ fn told_of(
 {
     no_fault_where_accepted();
     at_most_one_fault();
-    mismatch_is_of_the_fault();
     at_most_one_mismatch();
     match check_program(alloc, types, program) {
         Ok(()) => Ok(None),

@@ -5,14 +5,13 @@ use Rattle.idx_core.specs.declared.span.Span.{Span}
 use Rattle.t_types.specs.Tree.{IntTy}
 use Rattle.t_types.specs.Fits.{RegTypes, lookup}
 use Rattle.t_types.proofs.Scope.{regs_below}
-use Rattle.t_terms.specs.declared.fault.TCode.{TCode}
 use Rattle.t_terms.specs.Tree.{TInstr, TEnd, Halt, TSeq, TProg, names_after}
 use Rattle.t_terms.specs.Spanned.{SBlock, SProg, seq_of, plain, plain_blocks, plain_heap, plain_program}
 use Rattle.t_terms.specs.Whole.{WellFormedBlocks, Whole}
 use Rattle.t_rules.specs.Registers.{with_reg}
-use Rattle.t_rules.specs.Rules.{SeqAccepted, BlockAccepted, BlocksAccepted, FirstTakesNothing}
-use Rattle.t_rules.specs.Faults.{BodyFault, BlockFault, BlocksFault, FirstBlockFault}
-use Rattle.t_cut.specs.Before.{is_at, in_first, in_heap, in_body, in_block, steps_to}
+use Rattle.t_rules.specs.Rules.{SeqAccepted, BlocksAccepted, FirstTakesNothing, Accepted}
+use Rattle.t_rules.specs.Faults.{Note, BodyFaultWith, BlocksFaultWith, FirstBlockFaultWith, ProgramNoted}
+use Rattle.t_cut.specs.Before.{is_at, in_first, in_body, in_block, is_before_blocks, steps_to}
 use Rattle.t_cut.specs.Cut.{way_out, cut_block, way_outs, cut_blocks, cut}
 use Rattle.t_cut.specs.Laws.{CutIsAccepted}
 use Rattle.t_cut.proofs.Places.{at_instr, at_end, at_itself, or_left, or_right, in_tuples}
@@ -41,8 +40,8 @@ module _ (P Q : TProg) (labels : Labels P Q) (tuples : Tuples P Q) (place : Span
       go false rest = (h.0, instr_moved P Q labels tuples n g x.0 h.0 h.1, rest)
 
   -- the block with the fault has the place, and what stands before it is typed
-  cut_faulty : (n : ℕ) (g : RegTypes) (xs : List (TInstr × Span)) (e : TEnd) (s : Span) (c : TCode) →
-      BodyFault P n g xs e s c place →
+  cut_faulty : (n : ℕ) (g : RegTypes) (xs : List (TInstr × Span)) (e : TEnd) (s : Span) (c : Note) →
+      BodyFaultWith P n g xs e s c place →
       ((in_body place xs || is_at place s) ≡ true) × SeqAccepted Q n g (cut_seq place (steps_to place xs))
   cut_faulty n g [] e s c h = (at_itself place s (at_end P n g s e c place h), out Q place n g)
   cut_faulty n g (x ∷ xs) e s c (inl h) =
@@ -74,8 +73,8 @@ module _ (P Q : TProg) (labels : Labels P Q) (tuples : Tuples P Q) (place : Span
       (plain_blocks
       (if x then cut_block place (steps_to place b.body) b ∷ way_outs place bs else b ∷ cut_blocks place bs))
 
-  cut_accepted : (p q : ℕ) (bs : List SBlock) (c : TCode) → WellFormedBlocks p q (plain_blocks bs) →
-      BlocksFault P bs c place → BlocksAccepted Q (plain_blocks (cut_blocks place bs))
+  cut_accepted : (p q : ℕ) (bs : List SBlock) (c : Note) → WellFormedBlocks p q (plain_blocks bs) →
+      BlocksFaultWith P bs c place → BlocksAccepted Q (plain_blocks (cut_blocks place bs))
   cut_accepted p q [] c w h = absurd h
   cut_accepted p q (b ∷ bs) c w (inl h) =
       let f = cut_faulty b.owes (lookup b.file) b.body b.last b.last_span c h in
@@ -100,7 +99,7 @@ first_cut place (b ∷ bs) h = go (in_block place b)
     go true = h
     go false = h
 
-label_at : (place : Span) (bs : List SBlock) (c : TCode) → FirstBlockFault bs c place → in_first place bs ≡ true
+label_at : (place : Span) (bs : List SBlock) (c : Note) → FirstBlockFaultWith bs c place → in_first place bs ≡ true
 label_at place [] c h = absurd h
 label_at place (b ∷ bs) c h = at_itself place b.name h.1
 
@@ -108,15 +107,19 @@ differ : (b : Bool) → b ≡ true → b ≡ false → ⊥
 differ true x y = cc
 differ false x y = cc
 
-pub cut_is_accepted : CutIsAccepted
-cut_is_accepted P c place w (inl h) behind =
+cut_at : (P : SProg) (c : Note) (place : Span) → Whole (plain_program P) → ProgramNoted P c place →
+    is_before_blocks place P ≡ false → Accepted (plain_program (cut place P))
+cut_at P c place w (inl h) behind =
     absurd (differ _ (or_left _ _ (label_at place P.blocks c h.1)) behind)
-cut_is_accepted P c place w (inr (first, inl h)) behind =
+cut_at P c place w (inr (first, inl h)) behind =
     absurd (differ _ (or_right (in_first place P.blocks) _ (in_tuples (plain_program P) P.heap c place h)) behind)
-cut_is_accepted P c place w (inr (first, inr h)) behind =
+cut_at P c place w (inr (first, inr h)) behind =
     let labels = labels_alike P (cut place P) (alike_cut place P.blocks) in
     let tuples : Tuples (plain_program P) (plain_program (cut place P)) = λ d x e. e in (
       first_cut place P.blocks first,
       heap_moved (plain_program P) (plain_program (cut place P)) labels tuples (plain_heap P.heap) h.1,
       cut_accepted (plain_program P) (plain_program (cut place P)) labels tuples place _ _ P.blocks c w.1 h.2,
     )
+
+pub cut_is_accepted : CutIsAccepted
+cut_is_accepted P c place w h behind = cut_at P (c, h.0) place w h.1 behind

@@ -2,8 +2,8 @@
 use Rattle.std.proofs.Common.{◌≡◌, ◌∙◌, ℕ, ◌+◌, ◌<◌, Bool, true, false, Some, None, refl, sym, arith}
 use Rattle.std.proofs.lemmas.Bool.Decides.{nat_tests}
 use Rattle.t_types.specs.Tree.{Ty, IntTy, VarTy, CodeTy, ExistsTy, TupleTy}
-use Rattle.t_mismatch.specs.Nodes.{nodes, few}
-use Rattle.t_mismatch.specs.Mismatch.{Mismatch, all_few, told}
+use Rattle.t_rules.specs.Nodes.{nodes, few}
+use Rattle.t_rules.specs.Mismatch.{Mismatch, all_few, told}
 
 -- a type has a node
 pub some_nodes : (t : Ty) → 0 < nodes t

@@ -1,5 +1,1 @@
 mod Counted
-mod Beside
-mod Decided
-pub mod FirstWith
-mod RowsMismatch

@@ -1,4 +1,2 @@
-pub mod Nodes
-pub mod Mismatch
 pub mod ReadMismatch
 pub mod Refusals

@@ -1,7 +1,7 @@
 -- What is at odds in a fault, as a plain tree.
 use Rattle.std.specs.Prelude.{Option, option_map}
 use Rattle.t_types.specs.Read.{tree}
-use Rattle.t_mismatch.specs.Mismatch as plain
+use Rattle.t_rules.specs.Mismatch as plain
 use Rattle.t_mismatch.specs.declared.mismatch.Mismatch.{Mismatch}
 use Rattle.t_mismatch.specs.declared.mismatch.Mismatch.TheVariants.{Types, NoPackage, Register}
 

@@ -5,8 +5,9 @@ use Rattle.t_types.specs.Tree.{Ty}
 use Rattle.t_terms.specs.declared.fault.TFault.{TFault}
 use Rattle.t_terms.specs.declared.fault.TFault.TheVariants as fault
 use Rattle.t_intern.specs.Nodes.{at}
-use Rattle.t_mismatch.specs.Mismatch as plain
-use Rattle.t_mismatch.specs.Mismatch.{FaultWith, told}
+use Rattle.t_rules.specs.Mismatch as plain
+use Rattle.t_rules.specs.Mismatch.{told}
+use Rattle.t_rules.specs.Faults.{FaultWith}
 use Rattle.t_mismatch.specs.ReadMismatch.{mismatch_or_none}
 use Rattle.t_mismatch.specs.declared.mismatch.Mismatch.{Mismatch}
 use Rattle.t_mismatch.specs.declared.odds.Odds.{Odds}

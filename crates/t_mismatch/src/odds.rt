@@ -3,7 +3,7 @@
 ghost use Rattle.std.specs.Prelude.{◌≡◌, ◌<◌, IfOk, IfSome, length, option_map};
 ghost use Rattle.t_types.specs.Read.{tree};
 ghost use Rattle.t_intern.specs.Nodes.{at};
-ghost use Rattle.t_mismatch.specs.Mismatch.{all_few, told};
+ghost use Rattle.t_rules.specs.Mismatch.{all_few, told};
 ghost use Rattle.t_mismatch.specs.ReadMismatch.{mismatch as mismatch_tree, mismatch_or_none};
 ghost use Rattle.t_mismatch.specs.Refusals.{odds_at, OddsBelow};
 

@@ -3,7 +3,7 @@
 // there may be.
 ghost use Rattle.std.specs.Prelude.{◌≡◌, ◌+◌, ◌<◌, ◌≤◌, length, MatchOption};
 ghost use Rattle.t_intern.specs.Nodes.{at, regs_at, fields_at, RegsBelow, FieldsBelow};
-ghost use Rattle.t_mismatch.specs.Nodes.{nodes, file_nodes, fields_nodes, few};
+ghost use Rattle.t_rules.specs.Nodes.{nodes, file_nodes, fields_nodes, few};
 
 use t_intern::{Shape, Types};
 

@@ -8,7 +8,7 @@ use Rattle.t_types.specs.Tree.{Ty, CodeTy, TFile, NoRegs, MoreRegs}
 use Rattle.t_types.specs.Fits.{FitsFile, RegTypes}
 use Rattle.t_intern.specs.Nodes.{at, regs_at, RegsBelow}
 use Rattle.t_registers.specs.Fitted.{FitsPlace, reg_in}
-use Rattle.t_mismatch.specs.Mismatch.{KnownFits}
+use Rattle.t_rules.specs.Faults.{KnownFits}
 use Rattle.t_registers.specs.Parts.{IsRegsOf, with_type}
 
 module _ (ts : List Ty) where

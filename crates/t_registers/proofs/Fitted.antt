@@ -17,7 +17,7 @@ use Rattle.t_types.proofs.FitsLaws.{fits_over}
 use Rattle.t_rules.specs.Registers.{with_reg, raised}
 use Rattle.t_intern.specs.Nodes.{at}
 use Rattle.t_registers.specs.Fitted.{Rises, IsSince, FitsBut}
-use Rattle.t_mismatch.specs.Mismatch.{KnownFits}
+use Rattle.t_rules.specs.Faults.{KnownFits}
 use Rattle.t_registers.specs.Known.{seen, known, moment_of, now_of, IsEntry, IsSound, IsSet, IsSame, IsRemembered}
 use Rattle.t_registers.specs.Known.{IsFitted}
 use Rattle.t_registers.specs.declared.registers.Entry.{Entry}

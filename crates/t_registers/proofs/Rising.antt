@@ -14,7 +14,7 @@ use Rattle.t_types.specs.Tree.{Ty, TFile, NoRegs, MoreRegs, Below, BelowFile}
 use Rattle.t_types.specs.Fits.{Fits, FitsFile, RegTypes, lookup}
 use Rattle.t_intern.specs.Nodes.{at, regs_at}
 use Rattle.t_registers.specs.Fitted.{RisesFrom, Rises, AgreesAt, IsSince, SinceAgree, FitsBut}
-use Rattle.t_mismatch.specs.Mismatch.{KnownFits}
+use Rattle.t_rules.specs.Faults.{KnownFits}
 
 -- where a register is found: at the first entry, or further on
 named : (q r : ℕ) (u t : Ty) (o : Option Ty) → cond (nat_eq q r) (Some u) o ≡ Some t →

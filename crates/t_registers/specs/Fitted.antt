@@ -2,7 +2,7 @@
 use Rattle.std.specs.Prelude.{◌≡◌, ℕ, zero, suc, ◌+◌, ◌<◌, ◌≤◌, ◌⊎◌, List, length, Option, Some, None, slice_index_or}
 use Rattle.t_types.specs.Tree.{Ty, TFile, NoRegs, MoreRegs}
 use Rattle.t_types.specs.Fits.{RegTypes, lookup}
-use Rattle.t_mismatch.specs.Mismatch.{KnownFits}
+use Rattle.t_rules.specs.Faults.{KnownFits}
 
 -- the registers of the file rise from `low` on, each once
 abbrev pub RisesFrom : ℕ → TFile → Type 0

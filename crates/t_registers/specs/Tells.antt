@@ -3,7 +3,7 @@ use Rattle.std.specs.Prelude.{ℕ, List, Bool, IsTrue, ◌↔◌, Result, IfOk}
 use Rattle.idx_core.specs.declared.memory.OutOfMemory.{OutOfMemory}
 use Rattle.t_types.specs.Tree.{Ty, TFile}
 use Rattle.t_types.specs.Fits.{Fits, FitsFile, RegTypes}
-use Rattle.t_mismatch.specs.Mismatch.{KnownFits}
+use Rattle.t_rules.specs.Faults.{KnownFits}
 use Rattle.t_registers.specs.Fitted.{FitsPlace, AgreesAt, SinceAgree}
 
 -- the answer, if there is one, tells whether what is known of the registers fits the file

@@ -1,6 +1,6 @@
 -- Worked programs with data. The comment above each is its text, with a bar for a line end; its places are those of the
 -- bytes of that text.
-use Rattle.std.proofs.Common.{◌≡◌, ◌∷◌, true, List, [], Some, refl, inl, inr, arith, slice_get}
+use Rattle.std.proofs.Common.{◌≡◌, ◌∷◌, true, List, [], Some, None, refl, inl, inr, arith, slice_get}
 use Rattle.std.specs.Prelude.{pos}
 use Rattle.idx_core.specs.declared.span.Span.{Span}
 use Rattle.t_types.specs.Tree.{Ty, IntTy, ExistsTy, TupleTy, NoRegs, MoreRegs, NoFields, MoreFields}
@@ -12,7 +12,9 @@ use Rattle.t_terms.specs.Whole.{Whole}
 use Rattle.t_rules.specs.Registers.{with_reg}
 use Rattle.t_rules.specs.Rules.{Accepted}
 use Rattle.t_rules.specs.Known.{KnownAt}
-use Rattle.t_rules.specs.Faults.{ProgramFault}
+use Rattle.t_rules.specs.Mismatch.{Types, told}
+use Rattle.t_rules.specs.Nodes.{few}
+use Rattle.t_rules.specs.Faults.{ProgramFaultWith}
 use Rattle.t_rules.specs.Machine.{IntWord, AddressWord, start_heap, Next, Spot, HaltsWithin}
 use Rattle.t_rules.specs.HeapTypes.{start_types}
 use Rattle.t_rules.specs.Erase.{EInt, EAddress, erase_heap, erase_blocks, EHaltedWith}
@@ -115,7 +117,9 @@ word_of_another_type = record {
   heap = tuple (span 6 8) (datum (Plain (Int (pos 5)) []) (TupleTy NoFields) (span 16 17) ∷ []) ∷ [];
 }
 
-word_of_another_type_fault : ProgramFault word_of_another_type T13 (span 16 17)
+word_of_another_type_fault : ProgramFaultWith word_of_another_type T13 (span 16 17)
+    (Some (Types (TupleTy NoFields) IntTy 0))
+unfolding told few
 word_of_another_type_fault =
     inr ((refl, refl), inl (inl (inl (inr (_, refl, inl (no_fit _ _ (λ e. cc) (λ fs gs e k. cc), (refl, refl)))))))
 
@@ -127,7 +131,7 @@ word_with_types = record {
   heap = tuple (span 6 8) (datum (Plain (Int (pos 5)) (IntTy ∷ [])) IntTy (span 16 22) ∷ []) ∷ [];
 }
 
-word_with_types_fault : ProgramFault word_with_types T17 (span 16 22)
+word_with_types_fault : ProgramFaultWith word_with_types T17 (span 16 22) None
 word_with_types_fault = inr ((refl, refl), inl (inl (inl (inl (inr (_, refl, (refl, refl)))))))
 
 -- The package does not hide what its type says.
@@ -140,7 +144,9 @@ word_of_no_package = record {
       (span 16 41) ∷ []) ∷ [];
 }
 
-word_of_no_package_fault : ProgramFault word_of_no_package T15 (span 16 41)
+word_of_no_package_fault : ProgramFaultWith word_of_no_package T15 (span 16 41)
+    (Some (Types (TupleTy NoFields) IntTy 0))
+unfolding told few
 word_of_no_package_fault =
     inr (
       (refl, refl),
@@ -155,5 +161,5 @@ first_block_before_data = record {
   heap = tuple (span 6 8) (datum (Plain (Int (pos 5)) []) (TupleTy NoFields) (span 16 17) ∷ []) ∷ [];
 }
 
-first_block_before_data_fault : ProgramFault first_block_before_data T20 (span 24 26)
+first_block_before_data_fault : ProgramFaultWith first_block_before_data T20 (span 24 26) None
 first_block_before_data_fault = inl ((λ h. let e = h.1 in cc), (refl, refl))

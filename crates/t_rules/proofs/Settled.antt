@@ -19,8 +19,10 @@ use Rattle.t_rules.specs.Registers.{with_reg, raised, no_types}
 use Rattle.t_rules.specs.Rules.{label_type, data_type, BaseHas, Has, Enters, Typed, EndTyped, SeqAccepted}
 use Rattle.t_rules.specs.Rules.{BlockAccepted, BlocksAccepted, DatumAccepted, DataAccepted, HeapAccepted}
 use Rattle.t_rules.specs.Rules.{FirstTakesNothing, Accepted}
-use Rattle.t_rules.specs.Faults.{BaseFault, ValueFault, EnterFault, InstrFault, EndFault, BodyFault, BlockFault}
-use Rattle.t_rules.specs.Faults.{BlocksFault, DatumFault, DataFault, HeapFault, FirstBlockFault, ProgramFault}
+use Rattle.t_rules.specs.Faults.{KnownFits, BaseFaultWith, ValueFaultWith, FileFaultWith, EnterFaultWith}
+use Rattle.t_rules.specs.Faults.{InstrFaultWith, EndFaultWith, BodyFaultWith, BlockFaultWith, BlocksFaultWith}
+use Rattle.t_rules.specs.Faults.{DatumFaultWith, DataFaultWith, HeapFaultWith, FirstBlockFaultWith, ProgramNoted}
+use Rattle.t_rules.specs.Faults.{ProgramFault}
 use Rattle.t_rules.specs.LawsFaults.{AcceptedOrFault}
 use Rattle.text_core.proofs.Refusals.{Settles, holds, comes, refused, settle_check, settle_part, settle_known}
 use Rattle.text_core.proofs.Refusals.{settle_map}
@@ -152,16 +154,20 @@ fits t u = by_same (ty_same t u) (as_tuples t u)
     by_same (inr differ) (inl h) = inl (inr h)
     by_same (inr differ) (inr tuples) = inr (λ h. elim h [ inl e ↦ differ e | inr k ↦ tuples k ])
 
-fits_file : (g : RegTypes) (file : TFile) → Decided (FitsFile g file)
-fits_file g NoRegs = inl tt
-fits_file g (MoreRegs r t file) =
-    both (known (g r)) (fits_file g file) (λ x y. (x, y)) (λ differ h. differ h.0) (λ differ h. differ h.1)
+-- a register is known by a type that fits, or not
+known_fits : (g : RegTypes) (r : ℕ) (t : Ty) → Decided (KnownFits g r t)
+known_fits g r t = known (g r)
   where
     known : (o : Option Ty) → Decided ((u : Ty) × (o ≡ Some u) × Fits u t)
     known None = inr (λ h. let e = h.1 in cc)
     known (Some u) =
         by_equal (fits u t) (λ h. (u, refl, h)) (λ differ h. let e1 = h.1 in let e : h.0 ≡ u = cc in
         differ (subst (λ z. Fits z t) e h.2))
+
+file_settled : (n : ℕ) (g : RegTypes) (s : Span) (file : TFile) → Settles (FitsFile g file) (FileFaultWith n g s file)
+file_settled n g s NoRegs = holds tt
+file_settled n g s (MoreRegs r t file) =
+    settle_check (known_fits g r t) refused (λ known. settle_map (λ rest. (known, rest)) (file_settled n g s file))
 
 -- what is in range is there
 pub there : {A : Type 0} (xs : List A) (i : ℕ) → i < length xs → (x : A) × (slice_get xs i ≡ Some x)
@@ -181,14 +187,14 @@ module _ (P : TProg) where
   tuples = length P.heap
 
   base_settled : (g : RegTypes) (s : Span) (b : TBase) → WellFormedBase blocks tuples b →
-      Settles ((t : Ty) × BaseHas P g b t) (BaseFault g s b)
+      Settles ((t : Ty) × BaseHas P g b t) (BaseFaultWith g s b)
   base_settled g s (Reg r) h = settle_known (g r) refused (λ t e. holds (t, e))
   base_settled g s (Int i) h = holds (IntTy, refl)
   base_settled g s (Label l) h = let x = there P.blocks l h in holds (label_type x.0, (x.0, x.1, refl))
   base_settled g s (Data d) h = let x = there P.heap d h in holds (data_type x.0, (x.0, x.1, refl))
 
   value_settled : (n : ℕ) (g : RegTypes) (s : Span) (v : TValue) → WellFormedValue blocks tuples n v →
-      Settles ((t : Ty) × Has P n g v t) (ValueFault P n g s v)
+      Settles ((t : Ty) × Has P n g v t) (ValueFaultWith P n g s v)
   value_settled n g s (Plain b []) h = base_settled g s b h.0
   value_settled n g s (Plain b (u ∷ us)) h =
       settle_part (base_settled g s b h.0)
@@ -200,16 +206,16 @@ module _ (P : TProg) where
       holds (shape, (body, t, k, e, f, refl, well_formed_below n hidden h.0, well_formed_below n shape h.2)))))
 
   enter_settled : (n : ℕ) (g : RegTypes) (s : Span) (v : TValue) → WellFormedValue blocks tuples n v →
-      Settles (Enters P n g v) (EnterFault P n g s v)
+      Settles (Enters P n g v) (EnterFaultWith P n g s v)
   enter_settled n g s v h =
       settle_part (value_settled n g s v h)
       (λ t k. settle_code t refused
       (λ owes file e. settle_check (number_same owes 0) refused
-      (λ none. settle_check (fits_file g file) refused (λ f.
-      holds (file, subst (λ m. Has P n g v (CodeTy m file)) none (subst (Has P n g v) e k), f)))))
+      (λ none. settle_map (λ f. (file, subst (λ m. Has P n g v (CodeTy m file)) none (subst (Has P n g v) e k), f))
+      (file_settled n g s file))))
 
   instr_settled : (n : ℕ) (g : RegTypes) (s : Span) (i : TInstr) → WellFormedInstr blocks tuples n i →
-      Settles ((h : RegTypes) × Typed P n g i h) (InstrFault P n g s i)
+      Settles ((h : RegTypes) × Typed P n g i h) (InstrFaultWith P n g s i)
   instr_settled n g s (Arith op rd rs v) h =
       settle_known (g rs) refused
       (λ t e. settle_check (ty_same t IntTy) refused
@@ -244,7 +250,7 @@ module _ (P : TProg) where
       (λ u is. holds (with_reg (raised g) rd u, (u, subst (Has P n g v) is k, refl))))
 
   end_settled : (n : ℕ) (g : RegTypes) (s : Span) (e : TEnd) → WellFormedEnd blocks tuples n e →
-      Settles (EndTyped P n g e) (EndFault P n g s e)
+      Settles (EndTyped P n g e) (EndFaultWith P n g s e)
   end_settled n g s (Jmp v) h = enter_settled n g s v h
   end_settled n g s Halt h = settle_check (known (g 1)) refused (λ k. holds k)
     where
@@ -254,40 +260,40 @@ module _ (P : TProg) where
 
   body_settled : (xs : List (TInstr × Span)) (n : ℕ) (g : RegTypes) (e : TEnd) (s : Span) →
       WellFormedSeq blocks tuples n (seq_of xs e) →
-      Settles (SeqAccepted P n g (seq_of xs e)) (BodyFault P n g xs e s)
+      Settles (SeqAccepted P n g (seq_of xs e)) (BodyFaultWith P n g xs e s)
   body_settled [] n g e s h = end_settled n g s e h
   body_settled (x ∷ xs) n g e s h =
       settle_part (instr_settled n g x.1 x.0 h.0)
       (λ k typed. settle_map (λ rest. (k, typed, rest)) (body_settled xs (names_after x.0 n) k e s h.2))
 
   block_settled : (b : SBlock) → WellFormedBlock blocks tuples (plain b) →
-      Settles (BlockAccepted P (plain b)) (BlockFault P b)
+      Settles (BlockAccepted P (plain b)) (BlockFaultWith P b)
   block_settled b h =
       settle_map (λ k. (regs_below 0 b.owes b.file h.1, k))
       (body_settled b.body b.owes (lookup b.file) b.last b.last_span h.2)
 
   blocks_settled : (bs : List SBlock) → WellFormedBlocks blocks tuples (plain_blocks bs) →
-      Settles (BlocksAccepted P (plain_blocks bs)) (BlocksFault P bs)
+      Settles (BlocksAccepted P (plain_blocks bs)) (BlocksFaultWith P bs)
   blocks_settled [] h = holds tt
   blocks_settled (b ∷ bs) h =
       settle_part (settle_map (λ k. (tt, k)) (block_settled b h.0))
       (λ u k. settle_map (λ rest. (k, rest)) (blocks_settled bs h.1))
 
   datum_settled : (x : SDatum) → WellFormedDatum blocks tuples (plain_datum x) →
-      Settles (DatumAccepted P (plain_datum x)) (DatumFault P x)
+      Settles (DatumAccepted P (plain_datum x)) (DatumFaultWith P x)
   datum_settled x h =
       settle_part (value_settled 0 no_types x.span x.value h.0)
       (λ t k. settle_check (fits t x.ty) refused (λ f. holds (t, k, f, well_formed_below 0 x.ty h.2)))
 
   data_settled : (xs : List SDatum) → WellFormedData blocks tuples (plain_fields xs) →
-      Settles (DataAccepted P (plain_fields xs)) (DataFault P xs)
+      Settles (DataAccepted P (plain_fields xs)) (DataFaultWith P xs)
   data_settled [] h = holds tt
   data_settled (x ∷ xs) h =
       settle_part (settle_map (λ k. (tt, k)) (datum_settled x h.0))
       (λ u k. settle_map (λ rest. (k, rest)) (data_settled xs h.1))
 
   heap_settled : (xs : List SData) → WellFormedHeap blocks tuples (plain_heap xs) →
-      Settles (HeapAccepted P (plain_heap xs)) (HeapFault P xs)
+      Settles (HeapAccepted P (plain_heap xs)) (HeapFaultWith P xs)
   heap_settled [] h = holds tt
   heap_settled (x ∷ xs) h =
       settle_part (settle_map (λ k. (tt, k)) (data_settled x.fields h.0))
@@ -303,11 +309,11 @@ pub accepted_or_fault : AcceptedOrFault
 accepted_or_fault P whole = told settled
   where
     first : (bs : List SBlock) → 1 ≤ length (plain_blocks bs) → Decided (FirstTakesNothing (plain_blocks bs))
-        × Settles ⊥ (FirstBlockFault bs)
+        × Settles ⊥ (FirstBlockFaultWith bs)
     first [] le = absurd (omega (arith, le))
     first (b ∷ bs) le = (nothing_owed b, refused)
 
-    settled : Settles (Accepted (plain_program P)) (ProgramFault P)
+    settled : Settles (Accepted (plain_program P)) (ProgramNoted P)
     settled =
         let x = first P.blocks whole.0 in
         settle_check x.0 x.1
@@ -315,7 +321,7 @@ accepted_or_fault P whole = told settled
         (λ u heap.
         settle_map (λ rest. (taken, heap, rest)) (blocks_settled (plain_program P) P.blocks whole.1)))
 
-    told : Settles (Accepted (plain_program P)) (ProgramFault P) → Accepted (plain_program P)
+    told : Settles (Accepted (plain_program P)) (ProgramNoted P) → Accepted (plain_program P)
         ⊎ ((c : _) × (p : Span) × ProgramFault P c p)
     told (holds k) = inl k
-    told (comes c p h) = inr (c, p, h)
+    told (comes c p h) = inr (c.0, p, (c.1, h))

@@ -6,4 +6,4 @@ mod lines;
 mod types;
 
 pub use lines::{line, write_line};
-pub use types::type_at;
+pub use types::{type_at, write_type};

@@ -85,14 +85,11 @@ pub fn type_at(alloc: Global, t: &TType, names: u64) -> Result<Vec<u8>, OutOfMem
     Ok(text)
 }
 
-// A type under `vars` names of the place and `depth` names of its own. Each of the latter has taken some bytes.
+/// Puts the text of a part of a type (own choice) at the end of a text, under `vars` names of the place and `depth`
+/// names that are bound around it in the whole. Each of the latter has taken some bytes of the text. An error is want
+/// of memory.
 #[cycle(types)]
-pub(crate) fn write_type(
-    text: &mut Vec<u8>,
-    t: &TType,
-    vars: u64,
-    depth: u64,
-) -> Result<(), OutOfMemory>
+pub fn write_type(text: &mut Vec<u8>, t: &TType, vars: u64, depth: u64) -> Result<(), OutOfMemory>
     requires room { depth ≤ length text.old.items }
     ensures { OnOk result (text.new.items ≡ text.old.items ++ text_at vars depth (tree t.now)) }
 {

@@ -1,6 +1,6 @@
 -- Each token is told as one that is listed.
-use Rattle.std.proofs.Common.{◌≡◌, ◌⊎◌, ◌<◌, ◌≤◌, ◌==◌, inl, inr, ℕ, zero, suc, pos, negsuc, slice_get, refl, Some}
-use Rattle.std.proofs.Common.{false, arith}
+use Rattle.std.proofs.Common.{◌≡◌, ◌⊎◌, ◌<◌, ◌≤◌, ◌==◌, inl, inr, ℕ, zero, suc, pos, negsuc, slice_get, refl}
+use Rattle.std.proofs.Common.{List, Option, Some, Bool, true, false, arith}
 use Rattle.std.proofs.lemmas.Bool.{ne_eqb}
 use Rattle.idx_core.specs.declared.span.Span.{Span}
 use Rattle.t_text.specs.declared.token.Kind.{Kind}
@@ -10,17 +10,13 @@ use Rattle.t_text.specs.declared.wanted.Wanted.{Wanted}
 use Rattle.t_text.specs.declared.wanted.Wanted.TheVariants as want
 use Rattle.t_text.specs.GrammarTable as m
 use Rattle.t_text.specs.GrammarTable.{table, Line, fits, after}
-use Rattle.expected.proofs.Same.{same_takes}
-use Rattle.t_wanted.specs.Words.{kinds, sample}
-use Rattle.t_wanted.specs.Text.{IsTold, AllAreTold}
+use Rattle.expected.specs.Wanted.{IsTold}
+use Rattle.expected.proofs.Same.{told_as}
+use Rattle.t_wanted.specs.Words.{assembly_kinds}
+use Rattle.t_wanted.specs.Text.{AllAreTold}
 
 abbrev tok : Kind → Span → Token
 tok kind s = record { kind = kind; span = s }
-
--- a token of a kind between which and a sample the table makes no difference
-told_as : (i : ℕ) (kind listed : Kind) (s : Span) → slice_get kinds i ≡ Some listed →
-    ((c : Wanted) → fits c kind ≡ fits c listed) → ((n : Line) → after n kind ≡ after n listed) → IsTold (tok kind s)
-told_as i kind listed s e f a = (i, listed, e, λ st. same_takes table (tok kind s) (sample listed) f a st)
 
 -- large numbers have no value that is told
 far : (m n : ℕ) → n < m → (m == n) ≡ false
@@ -38,9 +34,6 @@ large_head v h =
     let two : (v == 2) ≡ false = far v 2 (omega arith) in
     rw (one, two) refl
 
-told_at : (i : ℕ) (kind : Kind) (s : Span) → slice_get kinds i ≡ Some kind → IsTold (tok kind s)
-told_at i kind s e = told_as i kind kind s e (λ c. refl) (λ n. refl)
-
 large_fits : (n : ℕ) (c : Wanted) → fits c (k.Plain (pos (suc (suc (suc n))))) ≡ fits c (k.Plain (pos 3))
 large_fits n want.Flag = large_flag (suc (suc (suc n))) (omega arith)
 large_fits n _ = refl
@@ -50,19 +43,19 @@ large_after n m.LHeader = large_head (suc (suc (suc n))) (omega arith)
 large_after n _ = refl
 
 odd_fits : (n : ℕ) (c : Wanted) → fits c (k.Plain (negsuc n)) ≡ fits c (k.Plain (pos 3))
-odd_fits n want.Name = refl
+odd_fits n want.Flag = refl
 odd_fits n _ = refl
 
 odd_after : (n : ℕ) (l : Line) → after l (k.Plain (negsuc n)) ≡ after l (k.Plain (pos 3))
-odd_after n m.LProgram = refl
+odd_after n m.LHeader = refl
 odd_after n _ = refl
 
 below_fits : (n : ℕ) (c : Wanted) → fits c (k.Negative (negsuc n)) ≡ fits c (k.Negative (negsuc 0))
-below_fits n want.Name = refl
+below_fits n want.Flag = refl
 below_fits n _ = refl
 
 below_after : (n : ℕ) (l : Line) → after l (k.Negative (negsuc n)) ≡ after l (k.Negative (negsuc 0))
-below_after n m.LProgram = refl
+below_after n m.LHeader = refl
 below_after n _ = refl
 
 above_fits : (n : ℕ) (c : Wanted) → fits c (k.Negative (pos (suc n))) ≡ fits c (k.Negative (negsuc 0))
@@ -70,62 +63,72 @@ above_fits n want.Flag = far (suc n) 0 (omega arith)
 above_fits n _ = refl
 
 above_after : (n : ℕ) (l : Line) → after l (k.Negative (pos (suc n))) ≡ after l (k.Negative (negsuc 0))
-above_after n m.LProgram = refl
+above_after n m.LHeader = refl
 above_after n _ = refl
 
 register_fits : (n : ℕ) (c : Wanted) → fits c (k.Register n) ≡ fits c (k.Register 1)
-register_fits n want.Name = refl
+register_fits n want.Flag = refl
 register_fits n _ = refl
 
 register_after : (n : ℕ) (l : Line) → after l (k.Register n) ≡ after l (k.Register 1)
-register_after n m.LProgram = refl
+register_after n m.LHeader = refl
 register_after n _ = refl
 
-told : (kind : Kind) (s : Span) → IsTold (tok kind s) ⊎ (kind ≡ k.Negative (pos 0))
-told (k.Plain (pos zero)) s = inl (told_at 15 (k.Plain (pos 0)) s refl)
-told (k.Plain (pos (suc zero))) s = inl (told_at 16 (k.Plain (pos 1)) s refl)
-told (k.Plain (pos (suc (suc zero)))) s = inl (told_at 17 (k.Plain (pos 2)) s refl)
+-- a token of the very kind, and one like it
+told_at : (i : ℕ) (kind : Kind) (s : Span) {wider : Option Kind} {words : List ℕ} →
+    slice_get assembly_kinds.kinds i ≡ Some (kind, wider, words) →
+    IsTold table assembly_kinds (tok kind s) ⊎ (kind ≡ k.Negative (pos 0))
+told_at i kind s e = inl (told_as table assembly_kinds i (tok kind s) kind e (λ c. refl) (λ n. refl))
+
+told_like : (i : ℕ) (kind listed : Kind) (s : Span) {wider : Option Kind} {words : List ℕ} →
+    slice_get assembly_kinds.kinds i ≡ Some (listed, wider, words) → ((c : Wanted) → fits c kind ≡ fits c listed) →
+    ((n : Line) → after n kind ≡ after n listed) →
+    IsTold table assembly_kinds (tok kind s) ⊎ (kind ≡ k.Negative (pos 0))
+told_like i kind listed s e f a = inl (told_as table assembly_kinds i (tok kind s) listed e f a)
+
+told : (kind : Kind) (s : Span) → IsTold table assembly_kinds (tok kind s) ⊎ (kind ≡ k.Negative (pos 0))
+told (k.Plain (pos zero)) s = told_at 15 (k.Plain (pos 0)) s refl
+told (k.Plain (pos (suc zero))) s = told_at 16 (k.Plain (pos 1)) s refl
+told (k.Plain (pos (suc (suc zero)))) s = told_at 17 (k.Plain (pos 2)) s refl
 told (k.Plain (pos (suc (suc (suc n))))) s =
-    inl (told_as 20 (k.Plain (pos (suc (suc (suc n))))) (k.Plain (pos 3)) s refl (large_fits n) (large_after n))
-told (k.Plain (negsuc n)) s =
-    inl (told_as 20 (k.Plain (negsuc n)) (k.Plain (pos 3)) s refl (odd_fits n) (odd_after n))
+    told_like 20 (k.Plain (pos (suc (suc (suc n))))) (k.Plain (pos 3)) s refl (large_fits n) (large_after n)
+told (k.Plain (negsuc n)) s = told_like 20 (k.Plain (negsuc n)) (k.Plain (pos 3)) s refl (odd_fits n) (odd_after n)
 told (k.Negative (pos zero)) s = inr refl
 told (k.Negative (pos (suc n))) s =
-    inl (told_as 21 (k.Negative (pos (suc n))) (k.Negative (negsuc 0)) s refl (above_fits n) (above_after n))
+    told_like 21 (k.Negative (pos (suc n))) (k.Negative (negsuc 0)) s refl (above_fits n) (above_after n)
 told (k.Negative (negsuc n)) s =
-    inl (told_as 21 (k.Negative (negsuc n)) (k.Negative (negsuc 0)) s refl (below_fits n) (below_after n))
-told (k.Register n) s =
-    inl (told_as 18 (k.Register n) (k.Register 1) s refl (register_fits n) (register_after n))
-told k.As s = inl (told_at 0 k.As s refl)
-told k.Code s = inl (told_at 1 k.Code s refl)
-told k.Data s = inl (told_at 2 k.Data s refl)
-told k.RightBracket s = inl (told_at 3 k.RightBracket s refl)
-told k.RightBrace s = inl (told_at 4 k.RightBrace s refl)
-told k.RightAngle s = inl (told_at 5 k.RightAngle s refl)
-told k.Comma s = inl (told_at 6 k.Comma s refl)
-told k.Dot s = inl (told_at 7 k.Dot s refl)
-told k.Colon s = inl (told_at 8 k.Colon s refl)
-told k.Caret s = inl (told_at 9 k.Caret s refl)
-told k.Jmp s = inl (told_at 10 k.Jmp s refl)
-told k.Halt s = inl (told_at 11 k.Halt s refl)
-told k.LeftBracket s = inl (told_at 12 k.LeftBracket s refl)
-told k.LeftBrace s = inl (told_at 13 k.LeftBrace s refl)
-told k.Tal s = inl (told_at 14 k.Tal s refl)
-told k.Name s = inl (told_at 19 k.Name s refl)
-told k.Int s = inl (told_at 22 k.Int s refl)
-told k.All s = inl (told_at 23 k.All s refl)
-told k.Some s = inl (told_at 24 k.Some s refl)
-told k.LeftAngle s = inl (told_at 25 k.LeftAngle s refl)
-told k.Pack s = inl (told_at 26 k.Pack s refl)
-told k.Add s = inl (told_at 27 k.Add s refl)
-told k.Sub s = inl (told_at 28 k.Sub s refl)
-told k.Mul s = inl (told_at 29 k.Mul s refl)
-told k.Bnz s = inl (told_at 30 k.Bnz s refl)
-told k.Ld s = inl (told_at 31 k.Ld s refl)
-told k.St s = inl (told_at 32 k.St s refl)
-told k.Mov s = inl (told_at 33 k.Mov s refl)
-told k.Malloc s = inl (told_at 34 k.Malloc s refl)
-told k.Unpack s = inl (told_at 35 k.Unpack s refl)
+    told_like 21 (k.Negative (negsuc n)) (k.Negative (negsuc 0)) s refl (below_fits n) (below_after n)
+told (k.Register n) s = told_like 18 (k.Register n) (k.Register 1) s refl (register_fits n) (register_after n)
+told k.As s = told_at 0 k.As s refl
+told k.Code s = told_at 1 k.Code s refl
+told k.Data s = told_at 2 k.Data s refl
+told k.RightBracket s = told_at 3 k.RightBracket s refl
+told k.RightBrace s = told_at 4 k.RightBrace s refl
+told k.RightAngle s = told_at 5 k.RightAngle s refl
+told k.Comma s = told_at 6 k.Comma s refl
+told k.Dot s = told_at 7 k.Dot s refl
+told k.Colon s = told_at 8 k.Colon s refl
+told k.Caret s = told_at 9 k.Caret s refl
+told k.Jmp s = told_at 10 k.Jmp s refl
+told k.Halt s = told_at 11 k.Halt s refl
+told k.LeftBracket s = told_at 12 k.LeftBracket s refl
+told k.LeftBrace s = told_at 13 k.LeftBrace s refl
+told k.Tal s = told_at 14 k.Tal s refl
+told k.Name s = told_at 19 k.Name s refl
+told k.Int s = told_at 22 k.Int s refl
+told k.All s = told_at 23 k.All s refl
+told k.Some s = told_at 24 k.Some s refl
+told k.LeftAngle s = told_at 25 k.LeftAngle s refl
+told k.Pack s = told_at 26 k.Pack s refl
+told k.Add s = told_at 27 k.Add s refl
+told k.Sub s = told_at 28 k.Sub s refl
+told k.Mul s = told_at 29 k.Mul s refl
+told k.Bnz s = told_at 30 k.Bnz s refl
+told k.Ld s = told_at 31 k.Ld s refl
+told k.St s = told_at 32 k.St s refl
+told k.Mov s = told_at 33 k.Mov s refl
+told k.Malloc s = told_at 34 k.Malloc s refl
+told k.Unpack s = told_at 35 k.Unpack s refl
 
 pub all_are_told : AllAreTold
 all_are_told c = told c.kind c.span

@@ -1,26 +1,12 @@
 -- Worked lines, proved by computing.
-use Rattle.std.proofs.Common.{◌≡◌, ℕ, suc, zero, ◌+◌, List, [], ◌∷◌, drop, length, refl, codes}
-use Rattle.text_core.specs.Tokens.{Item, Gap, Spelling, Nothing}
+use Rattle.std.proofs.Common.{◌≡◌, ℕ, List, [], refl, codes}
 use Rattle.text_core.specs.Lexeme.{item}
-use Rattle.t_text.specs.declared.token.Token.{Token}
-use Rattle.t_text.specs.declared.token.Kind.{Kind}
 use Rattle.t_text.specs.Tokens.{assembly}
+use Rattle.expected.proofs.Worked.{line_by}
 use Rattle.t_wanted.specs.Text.{wanted_line}
 
--- the tokens of a text of at most n bytes from the place i on
-abbrev tokens_by : (ℕ → List ℕ → List Token) → ℕ → List ℕ → Item Kind → List Token
-tokens_by further i s (Gap k) = further (i + k) (drop k s)
-tokens_by further i s (Spelling kind k) =
-    record { kind = kind; span = record { start = i; end = i + k } } ∷ further (i + k) (drop k s)
-tokens_by further i s Nothing = []
-
-abbrev tokens_from : ℕ → ℕ → List ℕ → List Token
-tokens_from zero i s = []
-tokens_from (suc n) i [] = []
-tokens_from (suc n) i (b ∷ s) = tokens_by (λ j r. tokens_from n j r) i (b ∷ s) (item assembly (b ∷ s))
-
 abbrev line : List ℕ → ℕ → ℕ → List ℕ
-line text start end = wanted_line text (record { start = start; end = end }) (tokens_from (length text) 0 text)
+line = line_by (item assembly) (λ kind s. record { kind = kind; span = s }) wanted_line
 
 empty : line [] 0 0 ≡ codes "wanted one of: tal; found the end"
 empty = refl

@@ -1,4 +1,3 @@
-pub mod Stands
 pub mod Table
 pub mod Text
 pub mod Words

@@ -1,57 +1,19 @@
 -- The table of the assembly grammar with its values aside.
-use Rattle.std.specs.Prelude.{List, [], Option, Some, None}
+use Rattle.std.specs.Prelude.{pos, ◌==◌, ◌&&◌, ◌||◌, List, map, Bool, true, false}
+use Rattle.t_text.specs.declared.token.Token.{Token}
 use Rattle.t_text.specs.declared.token.Kind.{Kind}
 use Rattle.t_text.specs.declared.token.Kind.TheVariants as k
+use Rattle.t_text.specs.contracts.token.KindPartialEq.TheImpl as same_kind
 use Rattle.t_text.specs.declared.wanted.Wanted.{Wanted}
+use Rattle.t_text.specs.declared.wanted.Wanted.TheVariants as want
 use Rattle.t_text.specs.GrammarTable as m
-use Rattle.t_text.specs.GrammarTable.{table, fits, after, may_end, Stack}
-use Rattle.expected.specs.declared.machine.Sym.{Sym}
-use Rattle.expected.specs.Owing as owing
-use Rattle.expected.specs.Owing.{Owes, Kept}
+use Rattle.expected.specs.Owing.{Owes}
 use Rattle.t_wanted.specs.declared.table.Line.{Line}
 use Rattle.t_wanted.specs.declared.table.Line.TheVariants as line
+use Rattle.t_wanted.specs.declared.table.TheConstants.{ROWS, OTHERS, ENDS}
+use Rattle.t_wanted.specs.contracts.table.LinePartialEq.TheImpl as same_line
 
--- the lines of the table and of the code
-abbrev pub line_of : Line → m.Line
-line_of line.Program = m.LProgram
-line_of line.Header = m.LHeader
-line_of line.Block = m.LBlock
-line_of line.MoreBlocks = m.LMoreBlocks
-line_of line.SomeItems = m.LSomeItems
-line_of line.First = m.LFirst
-line_of line.MoreItems = m.LMoreItems
-line_of line.Item = m.LItem
-line_of line.Tuple = m.LTuple
-line_of line.Datums = m.LDatums
-line_of line.MoreDatums = m.LMoreDatums
-line_of line.Binds = m.LBinds
-line_of line.Names = m.LNames
-line_of line.MoreNames = m.LMoreNames
-line_of line.File = m.LFile
-line_of line.Regs = m.LRegs
-line_of line.MoreRegs = m.LMoreRegs
-line_of line.Type = m.LT
-line_of line.Fields = m.LFields
-line_of line.MoreFields = m.LMoreFields
-line_of line.Types = m.LTypes
-line_of line.TypeList = m.LTypeList
-line_of line.SomeTypes = m.LSomeTypes
-line_of line.MoreTypes = m.LMoreTypes
-line_of line.Value = m.LV
-line_of line.Args = m.LArgs
-line_of line.Packed = m.LPacked
-line_of line.Word = m.LW
-line_of line.WordArgs = m.LWordArgs
-line_of line.WordPacked = m.LWordPacked
-line_of line.To = m.LTo
-line_of line.At = m.LAt
-line_of line.Index = m.LIndex
-line_of line.Target = m.LTarget
-line_of line.IntOnly = m.LInt
-line_of line.Instr = m.LI
-line_of line.MoreSteps = m.LMoreSteps
-line_of line.End = m.LEnd
-
+-- the lines of the grammar, as the table here has them
 abbrev pub kept_line : m.Line → Line
 kept_line m.LProgram = line.Program
 kept_line m.LHeader = line.Header
@@ -92,31 +54,24 @@ kept_line m.LI = line.Instr
 kept_line m.LMoreSteps = line.MoreSteps
 kept_line m.LEnd = line.End
 
-abbrev pub assembly_kept : Kept table Wanted Line Kind
-assembly_kept = record { class = λ c. c; line = kept_line; kind = λ t. t.kind }
+-- a kind that stands for all that are like this one: 3 for numbers, -1 for negative ones, a register for registers
+abbrev pub is_negative : Kind → Bool
+is_negative (k.Negative z) = true
+is_negative _ = false
 
--- what is owed, as it is kept
-abbrev pub kept : Stack → List (Sym Wanted Line)
-kept = owing.kept table assembly_kept
+abbrev pub is_for_all : Kind → Kind → Bool
+is_for_all (k.Plain (pos n)) kind = n == 3 && m.fits want.Number kind
+is_for_all (k.Negative z) kind = is_negative kind
+is_for_all (k.Register n) kind = m.fits want.Register kind
+is_for_all _ kind = false
 
-abbrev pub kept_row : Option Stack → Option (List (Sym Wanted Line))
-kept_row = owing.kept_row table assembly_kept
-
-abbrev pub assembly_owes : Owes Wanted Line Kind
+abbrev pub assembly_owes : Owes Wanted Line Kind Token
 assembly_owes = record {
-  fits = fits;
-  after = λ l k. kept_row (after (line_of l) k);
-  may_end = λ l. may_end (line_of l);
+  fits = λ c t. m.fits c t.kind;
+  starts = λ first t. is_for_all first t.kind || same_kind.ghosts.eq t.kind first;
+  same = same_line.ghosts.eq;
+  first = line.Program;
+  rows = map (λ r. (r.0, r.1, r.2.now)) ROWS;
+  others = map (λ r. (r.0, r.1, r.2.now)) OTHERS;
+  ends = ENDS;
 }
-
--- What the lines that go on as another line does begin with before that.
-
--- nothing between angles
-abbrev pub angle_after : Kind → Option Stack
-angle_after k.RightAngle = Some []
-angle_after _ = None
-
--- nothing between brackets
-abbrev pub bracket_after : Kind → Option Stack
-bracket_after k.RightBracket = Some []
-bracket_after _ = None

@@ -2,7 +2,7 @@
 ghost use Rattle.t_text.specs.GrammarTable.{table};
 ghost use Rattle.expected.specs.Wanted.{TakesWhatGoesOn, UnexpectedIsTold, CutShortIsTold, FewBytes};
 ghost use Rattle.t_wanted.specs.Words.{assembly_kinds};
-ghost use Rattle.t_wanted.specs.Text.{OneLine, AllAreTold};
+ghost use Rattle.t_wanted.specs.Text.{OneLine, AllAreTold, AllAreWorded};
 
 /// The kinds of tokens that are told are exactly those with which some program of the grammar goes on there.
 pub fn takes_what_goes_on()
@@ -12,6 +12,13 @@ pub fn takes_what_goes_on()
 /// Each token is told as its kind is, so no kind of tokens is left out, but for `~0` in place of a flag.
 pub fn all_are_told()
     ensures { AllAreTold }
+{}
+
+/// The words for a kind are what is cut into one token of that kind, but for names, registers and numbers of any value,
+/// which have words of their own; and no kind has a wider one but the numbers of one value, which are left out where any
+/// number may stand.
+pub fn all_are_worded()
+    ensures { AllAreWorded }
 {}
 
 /// There is a line at each first unexpected token of a text.

@@ -8,5 +8,6 @@ mod words;
 
 pub use assembly::tal_wanted;
 pub use laws::{
-    all_are_told, cut_short_is_told, few_bytes, one_line, takes_what_goes_on, unexpected_is_told,
+    all_are_told, all_are_worded, cut_short_is_told, few_bytes, one_line, takes_what_goes_on,
+    unexpected_is_told,
 };

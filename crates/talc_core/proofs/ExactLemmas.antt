@@ -461,7 +461,8 @@ module _ (laws : TextLaws) (old new : Outside) where
   absent_at (Traces input from to) status answer absent =
       line_absent (ShowsTrace from to) AnAssembly input status answer absent
   absent_at (Shows input form) status answer absent = line_absent (ShowsForm form) AProgram input status answer absent
-  absent_at (Explains input) status answer absent = line_absent (ShowsExplained input) AnyText input status answer absent
+  absent_at (Explains input) status answer absent = line_absent (ShowsExplained input) AnyText input status answer
+      absent
   absent_at (Lists input) status answer absent = list_absent input status answer absent
   absent_at (TypesNames input) status answer absent = line_absent ShowsTypes AnyTerm input status answer absent
   absent_at (Compiles input output) status answer absent =

@@ -12,13 +12,13 @@ use Rattle.f_terms.specs.Tm.{plain}
 use Rattle.f_terms.specs.Read.{place}
 use Rattle.f_terms.specs.Accepted.{IsAccepted}
 use Rattle.f_parser.specs.Text as reading
-use Rattle.f_check.specs.Mismatch.{FaultWith}
+use Rattle.f_terms.specs.Faults.{FaultWith}
 use Rattle.t_terms.specs.declared.fault.TCode.{TCode}
 use Rattle.t_terms.specs.declared.fault.TFault.{TFault}
 use Rattle.t_terms.specs.declared.fault.TFault.TheVariants as tal
 use Rattle.t_terms.specs.Spanned.{SProg}
-use Rattle.t_rules.specs.Faults.{ProgramFault}
-use Rattle.t_mismatch.specs.Mismatch.{ProgramFaultWith, Mismatch, EachFaultSays}
+use Rattle.t_rules.specs.Mismatch.{Mismatch}
+use Rattle.t_rules.specs.Faults.{ProgramFaultWith}
 use Rattle.talc_core.specs.declared.fault.Fault.{Fault}
 use Rattle.talc_core.specs.declared.fault.Fault.TheVariants.{Source, Tal}
 use Rattle.talc_core.specs.declared.refusal.Refusal.{Refusal}
@@ -60,10 +60,10 @@ taken_is_explained begins name text taken =
 
 -- and of an assembly program
 pub refused_program : (text : List ℕ) (P : SProg) (code : TCode) (span : Span) (found : Option Mismatch)
-    (told : Told) → IsAssembly text P → ProgramFault P code span → ProgramFaultWith P code span found →
-    told ≡ assembly_told found → FirstFault AnAssembly text (Tal code span) × AtOdds text (Tal code span) told
-refused_program text P code span found told read fault noted is = (
-  inr (record { program = P; read = read; fault = fault }),
+    (told : Told) → IsAssembly text P → ProgramFaultWith P code span found → told ≡ assembly_told found →
+    FirstFault AnAssembly text (Tal code span) × AtOdds text (Tal code span) told
+refused_program text P code span found told read noted is = (
+  inr (record { program = P; read = read; fault = (found, noted) }),
   inr (record { program = P; read = read; mismatch = found; fault = noted; is = is }),
 )
 
@@ -135,19 +135,19 @@ module _ (text : List ℕ) (begins : begins_with_tal text ≡ true) where
   an_assembly = ap (λ (b : Bool). if b then AnAssembly else AProgram) begins
 
   -- something is told of each fault of it
-  is_told : NoTokenFaultWhereCut → EachFaultSays → (fault : Fault) → FirstFault AnAssembly text fault →
+  is_told : NoTokenFaultWhereCut → (fault : Fault) → FirstFault AnAssembly text fault →
       (told : Told) × AtOdds text fault told
-  is_told none says (Source c s) h = absurd h
-  is_told none says (Tal c s) (inl h) =
+  is_told none (Source c s) h = absurd h
+  is_told none (Tal c s) (inl h) =
       let line = either (by_grammar (Tal c s)) (IsWanted text (Tal c s)) (has_line none text c s h) in
       (unread_told line.0, inl (h, line.1, refl))
-  is_told none says (Tal c s) (inr h) = let m = says h.program c s h.fault in (
-    assembly_told m.0,
-    inr (record { program = h.program; read = h.read; mismatch = m.0; fault = m.1; is = refl }),
+  is_told none (Tal c s) (inr h) = (
+    assembly_told h.fault.0,
+    inr (record { program = h.program; read = h.read; mismatch = h.fault.0; fault = h.fault.1; is = refl }),
   )
 
-  explained_as_checked : NoTokenFaultWhereCut → EachFaultSays → (name : List ℕ) → IsExplainedAsChecked name text
-  explained_as_checked none says name = record {
+  explained_as_checked : NoTokenFaultWhereCut → (name : List ℕ) → IsExplainedAsChecked name text
+  explained_as_checked none name = record {
     taken = (
       (λ h. record { taken = subst (λ n. IsTaken n text) (sym an_assembly) h; is = refl }),
       λ h. subst (λ n. IsTaken n text) an_assembly h.taken,
@@ -159,7 +159,7 @@ module _ (text : List ℕ) (begins : begins_with_tal text ≡ true) where
       told h = subst (λ f. FirstFault (looked_for text) text f) h.2 h.1.first
 
       refuses : (fault : Fault) → FirstFault AnAssembly text fault → IsExplainedBy name text fault
-      refuses fault h = let t = is_told none says fault h in (
+      refuses fault h = let t = is_told none fault h in (
         explained name text fault t.0,
         record {
           fault = fault;
@@ -171,8 +171,8 @@ module _ (text : List ℕ) (begins : begins_with_tal text ≡ true) where
         refl,
       )
 
-pub checked_is_explained : NoTokenFaultWhereCut → EachFaultSays → CheckedIsExplained
-checked_is_explained none says name text begins = explained_as_checked text begins none says name
+pub checked_is_explained : NoTokenFaultWhereCut → CheckedIsExplained
+checked_is_explained none name text begins = explained_as_checked text begins none name
 
 module _ (laws : TextLaws) (odds : MismatchLaws) where
   -- one thing could stand at the place of a fault
@@ -202,13 +202,11 @@ module _ (laws : TextLaws) (odds : MismatchLaws) where
       (odds.one_of_a_source y.term 0 NoTys c c (place s) (place s) x.mismatch y.mismatch fault y.fault)
       ∙ sym y.is
   one_of_source text c s a b (inr (inl x)) (inr (inr y)) =
-      let fault = odds.of_a_source_fault x.term 0 NoTys c (place s) x.mismatch x.fault in
       absurd (no_term_fault laws text c s y.term y.type y.checked
-      (inr (record { term = x.term; read = x.read; fault = fault })))
+      (inr (record { term = x.term; read = x.read; fault = (x.mismatch, x.fault) })))
   one_of_source text c s a b (inr (inr x)) (inr (inl y)) =
-      let fault = odds.of_a_source_fault y.term 0 NoTys c (place s) y.mismatch y.fault in
       absurd (no_term_fault laws text c s x.term x.type x.checked
-      (inr (record { term = y.term; read = y.read; fault = fault })))
+      (inr (record { term = y.term; read = y.read; fault = (y.mismatch, y.fault) })))
   one_of_source text c s a b (inr (inr x)) (inr (inr y)) =
       let same : x.term ≡ y.term = same_term laws text x.term y.term x.checked.0 y.checked.0 in
       let accepted = subst (λ e. IsAccepted (plain e) x.type) same x.checked.1 in

@@ -1,5 +1,6 @@
 -- What `listing` does on the files and the output, from what its work does there and what is told.
-use Rattle.std.proofs.Common.{◌≡◌, ℕ, List, Ok, Err, refl, inl, inr, sym, ap, subst, Bool, true, false, Option, Some, None}
+use Rattle.std.proofs.Common.{◌≡◌, ℕ, List, Ok, Err, refl, inl, inr, sym, ap, subst, Bool, true, false, Option, Some}
+use Rattle.std.proofs.Common.{None}
 use Rattle.std.proofs.Common.{MatchOption, if◌then◌else◌}
 use Rattle.std.specs.Prelude.{Result}
 use Rattle.io_core.specs.Outside.{FilesState, SinkState, Holds, gained}

@@ -116,7 +116,8 @@ module _ (P : TProg) (whole : Whole P) (acc : Accepted P) (m : ℕ) (x : Machine
 
   run : After P m stands.erased.erased.1.0 (Spot block index)
   run = subst (After P m stands.erased.erased.1.0)
-      (place stands.erased.erased.1.0 (Spot stands.block stands.index) stands.erased.erased.1.1) stands.erased.erased.1.1
+      (place stands.erased.erased.1.0 (Spot stands.block stands.index) stands.erased.erased.1.1)
+      stands.erased.erased.1.1
 
   pub place_there : StatesAreTyped → (c : TSeq) × (code_at P block index ≡ Some c)
   place_there law =

@@ -6,13 +6,15 @@ use Rattle.f_terms.specs.declared.fault.Code.{Code}
 use Rattle.f_terms.specs.Ty.{Ty, TInt, NoTys}
 use Rattle.f_terms.specs.Tm.{Tm}
 use Rattle.f_terms.specs.Read.{place}
-use Rattle.f_check.specs.Mismatch.{FaultWith, Mismatch as SourceMismatch}
+use Rattle.f_terms.specs.Mismatch.{Mismatch as SourceMismatch}
+use Rattle.f_terms.specs.Faults.{FaultWith}
 use Rattle.t_terms.specs.declared.fault.TCode.{TCode}
 use Rattle.t_terms.specs.Spanned.{SProg}
 use Rattle.t_text.specs.Text as assembly
-use Rattle.t_mismatch.specs.Mismatch.{ProgramFaultWith, Mismatch}
-use Rattle.mismatch_text.specs.Line.{not_int_line, assembly_line}
-use Rattle.mismatch_text.specs.Apart.{source_lines}
+use Rattle.t_rules.specs.Mismatch.{Mismatch}
+use Rattle.t_rules.specs.Faults.{ProgramFaultWith}
+use Rattle.mismatch_text.specs.Line.{not_int_line}
+use Rattle.mismatch_text.specs.Apart.{source_lines, assembly_lines}
 use Rattle.mismatch_text.specs.Form.{form_of, found_form}
 use Rattle.mismatch_text.specs.Value.{of_spn, value_place}
 use Rattle.fault_hint.specs.declared.form.Form.{Form}
@@ -49,7 +51,7 @@ whole_told e t = record { lines = not_int_line t; form = form_of t; value = opti
 
 -- of types of an assembly text that are at odds
 abbrev pub assembly_told : Option Mismatch → Told
-assembly_told m = with_no_value (assembly_line m) Untold
+assembly_told m = with_no_value (assembly_lines m) Untold
 
 -- the source text is not read: what could stand at the place is told
 abbrev pub UnreadSource : List ℕ → Code → Span → Told → Type 0

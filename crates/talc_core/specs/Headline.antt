@@ -258,7 +258,8 @@ pub record SeedOutOfMemory (seed : ℕ) (output : List ℕ) (old new : Outside) 
   pub line : ShowsOrNot old.err new.err memory_line
   pub out : new.out ≡ old.out
   pub unread : Unread old.files new.files
-  pub files : (Unwritten old.files new.files × (new.files.calls ≡ old.files.calls)) ⊎ SeedWrittenAlone seed output old new
+  pub files : (Unwritten old.files new.files × (new.files.calls ≡ old.files.calls)) ⊎ SeedWrittenAlone seed output old
+      new
 
 -- what `gen` does; other statuses never come
 abbrev pub SeedAnswer : ℕ → List ℕ → Outside → Outside → Status → Type 0

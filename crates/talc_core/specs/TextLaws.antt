@@ -3,8 +3,6 @@ use Rattle.f_parser.specs.Text as reading
 use Rattle.f_terms.specs.Laws as typing
 use Rattle.t_text.specs.Text as assembly
 use Rattle.t_rules.specs.LawsFaults as checking
-use Rattle.f_check.specs.Laws as source_at_odds
-use Rattle.t_mismatch.specs.Mismatch as assembly_at_odds
 use Rattle.f_wanted.specs.Text as source_wanted
 use Rattle.t_wanted.specs.Text as assembly_wanted
 use Rattle.t_rules.specs.LawsSound.{OneRun, HaltingIsLast, HaltedOrOneStep, RunsOn, NothingSticks}
@@ -42,9 +40,7 @@ pub record TextLaws : Type 0 where
 
 -- and on the types that are at odds in faults, and on what could stand at their places
 pub record MismatchLaws : Type 0 where
-  pub of_a_source_fault : source_at_odds.IsOfTheFault
-  pub one_of_a_source : source_at_odds.OneMismatch
-  pub of_an_assembly_fault : assembly_at_odds.MismatchIsOfTheFault
-  pub one_of_an_assembly : assembly_at_odds.AtMostOneMismatch
+  pub one_of_a_source : typing.OneMismatch
+  pub one_of_an_assembly : checking.AtMostOneMismatch
   pub one_source_line : source_wanted.OneLine
   pub one_assembly_line : assembly_wanted.OneLine

@@ -18,12 +18,12 @@ ghost use Rattle.talc_core.specs.AtOdds.{with_no_value};
 use crate::fault::Fault;
 use crate::fault::wanted::could_stand;
 use crate::refusal::Refusal;
-use f_check::{Typed, check, each_fault_says_what_is_at_odds, mismatch_of};
+use f_check::{Typed, check, mismatch_of};
 use f_parser::{closed_terms, parse};
 use f_terms::{Code, FFault, FTerm};
 use fault_hint::Form;
 use idx_core::{OutOfMemory, Span};
-use mismatch_text::{assembly_line, form_of, found_form, not_int_line, source_lines, value_place};
+use mismatch_text::{assembly_lines, form_of, found_form, not_int_line, source_lines, value_place};
 use std::alloc::Global;
 use t_check::check_salted;
 use t_reader::{read_salted, salt_of};
@@ -80,7 +80,6 @@ fn find_in_refused(alloc: Global, term: &FTerm, fault: FFault) -> Result<Finding
     requires fault { source.Says fault (typing.Fault (spanned term.now) 0 NoTys) }
     ensures { (text : List ℕ) → IsParsed text (spanned term.now) → IfOk result (IsFinding AProgram text) }
 {
-    each_fault_says_what_is_at_odds();
     match fault {
         FFault::Refused { code, span } => {
             let mismatch = mismatch_of(alloc, term)?;
@@ -133,7 +132,7 @@ fn find_in_program(alloc: Global, program: &TProgram, fault: TFault) -> Result<F
     match fault {
         TFault::Refused { code, span } => {
             let mismatch = t_check::mismatch_of(alloc, program)?;
-            let lines = assembly_line(alloc, &mismatch)?;
+            let lines = assembly_lines(alloc, &mismatch)?;
             Ok(Finding::Fault(Fault::Tal(code, span), only(lines, Form::Untold)))
         }
         TFault::Memory => Err(OutOfMemory),

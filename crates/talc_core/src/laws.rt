@@ -67,10 +67,8 @@ pub(crate) fn texts_keep_laws()
 fn mismatches_keep_laws()
     ensures { MismatchLaws }
 {
-    f_check::mismatches_are_of_the_fault();
-    f_check::faults_have_one_mismatch();
-    t_mismatch::mismatch_is_of_the_fault();
-    t_mismatch::at_most_one_mismatch();
+    f_terms::one_mismatch();
+    t_rules::at_most_one_mismatch();
     f_wanted::one_line();
     t_wanted::one_line();
 }
@@ -322,7 +320,6 @@ pub fn taken_is_explained()
 pub fn checked_is_explained()
     ensures { CheckedIsExplained }
 {
-    t_mismatch::each_fault_says();
     t_lexer::no_token_fault_where_cut();
 }
 

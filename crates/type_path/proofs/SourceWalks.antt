@@ -96,10 +96,20 @@ fields : (ts us : Tys) (k : ℕ) (s : Step) (p : Path) → differences k ts us �
 fields NoTys NoTys k s p e = cc
 fields NoTys (MoreTys u us) k s p e =
     let e1 : Field k ≡ s = cc in let e2 : [] ≡ p = cc in
-    record { i = 0; step = to_field s k (k + 0) (sym e1) (omega arith); before = none_before NoTys (MoreTys u us); there = sym e2 }
+    record {
+      i = 0;
+      step = to_field s k (k + 0) (sym e1) (omega arith);
+      before = none_before NoTys (MoreTys u us);
+      there = sym e2;
+    }
 fields (MoreTys t ts) NoTys k s p e =
     let e1 : Field k ≡ s = cc in let e2 : [] ≡ p = cc in
-    record { i = 0; step = to_field s k (k + 0) (sym e1) (omega arith); before = none_before (MoreTys t ts) NoTys; there = sym e2 }
+    record {
+      i = 0;
+      step = to_field s k (k + 0) (sym e1) (omega arith);
+      before = none_before (MoreTys t ts) NoTys;
+      there = sym e2;
+    }
 fields (MoreTys t ts) (MoreTys u us) k s p e =
     elim (or_some (inside (Field k) (difference t u)) (differences (k + 1) ts us) (s ∷ p) e)
     as (λ x. Fields (MoreTys t ts) (MoreTys u us) k s p) [

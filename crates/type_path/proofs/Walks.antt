@@ -4,7 +4,7 @@ use Rattle.std.proofs.Common.{false, if◌then◌else◌, refl, sym, ap, ◌∙�
 use Rattle.std.proofs.lemmas.Bool.{cases_order}
 use Rattle.type_path.specs.Paths.{Path, place, Before, and_then, follow, Head, IsFirst, or_else, inside}
 use Rattle.type_path.specs.declared.step.Step.{Step}
-use Rattle.type_path.specs.declared.step.Step.TheVariants.{Argument, Result, Body, Cell, Field}
+use Rattle.type_path.specs.declared.step.Step.TheVariants.{Argument, Result, Body, Cell, Field, Flag, Register}
 
 -- ---- the order of paths
 
@@ -15,10 +15,15 @@ same_step Result Result h = refl
 same_step Body Body h = refl
 same_step Cell Cell h = refl
 same_step (Field i) (Field j) h = let e : i ≡ j = omega (arith, h) in ap Field e
+same_step (Flag i) (Flag j) h = let e : i ≡ j = omega (arith, h) in ap Flag e
+same_step (Register i) (Register j) h = let e : i ≡ j = omega (arith, h) in ap Register e
 same_step r s h = let no : ⊥ = omega (arith, h) in absurd no
 
 pub to_field : (s : Step) (n m : ℕ) → s ≡ Field n → n ≡ m → s ≡ Field m
 to_field s n m h e = h ∙ ap Field e
+
+pub to_flag : (s : Step) (n m : ℕ) → s ≡ Flag n → n ≡ m → s ≡ Flag m
+to_flag s n m h e = h ∙ ap Flag e
 
 -- of two paths one comes first
 order_at : (r s : Step) (p q : Path) → (p ≡ q) ⊎ (Before p q ⊎ Before q p) →

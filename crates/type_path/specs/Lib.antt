@@ -1,3 +1,5 @@
 pub mod Paths
 pub mod Source
+pub mod Assembly
+pub mod ReadPart
 pub mod Laws

@@ -1,9 +1,9 @@
 -- Paths into types, and where two types first differ. Which difference is the first is our own choice: the one that is
 -- written furthest to the left.
-use Rattle.std.specs.Prelude.{◌≡◌, ◌≢◌, ◌⊎◌, ℕ, ◌+◌, ◌<◌, List, [], ◌∷◌, Option, Some, None, option_map, Vec}
+use Rattle.std.specs.Prelude.{◌≡◌, ◌≢◌, ◌⊎◌, ℕ, ◌+◌, ◌*◌, ◌<◌, Bool, List, [], ◌∷◌, Option, Some, None, option_map, Vec}
 use Rattle.std.specs.Global.{Global}
 use Rattle.type_path.specs.declared.step.Step.{Step}
-use Rattle.type_path.specs.declared.step.Step.TheVariants.{Argument, Result, Body, Cell, Field}
+use Rattle.type_path.specs.declared.step.Step.TheVariants.{Argument, Result, Body, Cell, Field, Flag, Register}
 
 -- ---- paths
 
@@ -11,13 +11,15 @@ use Rattle.type_path.specs.declared.step.Step.TheVariants.{Argument, Result, Bod
 abbrev pub Path : Type 0
 Path = List Step
 
--- where a step stands among the steps into one type, from left to right
+-- where a step stands among the steps into one type, from left to right: the flag of a field stands behind its type
 abbrev pub place : Step → ℕ
 place Argument = 0
 place Result = 1
 place Body = 2
 place Cell = 3
-place (Field i) = i + 4
+place (Field i) = 3 * i + 4
+place (Flag i) = 3 * i + 5
+place (Register r) = 3 * r + 6
 
 -- A path leads to what begins before that to which another one leads: to a whole of which that is a part; or, where
 -- they part, to what stands further left.
@@ -38,7 +40,7 @@ follow into (s ∷ p) a = and_then (into s a) (follow into p)
 
 -- ---- heads
 
--- what a type is, apart from its parts
+-- what a type is, apart from its parts; and a flag of a field
 pub data Head : Type 0 where
   Integer : Head
   Variable : (i : ℕ) → Head
@@ -47,6 +49,8 @@ pub data Head : Type 0 where
   Tuple : Head
   Package : Head
   Reference : Head
+  Code : (owes : ℕ) → Head
+  Initialised : (flag : Bool) → Head
 
 -- Two wholes, each by the heads of its parts, first differ at this path: there they have other heads, or one of them
 -- has no part there; and at each path before it both have the same head, or neither has a part.

@@ -16,8 +16,12 @@ pub enum Step {
     Body,
     /// Of a reference type, what its cells hold.
     Cell,
-    /// A field of a tuple, by its number, from 1 on.
+    /// The type of a field of a tuple, by its number: the first is 1 in the source, and 0 in assembly.
     Field(u64),
+    /// Whether this field of an assembly tuple is initialised.
+    Flag(u64),
+    /// Of a code type, the type that it wants of a register.
+    Register(u64),
 }
 
 // The way from the whole to a part, where one from a part on is found.

@@ -2,13 +2,14 @@
 use super::few_names::has_few_names;
 use super::programs::{accepted, first_run, value_of};
 use std::alloc::Global;
+use std::cmp::max;
 use std::process::Abort;
 use std::test::Fail;
 use t_check::Checked;
-use t_lexer::tokens;
+use t_lexer::{Tokens, tokens};
 use t_reader::read;
 use t_spill::spill;
-use t_text::Kind;
+use t_text::{Kind, Token};
 use t_writer::write2;
 
 const REGISTERS: &str = "\
@@ -119,21 +120,32 @@ add r1, r14, r15
 halt[int]
 ";
 
+// The number of the register that stands at a place among the tokens, or 0.
+fn register_at(tokens: &Tokens, at: usize) -> u64 {
+    match tokens.get(at) {
+        Some(
+            Token {
+                kind: Kind::Register(r),
+                ..
+            },
+        ) => r,
+        _ => 0,
+    }
+}
+
+fn greatest_register(tokens: &Tokens) -> u64 {
+    let mut top: u64 = 0;
+    for at in 0..tokens.len() {
+        top = max(top, register_at(tokens, at));
+    }
+    top
+}
+
 // The greatest register that the program's text names.
 fn top_register(alloc: Global, program: &Checked) -> Result<u64, Fail> {
     let text = write2(alloc, program.program())?;
-    let mut top: u64 = 0;
     let tokens = tokens(alloc, &text)?;
-    for i in 0..tokens.len() {
-        if let Some(token) = tokens.get(i) {
-            if let Kind::Register(r) = token.kind {
-                if r > top {
-                    top = r;
-                }
-            }
-        }
-    }
-    Ok(top)
+    Ok(greatest_register(&tokens))
 }
 
 // The program within eight registers.
@@ -146,23 +158,26 @@ fn within_eight(alloc: Global, program: &Checked) -> Result<Checked, Fail> {
     Ok(accepted(alloc, spilled)?)
 }
 
+// The program halts with this value.
+fn halts(rt: &impl Abort, alloc: Global, program: &Checked, value: i64) -> Result<(), Fail> {
+    let ran = first_run(alloc, program, 1000)?;
+    assert_eq!(rt; value_of(ran), Some(value));
+    Ok(())
+}
+
+// Within eight registers the program is accepted and halts with this value.
+fn halts_within(rt: &impl Abort, alloc: Global, program: &Checked, value: i64) -> Result<(), Fail> {
+    let spilled = within_eight(alloc, program)?;
+    assert!(rt; top_register(alloc, &spilled)? <= 8);
+    halts(rt, alloc, &spilled, value)
+}
+
 // The text has more than eight registers, and within eight it is accepted and halts with the same value.
 fn is_kept(rt: &impl Abort, alloc: Global, text: &str, value: i64) -> Result<(), Fail> {
     let program = accepted(alloc, read(alloc, text.as_bytes())?)?;
-    assert!(rt; top_register(alloc, &program)? > 8, "{text}");
-    assert_eq!(rt;
-        value_of(first_run(alloc, &program, 1000)?),
-        Some(value),
-        "{text}"
-    );
-    let spilled = within_eight(alloc, &program)?;
-    assert!(rt; top_register(alloc, &spilled)? <= 8, "{text}");
-    assert_eq!(rt;
-        value_of(first_run(alloc, &spilled, 1000)?),
-        Some(value),
-        "{text}"
-    );
-    Ok(())
+    assert!(rt; top_register(alloc, &program)? > 8);
+    halts(rt, alloc, &program, value)?;
+    halts_within(rt, alloc, &program, value)
 }
 
 #[test]

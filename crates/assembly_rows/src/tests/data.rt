@@ -5,7 +5,7 @@ use std::alloc::{AllocError, Global};
 use std::test::Fail;
 use t_machine::Ran;
 use t_reader::read;
-use t_terms::{Base, Value};
+use t_terms::{Base, TProgram, Value};
 
 const THROUGH: &str = "tal 2\nD0: data <5 : int, D1 : <int^1>>\nD1: data <6 : int>\n\
     L0: code[]{}. mov r2, D0 ld r3, r2[1] ld r1, r3[0] halt[int]";
@@ -20,8 +20,7 @@ fn data_stand_in_the_heap_from_the_start(rt: HostRuntime) -> Result<(), Fail> {
 }
 
 // the number of the data tuple that the first field of the tuple at a place names
-fn named_at(text: &[u8], place: usize, rt: &HostRuntime) -> Option<u64> {
-    let program = read(rt.alloc(), text).ok()?;
+fn named_in(program: &TProgram, place: usize) -> Option<u64> {
     let tuple = program.heap.get(place)?;
     match &tuple.fields.get(0)?.0 {
         Value::Plain {
@@ -30,6 +29,11 @@ fn named_at(text: &[u8], place: usize, rt: &HostRuntime) -> Option<u64> {
         } => Some(*number),
         _ => None,
     }
+}
+
+fn named_at(text: &[u8], place: usize, rt: &HostRuntime) -> Option<u64> {
+    let program = read(rt.alloc(), text).ok()?;
+    named_in(&program, place)
 }
 
 // so many data tuples, the first of which names the last, the second the last but one, and so on

@@ -1,5 +1,5 @@
 // What no clause says: that calls succeed, and that wide types are numbered and walked.
-ghost use Rattle.std.specs.Prelude.{ℕ, IfOk};
+ghost use Rattle.std.specs.Prelude.{◌<◌, length, ℕ, IfOk};
 ghost use Rattle.t_types.specs.Read.{tree};
 ghost use Rattle.t_types.specs.Tree.{Ty, PutFits, ShiftFits};
 
@@ -47,41 +47,55 @@ fn wide_types(rt: HostRuntime) -> Result<(), OutOfMemory> {
 
 // <t^flag>
 fn one_field(alloc: Global, t: TType, flag: bool) -> Result<TType, OutOfMemory> {
-    let mut fields = Vec::new(alloc);
-    fields.push((t, flag))?;
+    let fields = vec![in alloc; (t, flag)]?;
     Ok(TType::Tuple(fields))
 }
 
 // <int^1, <int^0>^1>
 fn nested(alloc: Global) -> Result<TType, OutOfMemory> {
-    let mut fields = Vec::new(alloc);
-    fields.push((TType::Int, true))?;
-    fields.push((one_field(alloc, TType::Int, false)?, true))?;
+    let inside = one_field(alloc, TType::Int, false)?;
+    let fields = vec![in alloc; (TType::Int, true), (inside, true)]?;
     Ok(TType::Tuple(fields))
 }
 
 // all[a]{r1:a}
 fn code(alloc: Global) -> Result<TType, OutOfMemory> {
-    let mut regs = Vec::new(alloc);
-    regs.push((1, TType::Var(0)))?;
+    let regs = vec![in alloc; (1, TType::Var(0))]?;
     Ok(TType::Code {
         owes: 1,
         regs: RegFile { regs },
     })
 }
 
+fn parts_go_first(alloc: Global, types: &mut Types) -> Result<bool, OutOfMemory> {
+    let whole = types.number(&nested(alloc)?)?;
+    Ok(whole == 2 && types.count() == 3)
+}
+
+fn is_there_once(alloc: Global, types: &mut Types) -> Result<bool, OutOfMemory> {
+    let first = types.number(&code(alloc)?)?;
+    let second = types.number(&code(alloc)?)?;
+    Ok(first == second)
+}
+
+// Whether the type of the number is <int^0>.
+fn is_field(alloc: Global, types: &Types, n: u64) -> Result<bool, OutOfMemory>
+    requires { n < length types.now }
+{
+    let part = types.tree(n)?;
+    let wanted = one_field(alloc, TType::Int, false)?;
+    Ok(eq(&part, &wanted))
+}
+
 // Parts go before wholes, and each type is there once.
 #[test]
 fn small_types(rt: HostRuntime) -> Result<(), OutOfMemory> {
-    let alloc = rt.alloc();
-    let mut types = Types::new(alloc);
-    let whole = types.number(&nested(alloc)?)?;
-    assert!(rt; whole == 2 && types.count() == 3);
-    assert!(rt; types.number(&code(alloc)?)? == types.number(&code(alloc)?)?);
+    let mut types = Types::new(rt.alloc());
+    assert!(rt; parts_go_first(rt.alloc(), &mut types)?);
+    assert!(rt; is_there_once(rt.alloc(), &mut types)?);
     let int = types.number(&TType::Int)?;
     assert!(rt; int == 0 && types.count() == 5);
-    let part = types.tree(1)?;
-    assert!(rt; eq(&part, &one_field(alloc, TType::Int, false)?));
+    assert!(rt; is_field(rt.alloc(), &types, 1)?);
     assert!(rt; types.shift(int, 5, 0)? == 0);
     assert!(rt; types.put(0, 0, 1)? == 0);
     Ok(())
@@ -90,13 +104,11 @@ fn small_types(rt: HostRuntime) -> Result<(), OutOfMemory> {
 // What is put for no variable changes nothing.
 #[test]
 fn put_into_an_integer(rt: HostRuntime) -> Result<(), OutOfMemory> {
-    let alloc = rt.alloc();
-    let mut types = Types::new(alloc);
-    let part = types.number(&one_field(alloc, TType::Int, false)?)?;
+    let mut types = Types::new(rt.alloc());
+    let part = types.number(&one_field(rt.alloc(), TType::Int, false)?)?;
     let int = types.number(&TType::Int)?;
     assert!(rt; part == 1 && int == 0);
     assert!(rt; types.put(int, 0, part)? == 0);
-    let back = types.tree(part)?;
-    assert!(rt; eq(&back, &one_field(alloc, TType::Int, false)?));
+    assert!(rt; is_field(rt.alloc(), &types, part)?);
     Ok(())
 }

@@ -2,12 +2,11 @@
 use std::alloc::{AllocError, Global};
 use std::test::Fail;
 use t_reader::read;
-use t_terms::{Base, End, Instr, Value};
+use t_terms::{Base, End, Instr, TProgram, Value};
 use t_types::TType;
 
 // the number of the label that the first block jumps to
-fn jump_of(text: &[u8], rt: &HostRuntime) -> Option<u64> {
-    let program = read(rt.alloc(), text).ok()?;
+fn jump_in(program: &TProgram) -> Option<u64> {
     let first = program.blocks.get(0)?;
     match &first.end {
         End::Jmp(
@@ -18,6 +17,11 @@ fn jump_of(text: &[u8], rt: &HostRuntime) -> Option<u64> {
         ) => Some(*label),
         _ => None,
     }
+}
+
+fn jump_of(text: &[u8], rt: &HostRuntime) -> Option<u64> {
+    let program = read(rt.alloc(), text).ok()?;
+    jump_in(&program)
 }
 
 // `BEFORE00000AFTER,BEFORE00001AFTER` and so on, as many, or from the last number down
@@ -82,8 +86,7 @@ fn many_registers(alloc: Global, count: u64) -> Result<Vec<u8>, AllocError> {
 }
 
 // the number of the name that the first instruction wants memory for at a place
-fn name_at(text: &[u8], at: usize, rt: &HostRuntime) -> Option<u64> {
-    let program = read(rt.alloc(), text).ok()?;
+fn name_in(program: &TProgram, at: usize) -> Option<u64> {
     let step = program.blocks.get(0)?.body.get(0)?;
     match &step.0 {
         Instr::Malloc { types, .. } => match types.get(at)? {
@@ -94,12 +97,21 @@ fn name_at(text: &[u8], at: usize, rt: &HostRuntime) -> Option<u64> {
     }
 }
 
-// the number of the register at a place of the first block's file
-fn register_at(text: &[u8], at: usize, rt: &HostRuntime) -> Option<u64> {
+fn name_at(text: &[u8], at: usize, rt: &HostRuntime) -> Option<u64> {
     let program = read(rt.alloc(), text).ok()?;
+    name_in(&program, at)
+}
+
+// the number of the register at a place of the first block's file
+fn register_in(program: &TProgram, at: usize) -> Option<u64> {
     let first = program.blocks.get(0)?;
     let register = first.regs.regs.get(at)?;
     Some(register.0)
+}
+
+fn register_at(text: &[u8], at: usize, rt: &HostRuntime) -> Option<u64> {
+    let program = read(rt.alloc(), text).ok()?;
+    register_in(&program, at)
 }
 
 // Large texts: a walk over all names, labels or registers at each use would take time by their number squared.

@@ -5,21 +5,52 @@ use std::test::Fail;
 use t_machine::{Machine, Ran};
 use t_terms::Shown;
 
+// A run of so many instructions ends so.
+fn runs(rt: &impl Abort, machine: &mut Machine, fuel: u64, wanted: Ran) {
+    assert_eq!(rt; machine.run(fuel), wanted);
+}
+
 #[test]
 fn a_run_goes_on_where_it_stopped(rt: HostRuntime) -> Result<(), Fail> {
     let text =
         "tal 1\nL0: code[]{}. malloc r1[int] mov r2, r1 mov r3, 5 st r1[0], r3 ld r1, r1[0] halt[int]";
     let mut machine = loaded(rt.alloc(), text)?;
-    assert_eq!(rt; machine.run(4), Ran::Spent);
-    assert_eq!(rt; machine.run(7), Ran::Halted { value: 5, made: 1 });
-    assert_eq!(rt; machine.run(0), Ran::Halted { value: 5, made: 0 });
+    runs(&rt, &mut machine, 4, Ran::Spent);
+    runs(&rt, &mut machine, 7, Ran::Halted { value: 5, made: 1 });
+    runs(&rt, &mut machine, 0, Ran::Halted { value: 5, made: 0 });
     Ok(())
 }
 
-fn has_words(rt: &impl Abort, machine: &Machine, rows: &[(u64, Option<Shown>)]) {
-    for (r, word) in rows {
-        assert_eq!(rt; machine.reg(*r), *word, "{r}");
-    }
+fn stands_at(rt: &impl Abort, machine: &Machine, block: u64, index: u64) {
+    let place = machine.place();
+    assert!(rt; place.0 == block && place.1 == index, "{block}.{index}");
+}
+
+fn has_word(rt: &impl Abort, machine: &Machine, r: u64, word: Option<Shown>) {
+    assert!(rt; machine.reg(r) == word, "{r}");
+}
+
+fn is_at_the_start(rt: &impl Abort, machine: &Machine) {
+    stands_at(rt, machine, 0, 0);
+    has_word(rt, machine, 0, None);
+    has_word(rt, machine, 2, None);
+    has_word(rt, machine, 3, None);
+}
+
+fn is_after_three_moves(rt: &impl Abort, machine: &Machine) {
+    stands_at(rt, machine, 0, 3);
+    has_word(rt, machine, 1, None);
+    has_word(rt, machine, 2, Some(Shown::Int(-5)));
+    has_word(rt, machine, 3, Some(Shown::Tuple(0)));
+    has_word(rt, machine, 4, None);
+    has_word(rt, machine, 7, Some(Shown::Label(1)));
+    has_word(rt, machine, 18446744073709551615, None);
+}
+
+fn has_halted(rt: &impl Abort, machine: &Machine) {
+    stands_at(rt, machine, 1, 1);
+    has_word(rt, machine, 1, Some(Shown::Int(1)));
+    has_word(rt, machine, 2, Some(Shown::Int(-5)));
 }
 
 // A register has no word where the program names none of its number, and before one is put into it.
@@ -28,28 +59,13 @@ fn a_machine_shows_its_place_and_its_words(rt: HostRuntime) -> Result<(), Fail> 
     let text = "tal 1\nL0: code[]{}. mov r2, ~5 malloc r3[int] mov r7, L1 jmp L1\n\
         L1: code[]{}. mov r1, 1 halt[int]";
     let mut machine = loaded(rt.alloc(), text)?;
-    assert_eq!(rt; machine.place(), (0, 0));
-    has_words(&rt, &machine, &[(0, None), (2, None), (3, None)]);
-    assert_eq!(rt; machine.run(3), Ran::Spent);
-    assert_eq!(rt; machine.place(), (0, 3));
-    let rows = &[
-        (1, None),
-        (2, Some(Shown::Int(-5))),
-        (3, Some(Shown::Tuple(0))),
-        (4, None),
-        (7, Some(Shown::Label(1))),
-        (18446744073709551615, None),
-    ];
-    has_words(&rt, &machine, rows);
-    assert_eq!(rt; machine.run(1), Ran::Spent);
-    assert_eq!(rt; machine.place(), (1, 0));
-    assert_eq!(rt; machine.run(9), Ran::Halted { value: 1, made: 1 });
-    assert_eq!(rt; machine.place(), (1, 1));
-    has_words(
-        &rt,
-        &machine,
-        &[(1, Some(Shown::Int(1))), (2, Some(Shown::Int(-5)))],
-    );
+    is_at_the_start(&rt, &machine);
+    runs(&rt, &mut machine, 3, Ran::Spent);
+    is_after_three_moves(&rt, &machine);
+    runs(&rt, &mut machine, 1, Ran::Spent);
+    stands_at(&rt, &machine, 1, 0);
+    runs(&rt, &mut machine, 9, Ran::Halted { value: 1, made: 1 });
+    has_halted(&rt, &machine);
     Ok(())
 }
 

@@ -12,8 +12,8 @@ pub struct Outside {
     pub err: MemSink,
 }
 
-// The words of a command line.
-fn words(alloc: Global, line: &str) -> Result<Vec<String>, AllocError> {
+/// The words of a command line.
+pub fn words(alloc: Global, line: &str) -> Result<Vec<String>, AllocError> {
     let mut words = Vec::new(alloc);
     for word in line.split_whitespace() {
         words.push(String::from_str(alloc, word)?)?;
@@ -68,7 +68,7 @@ pub fn is_status(rt: &impl Abort, line: &str, status: Status, wanted: Status) {
 
 /// The sink has taken this and no more.
 pub fn has_taken(rt: &impl Abort, line: &str, sink: &MemSink, wanted: &[u8]) {
-    assert_eq!(rt; sink.taken().as_slice(), wanted, "{line}");
+    assert!(rt; sink.taken().as_slice() == wanted, "{line}");
 }
 
 fn has_content(files: &MemFiles, name: &str, content: &[u8]) -> bool {

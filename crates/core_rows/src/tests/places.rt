@@ -55,19 +55,24 @@ fn is_code(reg: Option<&(u64, TType)>) -> bool {
     matches!(reg, Some((2, TType::Code { owes: 0, .. })))
 }
 
+// What is known of the text's program after three steps, if it is accepted and goes on.
+fn known(alloc: Global) -> Result<Option<(u64, RegFile)>, Fail> {
+    let program = read(alloc, POLYMORPHIC)?;
+    match accepted(alloc, program) {
+        Some(program) => Ok(known_after(alloc, &program, 3)?),
+        None => Ok(None),
+    }
+}
+
+fn is_known(names: u64, file: &RegFile) -> bool {
+    names == 1 && file.regs.len() == 2 && is_variable(file.regs.get(0)) && is_code(file.regs.get(1))
+}
+
 #[test]
 fn what_is_known_in_a_block_with_a_type_name(rt: HostRuntime) -> Result<(), Fail> {
-    let Ok(program) = read(rt.alloc(), POLYMORPHIC) else {
-        return Err(Fail::new("the text is not read"));
+    let Some((names, file)) = known(rt.alloc())? else {
+        return Err(Fail::new("the program is refused, or has halted"));
     };
-    let Some(program) = accepted(rt.alloc(), program) else {
-        return Err(Fail::new("the program is refused"));
-    };
-    let Some((names, file)) = known_after(rt.alloc(), &program, 3)? else {
-        return Err(Fail::new("the program has halted"));
-    };
-    assert_eq!(rt; names, 1);
-    assert_eq!(rt; file.regs.len(), 2);
-    assert!(rt; is_variable(file.regs.get(0)) && is_code(file.regs.get(1)));
+    assert!(rt; is_known(names, &file));
     Ok(())
 }

@@ -80,27 +80,36 @@ fn assembly_texts_are_shown(rt: HostRuntime) -> Result<(), Fail> {
     is_shown(&rt, traced, Ending::Ends, b"1 b0.1 {r1=7:int}\nint 7\n")
 }
 
+fn no_text(rt: &impl Abort, made: Result<Vec<u8>, Refusal>, wanted: Refusal) {
+    assert!(rt; made.err() == Some(wanted));
+}
+
+fn no_reply(rt: &impl Abort, shown: Result<Reply, Refusal>, wanted: Refusal) {
+    assert!(rt; shown.err() == Some(wanted));
+}
+
 #[test]
-fn texts_are_refused(rt: HostRuntime) -> Result<(), Fail> {
+fn source_texts_are_refused(rt: HostRuntime) {
     let alloc = rt.alloc();
     let unfinished = source_fault(Code::E04, 3, 3);
-    assert!(rt; compile_text(alloc, b"1 +").err() == Some(unfinished));
-    assert!(rt; type_of_text(alloc, b"1 +").err() == Some(unfinished));
+    no_text(&rt, compile_text(alloc, b"1 +"), unfinished);
+    no_reply(&rt, type_of_text(alloc, b"1 +"), unfinished);
     let cells = source_fault(Code::E19, 0, 8);
-    assert!(rt; eval_text(alloc, b"!(ref 4)", 9).err() == Some(cells));
+    no_reply(&rt, eval_text(alloc, b"!(ref 4)", 9), cells);
+}
+
+#[test]
+fn assembly_texts_are_refused(rt: HostRuntime) {
     let taking = assembly_fault(TCode::T20, 6, 8);
     let text = b"tal 1\nL0: code[]{r1:int}. halt[int]";
-    assert!(rt; check_text(alloc, text).err() == Some(taking));
-    assert!(rt; upgrade_text(alloc, text).err() == Some(taking));
-    Ok(())
+    no_reply(&rt, check_text(rt.alloc(), text), taking);
+    no_text(&rt, upgrade_text(rt.alloc(), text), taking);
 }
 
 #[test]
 fn texts_are_explained_without_files(rt: HostRuntime) -> Result<(), Fail> {
-    let reply = explain_text(rt.alloc(), b"x.f", SEVEN)?;
-    assert!(rt; reply.ending == Ending::Ends);
-    assert!(rt; reply.line.as_slice() == b"no fault\n".as_slice());
-    Ok(())
+    let shown = explain_text(rt.alloc(), b"x.f", SEVEN);
+    is_shown(&rt, shown, Ending::Ends, b"no fault\n")
 }
 
 fn has_line(rt: &impl Abort, alloc: Global, fault: Fault, wanted: &str) -> Result<(), Fail> {

@@ -1,5 +1,6 @@
 // No words at all, and the source of a seed by its call on bytes.
 use super::memory::{Outside, has_files, has_taken, is_status, outside_of, run};
+use std::alloc::Global;
 use std::process::Abort;
 use std::test::Fail;
 use talc_core::{Status, source_of};
@@ -23,18 +24,21 @@ fn no_words_are_no_command(rt: HostRuntime) -> Result<(), Fail> {
     Ok(())
 }
 
-#[test]
-fn the_source_of_a_seed_is_written_and_shown(rt: HostRuntime) -> Result<(), Fail> {
-    let alloc = rt.alloc();
-    let text = source_of(alloc, 0)?;
-    assert_eq!(rt; text.len(), 1981);
+fn is_written_and_shown(rt: &impl Abort, alloc: Global, text: &[u8]) -> Result<(), Fail> {
     let line = "talc gen --seed 0 g.f";
     let mut outside = outside_of(alloc, "x", b"", &[])?;
     let status = run(alloc, line, &mut outside)?;
-    is_status(&rt, line, status, Status::Done);
-    has_taken(&rt, line, &outside.out, LINES);
-    has_taken(&rt, line, &outside.err, b"");
-    has_files(&rt, line, &outside.files, &[("x", b""), ("g.f", &text)]);
+    is_status(rt, line, status, Status::Done);
+    has_taken(rt, line, &outside.out, LINES);
+    has_taken(rt, line, &outside.err, b"");
+    has_files(rt, line, &outside.files, &[("x", b""), ("g.f", text)]);
     assert!(rt; outside.files.faults() == (0, 0));
     Ok(())
+}
+
+#[test]
+fn the_source_of_a_seed_is_written_and_shown(rt: HostRuntime) -> Result<(), Fail> {
+    let text = source_of(rt.alloc(), 0)?;
+    assert_eq!(rt; text.len(), 1981);
+    is_written_and_shown(&rt, rt.alloc(), &text)
 }

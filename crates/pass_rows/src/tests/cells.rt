@@ -10,13 +10,16 @@ use super::shown::is_form;
 use a_pass::allocate;
 use a_writer::write_allocated;
 use c_pass::close;
+use c_terms::CProgram;
 use c_writer::write_closed;
 use h_pass::hoist;
+use h_terms::HProgram;
 use h_writer::write_hoisted;
 use idx_core::OutOfMemory;
 use k_terms::{KNode, KProgram, KType};
 use k_writer::write_cps;
 use std::alloc::Global;
+use std::process::Abort;
 use std::test::Fail;
 
 const GIVEN: &str = "\
@@ -401,6 +404,19 @@ fn program(alloc: Global) -> Result<KProgram, OutOfMemory> {
     Ok(KProgram::new(nodes))
 }
 
+// What the hoisted program is allocated to.
+fn is_allocated(rt: &impl Abort, alloc: Global, hoisted: &HProgram) -> Result<(), Fail> {
+    let allocated = allocate(alloc, hoisted)?;
+    is_form(rt, &write_allocated(alloc, &allocated)?, ALLOCATED)
+}
+
+// What the closed program is hoisted to, and then allocated to.
+fn is_hoisted(rt: &impl Abort, alloc: Global, closed: CProgram) -> Result<(), Fail> {
+    let hoisted = hoist(alloc, closed)?;
+    is_form(rt, &write_hoisted(alloc, &hoisted)?, HOISTED)?;
+    is_allocated(rt, alloc, &hoisted)
+}
+
 #[test]
 fn cells_and_packages_pass(rt: HostRuntime) -> Result<(), Fail> {
     let alloc = rt.alloc();
@@ -408,8 +424,5 @@ fn cells_and_packages_pass(rt: HostRuntime) -> Result<(), Fail> {
     is_form(&rt, &write_cps(alloc, &given)?, GIVEN)?;
     let closed = close(alloc, &given)?;
     is_form(&rt, &write_closed(alloc, &closed)?, CLOSED)?;
-    let hoisted = hoist(alloc, closed)?;
-    is_form(&rt, &write_hoisted(alloc, &hoisted)?, HOISTED)?;
-    let allocated = allocate(alloc, &hoisted)?;
-    is_form(&rt, &write_allocated(alloc, &allocated)?, ALLOCATED)
+    is_hoisted(&rt, alloc, closed)
 }

@@ -12,9 +12,11 @@ use a_pass::allocate;
 use a_writer::write_allocated;
 use c_terms::{CNode, CProgram, CType};
 use h_pass::hoist;
+use h_terms::HProgram;
 use h_writer::write_hoisted;
 use idx_core::{Op, OutOfMemory};
 use std::alloc::Global;
+use std::process::Abort;
 use std::test::Fail;
 
 const HOISTED: &str = "\
@@ -219,11 +221,16 @@ fn program(alloc: Global) -> Result<CProgram, OutOfMemory> {
     Ok(CProgram::new(nodes))
 }
 
+// What the hoisted program is allocated to.
+fn is_allocated(rt: &impl Abort, alloc: Global, hoisted: &HProgram) -> Result<(), Fail> {
+    let allocated = allocate(alloc, hoisted)?;
+    is_form(rt, &write_allocated(alloc, &allocated)?, ALLOCATED)
+}
+
 #[test]
 fn a_program_is_hoisted_and_allocated(rt: HostRuntime) -> Result<(), Fail> {
     let alloc = rt.alloc();
     let hoisted = hoist(alloc, program(alloc)?)?;
     is_form(&rt, &write_hoisted(alloc, &hoisted)?, HOISTED)?;
-    let allocated = allocate(alloc, &hoisted)?;
-    is_form(&rt, &write_allocated(alloc, &allocated)?, ALLOCATED)
+    is_allocated(&rt, alloc, &hoisted)
 }

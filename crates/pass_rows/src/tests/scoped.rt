@@ -2,8 +2,9 @@
 // shift by 2 from the cut 1 sets two names between the first and the others, and a put takes the first name away.
 use a_terms::AType;
 use c_terms::CType;
-use idx_core::Scoped;
+use idx_core::{OutOfMemory, Scoped};
 use k_terms::KType;
+use std::alloc::Global;
 use std::test::Fail;
 
 fn inside_k(t: &KType) -> Option<u64> {
@@ -32,41 +33,107 @@ fn inside_a(t: &AType) -> Option<u64> {
     }
 }
 
+fn shifted_outer_k(alloc: Global) -> Result<Option<u64>, OutOfMemory> {
+    let t = KType::Exists(Box::new(alloc, KType::Var(2))?);
+    let shifted = t.shift(alloc, 2, 1)?;
+    Ok(inside_k(&shifted))
+}
+
+fn put_outer_k(alloc: Global) -> Result<Option<u64>, OutOfMemory> {
+    let t = KType::Exists(Box::new(alloc, KType::Var(2))?);
+    let made = t.put(alloc, 0, &KType::Int)?;
+    Ok(inside_k(&made))
+}
+
+fn shifted_inner_k(alloc: Global) -> Result<Option<u64>, OutOfMemory> {
+    let t = KType::Exists(Box::new(alloc, KType::Var(1))?);
+    let shifted = t.shift(alloc, 2, 1)?;
+    Ok(inside_k(&shifted))
+}
+
+fn put_inner_k(alloc: Global) -> Result<Option<u64>, OutOfMemory> {
+    let t = KType::Exists(Box::new(alloc, KType::Var(1))?);
+    let what = KType::Ref(Box::new(alloc, KType::Var(0))?);
+    let made = t.put(alloc, 0, &what)?;
+    Ok(inside_k(&made))
+}
+
 #[test]
 fn types_in_continuation_passing_style(rt: HostRuntime) -> Result<(), Fail> {
     let alloc = rt.alloc();
-    let outer = KType::Exists(Box::new(alloc, KType::Var(2))?);
-    assert_eq!(rt; inside_k(&outer.shift(alloc, 2, 1)?), Some(4));
-    assert_eq!(rt; inside_k(&outer.put(alloc, 0, &KType::Int)?), Some(1));
-    let inner = KType::Exists(Box::new(alloc, KType::Var(1))?);
-    assert_eq!(rt; inside_k(&inner.shift(alloc, 2, 1)?), Some(1));
-    let what = KType::Ref(Box::new(alloc, KType::Var(0))?);
-    assert_eq!(rt; inside_k(&inner.put(alloc, 0, &what)?), Some(1));
+    assert_eq!(rt; shifted_outer_k(alloc)?, Some(4));
+    assert_eq!(rt; put_outer_k(alloc)?, Some(1));
+    assert_eq!(rt; shifted_inner_k(alloc)?, Some(1));
+    assert_eq!(rt; put_inner_k(alloc)?, Some(1));
     Ok(())
+}
+
+fn shifted_outer_c(alloc: Global) -> Result<Option<u64>, OutOfMemory> {
+    let t = CType::Exists(Box::new(alloc, CType::Var(2))?);
+    let shifted = t.shift(alloc, 2, 1)?;
+    Ok(inside_c(&shifted))
+}
+
+fn put_outer_c(alloc: Global) -> Result<Option<u64>, OutOfMemory> {
+    let t = CType::Exists(Box::new(alloc, CType::Var(2))?);
+    let made = t.put(alloc, 0, &CType::Int)?;
+    Ok(inside_c(&made))
+}
+
+fn shifted_inner_c(alloc: Global) -> Result<Option<u64>, OutOfMemory> {
+    let t = CType::Exists(Box::new(alloc, CType::Var(1))?);
+    let shifted = t.shift(alloc, 2, 1)?;
+    Ok(inside_c(&shifted))
+}
+
+fn put_inner_c(alloc: Global) -> Result<Option<u64>, OutOfMemory> {
+    let t = CType::Exists(Box::new(alloc, CType::Var(1))?);
+    let what = CType::Ref(Box::new(alloc, CType::Var(0))?);
+    let made = t.put(alloc, 0, &what)?;
+    Ok(inside_c(&made))
 }
 
 #[test]
 fn closed_types(rt: HostRuntime) -> Result<(), Fail> {
     let alloc = rt.alloc();
-    let outer = CType::Exists(Box::new(alloc, CType::Var(2))?);
-    assert_eq!(rt; inside_c(&outer.shift(alloc, 2, 1)?), Some(4));
-    assert_eq!(rt; inside_c(&outer.put(alloc, 0, &CType::Int)?), Some(1));
-    let inner = CType::Exists(Box::new(alloc, CType::Var(1))?);
-    assert_eq!(rt; inside_c(&inner.shift(alloc, 2, 1)?), Some(1));
-    let what = CType::Ref(Box::new(alloc, CType::Var(0))?);
-    assert_eq!(rt; inside_c(&inner.put(alloc, 0, &what)?), Some(1));
+    assert_eq!(rt; shifted_outer_c(alloc)?, Some(4));
+    assert_eq!(rt; put_outer_c(alloc)?, Some(1));
+    assert_eq!(rt; shifted_inner_c(alloc)?, Some(1));
+    assert_eq!(rt; put_inner_c(alloc)?, Some(1));
     Ok(())
+}
+
+fn shifted_outer_a(alloc: Global) -> Result<Option<u64>, OutOfMemory> {
+    let t = AType::Exists(Box::new(alloc, AType::Var(2))?);
+    let shifted = t.shift(alloc, 2, 1)?;
+    Ok(inside_a(&shifted))
+}
+
+fn put_outer_a(alloc: Global) -> Result<Option<u64>, OutOfMemory> {
+    let t = AType::Exists(Box::new(alloc, AType::Var(2))?);
+    let made = t.put(alloc, 0, &AType::Int)?;
+    Ok(inside_a(&made))
+}
+
+fn shifted_inner_a(alloc: Global) -> Result<Option<u64>, OutOfMemory> {
+    let t = AType::Exists(Box::new(alloc, AType::Var(1))?);
+    let shifted = t.shift(alloc, 2, 1)?;
+    Ok(inside_a(&shifted))
+}
+
+fn put_inner_a(alloc: Global) -> Result<Option<u64>, OutOfMemory> {
+    let t = AType::Exists(Box::new(alloc, AType::Var(1))?);
+    let what = AType::Exists(Box::new(alloc, AType::Var(1))?);
+    let made = t.put(alloc, 0, &what)?;
+    Ok(inside_a(&made))
 }
 
 #[test]
 fn allocated_types(rt: HostRuntime) -> Result<(), Fail> {
     let alloc = rt.alloc();
-    let outer = AType::Exists(Box::new(alloc, AType::Var(2))?);
-    assert_eq!(rt; inside_a(&outer.shift(alloc, 2, 1)?), Some(4));
-    assert_eq!(rt; inside_a(&outer.put(alloc, 0, &AType::Int)?), Some(1));
-    let inner = AType::Exists(Box::new(alloc, AType::Var(1))?);
-    assert_eq!(rt; inside_a(&inner.shift(alloc, 2, 1)?), Some(1));
-    let what = AType::Exists(Box::new(alloc, AType::Var(1))?);
-    assert_eq!(rt; inside_a(&inner.put(alloc, 0, &what)?), Some(2));
+    assert_eq!(rt; shifted_outer_a(alloc)?, Some(4));
+    assert_eq!(rt; put_outer_a(alloc)?, Some(1));
+    assert_eq!(rt; shifted_inner_a(alloc)?, Some(1));
+    assert_eq!(rt; put_inner_a(alloc)?, Some(2));
     Ok(())
 }

@@ -1,6 +1,18 @@
 // Names by their distance from the innermost.
 use idx_core::Names;
+use std::process::Abort;
 use std::test::Fail;
+
+fn finds(rt: &impl Abort, names: &Names, name: &[u8], wanted: Option<u64>) {
+    assert_eq!(rt; names.find(name), wanted);
+}
+
+fn finds_each(rt: &impl Abort, names: &Names) {
+    finds(rt, names, b"x", Some(0));
+    finds(rt, names, b"", Some(1));
+    finds(rt, names, b"f", Some(2));
+    finds(rt, names, b"xf", None);
+}
 
 #[test]
 fn the_innermost_name_hides_the_others(rt: HostRuntime) -> Result<(), Fail> {
@@ -9,16 +21,13 @@ fn the_innermost_name_hides_the_others(rt: HostRuntime) -> Result<(), Fail> {
     names.push(b"f")?;
     names.push(b"")?;
     names.push(b"x")?;
-    assert_eq!(rt; names.find(b"x"), Some(0));
-    assert_eq!(rt; names.find(b""), Some(1));
-    assert_eq!(rt; names.find(b"f"), Some(2));
-    assert_eq!(rt; names.find(b"xf"), None);
+    finds_each(&rt, &names);
     names.pop();
-    assert_eq!(rt; names.find(b"x"), Some(2));
+    finds(&rt, &names, b"x", Some(2));
     names.pop();
     names.pop();
     names.pop();
     names.pop();
-    assert_eq!(rt; names.find(b"x"), None);
+    finds(&rt, &names, b"x", None);
     Ok(())
 }

@@ -1,6 +1,7 @@
 // A term that is made part by part.
 use f_terms::{FNode, FParts, FShape, FTerm};
 use idx_core::{Op, OutOfMemory, Span};
+use std::alloc::Global;
 use std::test::Fail;
 
 fn out_of_memory(refused: (FShape, OutOfMemory)) -> OutOfMemory {
@@ -29,20 +30,30 @@ fn is_one_and_two(term: &FTerm, first: Span, second: Span, whole: Span) -> bool 
         && is_sum(term.node(2), 0, 1, whole)
 }
 
-// 1 + 2: the parts are numbered as they come, and are the nodes of the term.
-#[test]
-fn a_sum_of_three_parts(rt: HostRuntime) -> Result<(), Fail> {
-    let mut parts = FParts::new(rt.alloc());
-    let first = Span { start: 0, end: 1 };
-    let second = Span { start: 4, end: 5 };
-    let whole = Span { start: 0, end: 5 };
+// 1 + 2, and whether its parts are numbered as they come.
+fn one_and_two(
+    alloc: Global,
+    first: Span,
+    second: Span,
+    whole: Span,
+) -> Result<(FTerm, bool), OutOfMemory> {
+    let mut parts = FParts::new(alloc);
     let one = parts.add(FShape::Int(1), first).map_err(out_of_memory)?;
     let two = parts.add(FShape::Int(2), second).map_err(out_of_memory)?;
     let sum = parts
         .add(FShape::Arith(Op::Add, one, two), whole)
         .map_err(out_of_memory)?;
-    assert!(rt; one == 0 && two == 1 && sum == 2);
-    let term = parts.done();
+    Ok((parts.done(), one == 0 && two == 1 && sum == 2))
+}
+
+// The parts are the nodes of the term.
+#[test]
+fn a_sum_of_three_parts(rt: HostRuntime) -> Result<(), Fail> {
+    let first = Span { start: 0, end: 1 };
+    let second = Span { start: 4, end: 5 };
+    let whole = Span { start: 0, end: 5 };
+    let (term, numbered) = one_and_two(rt.alloc(), first, second, whole)?;
+    assert!(rt; numbered);
     assert!(rt; is_one_and_two(&term, first, second, whole));
     Ok(())
 }

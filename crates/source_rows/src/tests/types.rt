@@ -30,44 +30,64 @@ fn twice(alloc: Global, v: FType, w: FType) -> Result<FType, OutOfMemory>
     all(alloc, whole)
 }
 
-#[test]
-fn a_put_captures_no_name(rt: HostRuntime) -> Result<(), Fail> {
-    let alloc = rt.alloc();
+// all b. a -> b -> a with b for a, which is the same type
+fn put_into_itself(alloc: Global) -> Result<bool, OutOfMemory> {
     let body = twice(alloc, FType::Var(1), FType::Var(1))?;
     let result = body.put(alloc, 0, &FType::Var(0))?;
     let wanted = twice(alloc, FType::Var(1), FType::Var(1))?;
-    assert!(rt; eq(&result, &wanted));
+    Ok(eq(&result, &wanted))
+}
+
+fn text_of_put(alloc: Global) -> Result<Vec<u8>, OutOfMemory> {
+    let body = twice(alloc, FType::Var(1), FType::Var(1))?;
+    let result = body.put(alloc, 0, &FType::Var(0))?;
     let whole = all(alloc, result)?;
-    let text = type_at(alloc, &whole, 0)?;
+    type_at(alloc, &whole, 0)
+}
+
+#[test]
+fn a_put_captures_no_name(rt: HostRuntime) -> Result<(), Fail> {
+    assert!(rt; put_into_itself(rt.alloc())?);
+    let text = text_of_put(rt.alloc())?;
     assert!(rt; text.as_slice() == b"all t0. all t1. t0 -> t1 -> t0".as_slice());
     Ok(())
 }
 
-#[test]
-fn a_shift_passes_a_binder(rt: HostRuntime) -> Result<(), Fail> {
-    let alloc = rt.alloc();
+fn is_below_eight(t: &FType, wanted: &FType) -> bool {
+    eq(t, wanted) && t.below(8) && !t.below(7)
+}
+
+fn is_shifted(alloc: Global) -> Result<bool, OutOfMemory> {
     let t = twice(alloc, FType::Var(1), FType::Var(3))?;
     let result = t.shift(alloc, 5, 1)?;
     let wanted = twice(alloc, FType::Var(1), FType::Var(8))?;
-    assert!(rt; eq(&result, &wanted));
-    assert!(rt; result.below(8));
-    assert!(rt; !result.below(7));
+    Ok(is_below_eight(&result, &wanted))
+}
+
+#[test]
+fn a_shift_passes_a_binder(rt: HostRuntime) -> Result<(), Fail> {
+    assert!(rt; is_shifted(rt.alloc())?);
     Ok(())
+}
+
+fn wide(alloc: Global) -> Result<FType, OutOfMemory> {
+    let mut fields = Vec::new(alloc);
+    for _ in 0..100000u64 {
+        fields.push(FType::Int)?;
+    }
+    Ok(FType::Tuple(fields))
+}
+
+fn length(alloc: Global, t: &FType) -> Result<usize, OutOfMemory> {
+    let text = type_at(alloc, t, 0)?;
+    Ok(text.len())
 }
 
 // A wide tuple, whose fields are no recursion.
 #[test]
 fn wide_tuples_are_counted(rt: HostRuntime) -> Result<(), Fail> {
-    let alloc = rt.alloc();
-    let mut fields = Vec::new(alloc);
-    for _ in 0..100000u64 {
-        fields.push(FType::Int)?;
-    }
-    let wide = FType::Tuple(fields);
-    assert_eq!(rt; size(&wide), 100001);
-    assert_eq!(rt; depth(&wide), 2);
-    assert!(rt; wide.below(0));
-    let text = type_at(alloc, &wide, 0)?;
-    assert_eq!(rt; text.len(), 500000);
+    let wide = wide(rt.alloc())?;
+    assert!(rt; size(&wide) == 100001 && depth(&wide) == 2 && wide.below(0));
+    assert!(rt; length(rt.alloc(), &wide)? == 500000);
     Ok(())
 }

@@ -24,10 +24,10 @@ returns-in_err-limit-clause-goes c =
     let w = now c.args.state.now (SFix (place c.args.head.span) a r (node_at f c.args.body)) in
     rw (q.1, q.2) (fails f c.args.state.now w c.requires.opens.1 e
     (tells_map e _ (FaultOf w)
-    (λ m d p h. fix_limit w.around (context w) (place c.args.head.span) a r (node_at f c.args.body) m d p
+    (λ d p h. fix_limit w.around (context w) (place c.args.head.span) a r (node_at f c.args.body) d p
     (limits_of (TArrow a r) _ _ (place c.args.head.span)
     (omega (arith, c.saturating_add-deep.ensures, c.max.ensures, c.depth.ensures, c.depth-2.ensures))
-    (omega (arith, c.saturating_add-wide.ensures, c.saturating_add.ensures, c.size.ensures, c.size-2.ensures)) m d p h))
+    (omega (arith, c.saturating_add-wide.ensures, c.saturating_add.ensures, c.size.ensures, c.size-2.ensures)) d p h))
     c.in_err-limit.ensures.fault))
 
 pub enter-requires : goal.enter-requires

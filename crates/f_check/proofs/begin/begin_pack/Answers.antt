@@ -12,7 +12,7 @@ use Rattle.f_check.proofs.Steps.{fails}
 use Rattle.f_check.proofs.Begins.{pack_enters}
 use Rattle.f_check.proofs.Resumes.{refused}
 use Rattle.f_check.proofs.Follows.{begun}
-use Rattle.f_check.specs.Mismatch.{WPackage, odds}
+use Rattle.f_terms.specs.Mismatch.{WPackage, odds}
 use Rattle.f_check.proofs.begin.begin_pack.Goals as goal
 
 pub returns-in-None-clause-goes : goal.returns-in-None-clause-goes
@@ -35,9 +35,9 @@ returns-in_err-limit-clause-goes c =
     (node_at c.args.term.now c.args.inner) (tree c.args.written.shape.now)) in
     rw (q.1, q.2) (fails c.args.term.now c.args.state.now w c.requires.opens.1 x
     (tells_map x _ (FaultOf w)
-    (λ m d p k. pack_hidden w.around (context w) (place c.args.written.span) h (tree c.args.written.shape.now)
-    (tree c.in-Some.body.now) (node_at c.args.term.now c.args.inner) c.in-Some.ensures m d p
-    (limits_of h _ _ (place c.args.written.span) c.depth.ensures c.size.ensures m d p k))
+    (λ d p k. pack_hidden w.around (context w) (place c.args.written.span) h (tree c.args.written.shape.now)
+    (tree c.in-Some.body.now) (node_at c.args.term.now c.args.inner) c.in-Some.ensures d p
+    (limits_of h _ _ (place c.args.written.span) c.depth.ensures c.size.ensures d p k))
     c.in_err-limit.ensures.fault))
 
 pub returns-in_err-limit-2-clause-goes : goal.returns-in_err-limit-2-clause-goes
@@ -50,10 +50,10 @@ returns-in_err-limit-2-clause-goes c =
     (node_at c.args.term.now c.args.inner) (tree c.args.written.shape.now)) in
     rw (q.1, q.2) (fails c.args.term.now c.args.state.now w c.requires.opens.1 x
     (tells_map x _ (FaultOf w)
-    (λ m d p k. pack_limit w.around (context w) (place c.args.written.span) h r (tree c.in-Some.body.now)
+    (λ d p k. pack_limit w.around (context w) (place c.args.written.span) h r (tree c.in-Some.body.now)
     (node_at c.args.term.now c.args.inner) c.in-Some.ensures
-    (within h _ _ c.depth.ensures c.size.ensures c.in_ok-limit.ensures.ok) m d p
-    (limits_of r _ _ (place c.args.written.span) c.depth-2.ensures c.size-2.ensures m d p k))
+    (within h _ _ c.depth.ensures c.size.ensures c.in_ok-limit.ensures.ok) d p
+    (limits_of r _ _ (place c.args.written.span) c.depth-2.ensures c.size-2.ensures d p k))
     c.in_err-limit-2.ensures.fault))
 
 pub enter-requires : goal.enter-requires

@@ -33,7 +33,7 @@ pub returns-in-Err-clause-right : goal.returns-in-Err-clause-right
 returns-in-Err-clause-right c = (
   refl,
   subst (λ f. Says f (Fault (spanned c.args.term) 0 NoTys)) (sym c.fault_alone.ensures)
-      (alone c.mismatches_are_of_the_fault.ensures (spanned c.args.term) c.in-Err.e c.in-Err.ensures),
+      (alone (spanned c.args.term) c.in-Err.e c.in-Err.ensures),
 )
 
 pub returns-in-Err-clause-typed : goal.returns-in-Err-clause-typed
@@ -42,11 +42,11 @@ returns-in-Err-clause-typed c = λ t h.
     c.fault_alone.ensures
     ∙ no_fault c.passes_where_typed.ensures c.no_fault_beside_a_pass.ensures c.one_fault.ensures e t h
     (fault_of c.in-Err.e)
-    (alone c.mismatches_are_of_the_fault.ensures e c.in-Err.e c.in-Err.ensures)
+    (alone e c.in-Err.e c.in-Err.ensures)
 
 pub returns-in-Err-clause-refused : goal.returns-in-Err-clause-refused
 returns-in-Err-clause-refused c = λ code span h.
     let e = spanned c.args.term in
     subst (λ f. f ≢ fault.Memory → f ≡ fault.Refused code span) (sym c.fault_alone.ensures)
     (same_fault c.passes_where_typed.ensures c.no_fault_beside_a_pass.ensures c.one_fault.ensures e code span h
-    (fault_of c.in-Err.e) (alone c.mismatches_are_of_the_fault.ensures e c.in-Err.e c.in-Err.ensures))
+    (fault_of c.in-Err.e) (alone e c.in-Err.e c.in-Err.ensures))

@@ -9,12 +9,11 @@ use Rattle.f_check.proofs.checker.mismatch_of.Goals as goal
 pub returns-in-Ok : goal.returns-in-Ok
 returns-in-Ok c = λ code p m h.
     let e = spanned c.args.term.now in
-    absurd (c.no_fault_beside_a_pass.ensures e 0 NoTys _ code p c.in-Ok.ensures.0.0
-    (c.mismatches_are_of_the_fault.ensures e 0 NoTys code p m h))
+    absurd (c.no_fault_beside_a_pass.ensures e 0 NoTys _ code p c.in-Ok.ensures.0.0 (m, h))
 
 pub returns : goal.returns
 returns c = λ code p m h.
     let e = spanned c.args.term.now in
     IfOk-weaker c.mismatch_alone.result (Mentions c.in-Err.e) (λ r. read r ≡ m)
-    (λ r k. mentioned c.faults_have_one_mismatch.ensures e c.in-Err.e r c.in-Err.ensures k code p m h)
+    (λ r k. mentioned c.one_mismatch.ensures e c.in-Err.e r c.in-Err.ensures k code p m h)
     c.mismatch_alone.ensures

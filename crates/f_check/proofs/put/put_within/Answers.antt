@@ -6,8 +6,8 @@ use Rattle.f_terms.specs.declared.types.FType.{FType}
 use Rattle.f_check.specs.declared.failure.Failure.{Failure}
 use Rattle.f_check.specs.Told.{IsPut}
 use Rattle.f_terms.specs.Ty.{Ty, put}
-use Rattle.f_terms.specs.Faults.{nothing}
-use Rattle.f_check.specs.Mismatch.{limits_with}
+use Rattle.text_core.specs.Refusals.{nothing}
+use Rattle.f_terms.specs.Faults.{limits}
 use Rattle.f_terms.specs.Read.{tree, place}
 use Rattle.f_check.proofs.Puts.{depth_made, size_made}
 use Rattle.f_check.proofs.Forms.{within, limits_of, limits_then, tells_map}
@@ -26,9 +26,9 @@ returns-in_err-limit c =
     let p = place c.args.span in
     let e = c.in_err-limit.field-0.0 in
     passed s t p c.from_residual.result r.0 e r.1 r.2
-    (tells_map e _ (λ m. limits_with m s p (limits_with m (put 0 s t) p nothing))
-    (λ m d q h. limits_then s p (limits_with m (put 0 s t) p nothing) m d q
-    (limits_of s _ _ p c.depth-deep.ensures c.size-wide.ensures m d q h)) c.in_err-limit.ensures.fault)
+    (tells_map e _ (limits s p (limits (put 0 s t) p nothing))
+    (λ d q h. limits_then s p (limits (put 0 s t) p nothing) d q
+    (limits_of s _ _ p c.depth-deep.ensures c.size-wide.ensures d q h)) c.in_err-limit.ensures.fault)
 
 pub returns-in_err-limit-2 : goal.returns-in_err-limit-2
 returns-in_err-limit-2 c =
@@ -40,8 +40,8 @@ returns-in_err-limit-2 c =
     c.in_ok-limit.ensures.ok in
     let e = c.in_err-limit-2.field-0.0 in
     passed s t p c.from_residual-in_err-limit-2.result r.0 e r.1 r.2
-    (tells_map e _ (λ m. limits_with m s p (limits_with m (put 0 s t) p nothing))
-    (λ m d q h. inr (
+    (tells_map e _ (limits s p (limits (put 0 s t) p nothing))
+    (λ d q h. inr (
       w.0,
       inr (
         w.1,
@@ -49,7 +49,7 @@ returns-in_err-limit-2 c =
             (depth_made s t c.depth-deep.result _ c.depth-deep.ensures c.in_ok-limit.ensures.ok.0
             c.put_depth-made_deep.ensures)
             (size_made s t c.size-wide.result _ c.size-wide.ensures c.in_ok-limit.ensures.ok.1
-            c.put_size-made_wide.ensures) m d q h,
+            c.put_size-made_wide.ensures) d q h,
       ),
     ))
     c.in_err-limit-2.ensures.fault)

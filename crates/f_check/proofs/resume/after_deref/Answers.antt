@@ -1,6 +1,6 @@
 use Rattle.std.proofs.Common.{◌∙◌, ap}
 use Rattle.f_check.proofs.Resumes.{deref_refused, deref_given}
-use Rattle.f_check.specs.Mismatch.{WReference, odds}
+use Rattle.f_terms.specs.Mismatch.{WReference, odds}
 use Rattle.f_check.proofs.resume.after_deref.Goals as goal
 
 pub returns-in-Ok-clause-goes : goal.returns-in-Ok-clause-goes

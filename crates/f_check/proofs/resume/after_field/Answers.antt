@@ -4,8 +4,8 @@ use Rattle.f_check.proofs.Resumes.{field_enters, field_given, field_faulty}
 use Rattle.f_check.proofs.Forms.{tells_map, limits_of, within}
 use Rattle.f_terms.specs.Ty.{TTuple, tys}
 use Rattle.f_terms.specs.Read.{tree, place}
-use Rattle.f_terms.specs.Faults.{nothing}
-use Rattle.f_check.specs.Mismatch.{limits_with}
+use Rattle.text_core.specs.Refusals.{nothing}
+use Rattle.f_terms.specs.Faults.{limits}
 use Rattle.f_terms.proofs.Trees.{tree_Tuple}
 use Rattle.std.proofs.Common.{map, min}
 use Rattle.f_terms.specs.Ty.{depth, size}
@@ -40,7 +40,7 @@ returns-in_err-limit-in-None-clause-goes c =
     rw (q.1, q.2)
     (field_faulty c.args.term.now c.args.state.now c.args.part.ty c.args.part.span c.args.span c.args.types us
     c.args.rest c.requires c.in_ok-push.ensures c.in-None.ensures.cases f
-    (tells_map f _ (λ m. limits_with m (TTuple (tys (map tree us.items))) (place c.args.span) nothing)
+    (tells_map f _ (limits (TTuple (tys (map tree us.items))) (place c.args.span) nothing)
     (limits_of (TTuple (tys (map tree us.items))) _ _ (place c.args.span)
     (c.depth.ensures ∙ ap (λ t. min (depth t) 18446744073709551615) e)
     (c.size.ensures ∙ ap (λ t. min (size t) 18446744073709551615) e))

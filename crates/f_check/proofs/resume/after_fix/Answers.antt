@@ -2,7 +2,7 @@ use Rattle.std.proofs.Common.{◌∙◌, ap, true≢false, sym, refl}
 use Rattle.f_check.proofs.Resumes.{fix_refused, fix_given}
 use Rattle.f_check.proofs.Follows.{gone}
 use Rattle.f_terms.specs.Read.{tree}
-use Rattle.f_check.specs.Mismatch.{WType, odds}
+use Rattle.f_terms.specs.Mismatch.{WType, odds}
 use Rattle.f_check.proofs.resume.after_fix.Goals as goal
 
 pub returns-then-not-eq-clause-goes : goal.returns-then-not-eq-clause-goes

@@ -3,7 +3,7 @@ use Rattle.std.proofs.Common.{◌∙◌, ap, map, refl}
 use Rattle.f_check.specs.Scopes.{bound}
 use Rattle.f_check.proofs.Follows.{gone, resumed}
 use Rattle.f_check.specs.declared.frame.Frame.TheVariants as C
-use Rattle.f_check.specs.Mismatch.{WFunction, odds}
+use Rattle.f_terms.specs.Mismatch.{WFunction, odds}
 use Rattle.f_check.proofs.resume.after_function.Goals as goal
 
 pub returns-in-Err-clause-goes : goal.returns-in-Err-clause-goes

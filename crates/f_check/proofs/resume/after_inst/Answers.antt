@@ -2,7 +2,7 @@ use Rattle.std.proofs.Common.{◌∙◌, ap}
 use Rattle.std.proofs.lemmas.Result.{err_from_is_err_and}
 use Rattle.f_check.proofs.Resumes.{inst_refused, inst_fits, inst_given, inst_faulty}
 use Rattle.f_check.proofs.Follows.{gone}
-use Rattle.f_check.specs.Mismatch.{WPolymorphic, odds}
+use Rattle.f_terms.specs.Mismatch.{WPolymorphic, odds}
 use Rattle.f_check.proofs.resume.after_inst.Goals as goal
 
 pub returns-in-Err-clause-goes : goal.returns-in-Err-clause-goes

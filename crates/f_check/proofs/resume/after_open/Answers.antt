@@ -3,7 +3,7 @@ use Rattle.f_check.proofs.Resumes.{open_refused, open_enters}
 use Rattle.f_check.specs.Scopes.{bound}
 use Rattle.f_check.proofs.Follows.{resumed}
 use Rattle.f_check.specs.declared.frame.Frame.TheVariants as C
-use Rattle.f_check.specs.Mismatch.{WPackage, odds}
+use Rattle.f_terms.specs.Mismatch.{WPackage, odds}
 use Rattle.f_check.proofs.resume.after_open.Goals as goal
 
 pub returns-in-Err-clause-goes : goal.returns-in-Err-clause-goes

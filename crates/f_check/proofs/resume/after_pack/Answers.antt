@@ -2,7 +2,7 @@ use Rattle.std.proofs.Common.{true≢false, ap, sym, ◌∙◌, refl, subst}
 use Rattle.f_terms.specs.Read.{tree}
 use Rattle.f_check.specs.Told.{IsPutOrNone}
 use Rattle.f_check.proofs.Resumes.{pack_fits, pack_large, pack_refused, pack_given}
-use Rattle.f_check.specs.Mismatch.{WType, odds}
+use Rattle.f_terms.specs.Mismatch.{WType, odds}
 use Rattle.f_check.proofs.resume.after_pack.Goals as goal
 
 pub put_or_none-requires-clause-fits : goal.put_or_none-requires-clause-fits

@@ -4,7 +4,7 @@ use Rattle.f_terms.specs.Read.{tree}
 use Rattle.std.proofs.Common.{◌∙◌, ap, sym, map}
 use Rattle.f_terms.proofs.Trees.{tree_Tuple}
 use Rattle.f_check.proofs.Follows.{gone}
-use Rattle.f_check.specs.Mismatch.{WTuple, WField, odds}
+use Rattle.f_terms.specs.Mismatch.{WTuple, WField, odds}
 use Rattle.f_check.proofs.resume.after_proj.Goals as goal
 
 pub returns-in-Err-clause-goes : goal.returns-in-Err-clause-goes

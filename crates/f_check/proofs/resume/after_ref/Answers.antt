@@ -5,8 +5,8 @@ use Rattle.f_check.proofs.Forms.{tells_map, limits_of, within}
 use Rattle.f_terms.specs.declared.types.FType.TheVariants as T
 use Rattle.f_terms.specs.Ty.{TRef}
 use Rattle.f_terms.specs.Read.{tree, place}
-use Rattle.f_terms.specs.Faults.{nothing}
-use Rattle.f_check.specs.Mismatch.{limits_with}
+use Rattle.text_core.specs.Refusals.{nothing}
+use Rattle.f_terms.specs.Faults.{limits}
 use Rattle.f_check.proofs.resume.after_ref.Goals as goal
 
 pub returns-in_err-limit-clause-goes : goal.returns-in_err-limit-clause-goes
@@ -14,7 +14,7 @@ returns-in_err-limit-clause-goes c =
     let q = err_from_is_err_and c.from_residual.result c.from_residual.ensures.1 in
     let e = c.in_err-limit.field-0.0 in
     rw (q.1, q.2) (ref_refused c.args.term.now c.args.state.now c.args.part.ty c.args.part.span c.args.span c.requires e
-    (tells_map e _ (λ m. limits_with m (TRef (tree c.args.part.ty)) (place c.args.span) nothing)
+    (tells_map e _ (limits (TRef (tree c.args.part.ty)) (place c.args.span) nothing)
     (limits_of (TRef (tree c.args.part.ty)) _ _ (place c.args.span)
     (omega (arith, c.saturating_add-deep.ensures, c.depth.ensures))
     (omega (arith, c.saturating_add-wide.ensures, c.size.ensures)))

@@ -1,6 +1,6 @@
 use Rattle.std.proofs.Common.{◌∙◌, ap}
 use Rattle.f_check.proofs.Resumes.{target_refused}
-use Rattle.f_check.specs.Mismatch.{WReference, odds}
+use Rattle.f_terms.specs.Mismatch.{WReference, odds}
 use Rattle.f_check.proofs.resume.after_target.Goals as goal
 
 pub returns-in-Err-clause-goes : goal.returns-in-Err-clause-goes

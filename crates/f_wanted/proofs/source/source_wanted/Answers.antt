@@ -1,6 +1,10 @@
-use Rattle.std.proofs.Common.{◌∙◌, ap, inl, inr}
+use Rattle.std.proofs.Common.{◌∙◌, inl, inr}
 use Rattle.f_lexer.proofs.Exact.{no_fault_where_cut}
-use Rattle.f_wanted.specs.Text.{wanted_line}
+use Rattle.f_grammar.specs.Machine.{table}
+use Rattle.expected.proofs.Keeping.{keeps_line}
+use Rattle.f_wanted.specs.Table.{source_owes, kept_line}
+use Rattle.f_wanted.specs.Words.{source_kinds}
+use Rattle.f_wanted.proofs.Rows.{kept_is}
 use Rattle.f_wanted.proofs.source.source_wanted.Goals as goal
 
 pub returns-in_ok-line-in-Ok : goal.returns-in_ok-line-in-Ok
@@ -8,7 +12,8 @@ returns-in_ok-line-in-Ok c =
     inl (
       c.in-Ok.tokens.items,
       c.in-Ok.ensures.right,
-      c.in_ok-line-in-Ok.ensures ∙ ap (λ w. wanted_line c.args.text.now c.args.at w) c.deref.ensures.value,
+      c.in_ok-line-in-Ok.ensures
+          ∙ keeps_line table source_owes kept_line kept_is source_kinds c.args.text.now c.args.at c.in-Ok.tokens.items,
     )
 
 pub returns-in-Err-Refused : goal.returns-in-Err-Refused

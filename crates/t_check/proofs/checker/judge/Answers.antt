@@ -10,4 +10,4 @@ pub returns-in-Err : goal.returns-in-Err
 returns-in-Err c =
     let P = spanned_program c.args.program.now in
     subst (λ (f : TFault). Says f (ProgramFault P)) (sym c.fault.ensures)
-    (said P c.check_program.new.types c.mismatch_is_of_the_fault.ensures c.in-Err.refusal c.in-Err.ensures)
+    (said P c.check_program.new.types c.in-Err.refusal c.in-Err.ensures)

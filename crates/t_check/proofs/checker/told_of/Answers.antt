@@ -10,21 +10,19 @@ returns-in-Ok-clause-told c =
 pub returns-in-Ok-clause-one : goal.returns-in-Ok-clause-one
 returns-in-Ok-clause-one c = λ code span m h.
     let P = spanned_program c.args.program.now in
-    absurd (c.no_fault_where_accepted.ensures P code span c.in-Ok.ensures
-    (c.mismatch_is_of_the_fault.ensures P code span m h))
+    absurd (c.no_fault_where_accepted.ensures P code span c.in-Ok.ensures (m, h))
 
 pub returns-in-Err-clause-told : goal.returns-in-Err-clause-told
 returns-in-Err-clause-told c = λ code span h.
-    tells (spanned_program c.args.program.now) c.check_program.new.types c.mismatch_is_of_the_fault.ensures
-    c.at_most_one_fault.ensures code span h c.in-Err.refusal c.in-Err.ensures c.mismatch.result c.mismatch.ensures
+    tells (spanned_program c.args.program.now) c.check_program.new.types c.at_most_one_fault.ensures code span h
+    c.in-Err.refusal c.in-Err.ensures c.mismatch.result c.mismatch.ensures
 
 pub returns-in-Err-clause-one : goal.returns-in-Err-clause-one
 returns-in-Err-clause-one c = λ code span m h.
     let P = spanned_program c.args.program.now in
     let us = c.check_program.new.types in
     one_told P us c.at_most_one_mismatch.ensures code span m h c.mismatch.result
-    (tells P us c.mismatch_is_of_the_fault.ensures c.at_most_one_fault.ensures code span
-    (c.mismatch_is_of_the_fault.ensures P code span m h) c.in-Err.refusal c.in-Err.ensures c.mismatch.result
+    (tells P us c.at_most_one_fault.ensures code span (m, h) c.in-Err.refusal c.in-Err.ensures c.mismatch.result
     c.mismatch.ensures)
 
 pub mismatch-requires : goal.mismatch-requires

@@ -10,7 +10,7 @@ use Rattle.t_terms.specs.ReadProgram.{program}
 use Rattle.t_terms.specs.Whole.{WellFormedSeq}
 use Rattle.t_terms.specs.declared.instr.Instr.{Instr}
 use Rattle.t_terms.specs.declared.program.TProgram.{TProgram}
-use Rattle.t_mismatch.specs.Mismatch.{InstrFaultWith, BlockFaultWith}
+use Rattle.t_rules.specs.Faults.{InstrFaultWith, BlockFaultWith}
 use Rattle.t_intern.proofs.Growing.{grown_next, grown_same}
 use Rattle.t_registers.specs.declared.labels.Labels.{Labels}
 use Rattle.t_registers.specs.Known.{known}

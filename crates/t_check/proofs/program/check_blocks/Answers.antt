@@ -3,7 +3,7 @@ use Rattle.std.proofs.lemmas.Result.{err_from_is_err_and}
 use Rattle.t_terms.specs.declared.block.Block.{Block}
 use Rattle.t_terms.specs.Read.{spanned, spanned_blocks}
 use Rattle.t_terms.specs.ReadProgram.{program}
-use Rattle.t_mismatch.specs.Mismatch.{BlockFaultWith, BlocksFaultWith}
+use Rattle.t_rules.specs.Faults.{BlockFaultWith, BlocksFaultWith}
 use Rattle.t_intern.proofs.Growing.{grown_next}
 use Rattle.t_registers.specs.Labels.{code_type}
 use Rattle.t_check.proofs.Blocks.{formed_at}

@@ -5,7 +5,7 @@ use Rattle.t_terms.specs.Read.{data_fields, spanned_data, spanned_heap}
 use Rattle.t_terms.specs.Spanned.{plain_fields}
 use Rattle.t_terms.specs.ReadProgram.{program}
 use Rattle.t_rules.specs.Rules.{DataAccepted}
-use Rattle.t_mismatch.specs.Mismatch.{DataFaultWith, HeapFaultWith}
+use Rattle.t_rules.specs.Faults.{DataFaultWith, HeapFaultWith}
 use Rattle.t_intern.proofs.Growing.{grown_next}
 use Rattle.t_mismatch.specs.Refusals.{SaysWith}
 use Rattle.t_check.specs.Verdict.{FormedData}

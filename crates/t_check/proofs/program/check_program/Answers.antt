@@ -7,7 +7,7 @@ use Rattle.t_terms.specs.Read.{spanned_blocks, spanned_heap, data_of}
 use Rattle.t_terms.specs.ReadProgram.{program, spanned_program}
 use Rattle.t_terms.proofs.Blocks.{blocks_count}
 use Rattle.t_rules.specs.Rules.{HeapAccepted}
-use Rattle.t_mismatch.specs.Mismatch.{HeapFaultWith}
+use Rattle.t_rules.specs.Faults.{HeapFaultWith}
 use Rattle.t_mismatch.specs.Refusals.{SaysWith}
 use Rattle.t_check.specs.Verdict.{AreBlocks, IsProgram}
 use Rattle.t_check.proofs.Bodies.{first_takes, first_fault, heap_fault, program_is}

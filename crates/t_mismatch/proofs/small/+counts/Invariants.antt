@@ -1,6 +1,6 @@
 use Rattle.std.proofs.Common.{◌≡◌, ◌*◌, ◌+◌, drop}
 use Rattle.t_intern.specs.Nodes.{regs_at, fields_at}
-use Rattle.t_mismatch.specs.Nodes.{file_nodes, fields_nodes}
+use Rattle.t_rules.specs.Nodes.{file_nodes, fields_nodes}
 use Rattle.t_mismatch.proofs.small.+counts.Given as goal
 
 abbrev pub decreases-left_after : goal.decreases-left_after

@@ -1,6 +1,11 @@
-use Rattle.std.proofs.Common.{inl, inr}
+use Rattle.std.proofs.Common.{◌∙◌, inl, inr}
 use Rattle.t_lexer.proofs.Exact.{no_token_fault_where_cut}
 use Rattle.t_lexer.specs.Kept.{tokens_of}
+use Rattle.t_text.specs.GrammarTable.{table}
+use Rattle.expected.proofs.Keeping.{keeps_line}
+use Rattle.t_wanted.specs.Table.{assembly_owes, kept_line}
+use Rattle.t_wanted.specs.Words.{assembly_kinds}
+use Rattle.t_wanted.proofs.Rows.{kept_is}
 use Rattle.t_wanted.proofs.assembly.tal_wanted.Goals as goal
 
 pub returns-in_ok-line-in-Ok : goal.returns-in_ok-line-in-Ok
@@ -8,7 +13,9 @@ returns-in_ok-line-in-Ok c =
     inl (
       tokens_of c.in-Ok.tokens,
       c.in-Ok.ensures.right,
-      c.in_ok-line-in-Ok.ensures,
+      c.in_ok-line-in-Ok.ensures
+          ∙ keeps_line table assembly_owes kept_line kept_is assembly_kinds c.args.text.now c.args.at
+          (tokens_of c.in-Ok.tokens),
     )
 
 pub returns-in-Err-Refused : goal.returns-in-Err-Refused

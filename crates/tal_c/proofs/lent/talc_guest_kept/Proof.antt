@@ -9,7 +9,8 @@ use mir.Val.{vptr}
 use prog.Wp.{WpFn}
 use contract.Monad.{fact}
 use contract.Running.{tables}
-use types.Kit.{‵, raw, ◌⊛◌, some, later, prop, ◌$◌, ◌∵◌, !, qed, done, move, keep, drop, use1, use3, split, join, fsplit, fjoin, fpack, pick, await, regoal, suffices, group}
+use types.Kit.{‵, raw, ◌⊛◌, some, later, prop, ◌$◌, ◌∵◌, !, qed, done, move, keep, drop, use1, use3, split, join}
+use types.Kit.{fsplit, fjoin, fpack, pick, await, regoal, suffices, group}
 use types.Run.{enter, of_opd, addr, stop, no_more, and_then, returns}
 use types.ByLocal.{alloc_all, pass_all, free_all, look_at, get, through, sets, lands_as}
 use types.SemTy.{Body}
@@ -60,27 +61,35 @@ talc_guest_kept_spec 𝓤 𝓛 𝓜 𝓡 wired =
     sets ! (of_opd ! (get ! refl)) refl (tt, tt) $
     sets ! (addr ! (through ! refl (stop !))) refl (tt, tt) $
     lft_new ! tt (λ α. let κ = α ∷ [] in move ! (1 ∷ []) $
-    use1 𝓛 (later (some (λ (γ : ℕ). ‵ ((MutRef (named 0) κ R).own_val (lent b o γ old) (vptr b o ∷ [])) ⊛ ‵ (flent κ (Body (mem R) b o γ)))))
+    use1 𝓛 (later (some (λ (γ : ℕ). ‵ ((MutRef (named 0) κ R).own_val (lent b o γ old) (vptr b o ∷ [])) ⊛ ‵ (flent κ
+    (Body (mem R) b o γ)))))
     (lends_ref 𝓛 R (named 0) κ old b o) $ await ! tt $ pick ! (λ γ. split ! $
     -- [the loan; the lender's part; the token of α]
     let G = triple_of 𝓛 g.signature (g.spec 𝓛 𝓜.mem 𝓡.returns) in
     let z : G.Ghost = (((κ, tt), (full_share, tt), tt, (lent b o γ old, tt), (vptr b o ∷ [], tt)), tt) in
     nothing ! $ move ! (1 ∷ 0 ∷ []) $ join ! $
-    nothing ! $ move ! (3 ∷ 0 ∷ []) $ join ! $ join ! $ nothing ! $ move ! (1 ∷ 0 ∷ []) $ join ! $ use1 𝓛 (raw (G.pre z)) (id⊢ 𝓤 (G.pre z)) $
-    calls_at ! (framed 𝓤 𝓛.H 𝓜 (tables 𝓤 𝓛.H 𝓜 𝓡 𝓡.env)) G (met 𝓤 𝓛 𝓜 𝓡 (code.calls-tal_c::guest::kept_in 𝓡.env wired)) z
+    nothing ! $ move ! (3 ∷ 0 ∷ []) $ join ! $ join ! $ nothing ! $ move ! (1 ∷ 0 ∷ []) $ join ! $
+    use1 𝓛 (raw (G.pre z)) (id⊢ 𝓤 (G.pre z)) $
+    calls_at ! (framed 𝓤 𝓛.H 𝓜 (tables 𝓤 𝓛.H 𝓜 𝓡 𝓡.env)) G (met 𝓤 𝓛 𝓜 𝓡 (code.calls-tal_c::guest::kept_in 𝓡.env wired))
+    z
     (and_then ! (get ! refl) (no_more !)) (λ v.
     use1 𝓛 (later (some (λ (r : ℕ). ((‵ (flft κ full_share) ⊛ ‵ ftrue) ⊛ ‵ (u64.own_val r (v ∷ []))) ⊛
-    some (λ (ws : Lasts g.ended z.0.0 z.0.3). ‵ (lasts g.ended z.0.0 z.0.3 ws) ⊛ raw (fact 𝓤 (GuestKept old ws.0 r)))))) (id⊢ 𝓤 _) $
-    await ! tt $ pick ! (λ r. split ! $ split ! $ split ! $ lft_end ! tt $ move ! (3 ∷ []) $ pick ! (λ ws. split ! $ move ! (1 ∷ []) $ heard ! (GuestKept old ws.0 r) (λ says.
+    some (λ (ws : Lasts g.ended z.0.0 z.0.3). ‵ (lasts g.ended z.0.0 z.0.3 ws) ⊛ raw (fact 𝓤 (GuestKept old ws.0 r))))))
+    (id⊢ 𝓤 _) $
+    await ! tt $ pick ! (λ r. split ! $ split ! $ split ! $ lft_end ! tt $ move ! (3 ∷ []) $
+    pick ! (λ ws. split ! $ move ! (1 ∷ []) $ heard ! (GuestKept old ws.0 r) (λ says.
     fsplit ! $ fsplit ! $
     -- [the loan's last value; its borrow; nothing; α is over; nothing; the result; the lender's part]
-    move ! (3 ∷ 6 ∷ 0 ∷ []) $ use3 𝓛 (later (‵ (part_at R full_share ws.0 b o))) (ref_back 𝓛 R κ γ ws.0 b o) $ await ! tt $
+    move ! (3 ∷ 6 ∷ 0 ∷ []) $ use3 𝓛 (later (‵ (part_at R full_share ws.0 b o))) (ref_back 𝓛 R κ γ ws.0 b o) $
+    await ! tt $
     -- [the guest; its borrow; nothing; nothing; the result]
-    move ! (4 ∷ []) $ peeks ! u64 (Is u64) (shows 𝓛 u64) r (v ∷ []) (λ is. let good = ((uint_Lawful 𝓛 w64).typed r (v ∷ []) is).0 in
+    move ! (4 ∷ []) $ peeks ! u64 (Is u64) (shows 𝓛 u64) r (v ∷ []) (λ is. let good =
+    ((uint_Lawful 𝓛 w64).typed r (v ∷ []) is).0 in
     lands_as ! refl refl good $
     returns ! (look_at ! 0 refl) $ free_all ! refl $ keep ! (0 ∷ 1 ∷ []) $
     -- [the result; the guest]
     move ! (1 ∷ []) $ nothing ! $ fpack ! (GuestKept old ws.0 r) (λ _. ftrue) says $ move ! (1 ∷ 0 ∷ []) $ fjoin ! $
-    fpack ! Guest (λ new. fsep (guest_at (block_ptr b o) new) (fex (GuestKept old new r) (λ _. ftrue))) ws.0 $ move ! (1 ∷ []) $
+    fpack ! Guest (λ new. fsep (guest_at (block_ptr b o) new) (fex (GuestKept old new r) (λ _. ftrue))) ws.0 $
+    move ! (1 ∷ []) $
     suffices ! _ (ends_at 𝓛 f.ended stayed c (y (block_ptr b o)) v r (tt, tt) (tt, tt)) $
     nothing ! $ nothing ! $ join ! $ nothing ! $ group ! 3 $ done !))))))))))

@@ -2,7 +2,7 @@ use Rattle.std.proofs.Common.{length}
 use Rattle.std.proofs.lemmas.Result.{err_from_is_err_and}
 use Rattle.t_terms.specs.ReadProgram.{program}
 use Rattle.t_terms.specs.Read.{datum, data_fields}
-use Rattle.t_mismatch.specs.Mismatch.{DatumFaultWith, DataFaultWith}
+use Rattle.t_rules.specs.Faults.{DatumFaultWith, DataFaultWith}
 use Rattle.t_intern.proofs.Growing.{grown_next}
 use Rattle.t_check.proofs.Places.{place_grown}
 use Rattle.t_check.proofs.Typing.{says_map}

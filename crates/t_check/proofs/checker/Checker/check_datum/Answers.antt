@@ -9,7 +9,7 @@ use Rattle.t_terms.specs.declared.fault.TCode.TheVariants.{T13}
 use Rattle.t_intern.specs.Nodes.{at}
 use Rattle.t_intern.proofs.Growing.{grown_at, grown_length}
 use Rattle.t_registers.specs.Known.{known}
-use Rattle.t_mismatch.specs.Mismatch.{DatumFaultWith}
+use Rattle.t_rules.specs.Faults.{DatumFaultWith}
 use Rattle.t_check.specs.Verdict.{FormedValue, IsDatum}
 use Rattle.t_mismatch.specs.declared.refusal.Refusal.{Refusal}
 use Rattle.t_registers.proofs.Noting.{empty_known}

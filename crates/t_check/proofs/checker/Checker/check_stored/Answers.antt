@@ -5,7 +5,7 @@ use Rattle.t_terms.specs.declared.fault.TCode.TheVariants.{T13}
 use Rattle.t_intern.specs.Nodes.{at}
 use Rattle.t_intern.proofs.Growing.{grown_at, grown_length}
 use Rattle.t_registers.specs.Known.{known, seen}
-use Rattle.t_mismatch.specs.Mismatch.{StoreFaultWith, register, fitting}
+use Rattle.t_rules.specs.Faults.{StoreFaultWith, register, fitting}
 use Rattle.t_check.proofs.Loads.{field_follows, unfit}
 use Rattle.t_registers.proofs.Noting.{seen_grown, entry_grown}
 use Rattle.t_check.proofs.Typing.{says_types}

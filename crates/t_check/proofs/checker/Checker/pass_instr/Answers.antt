@@ -1,11 +1,11 @@
 use Rattle.std.proofs.Common.{subst, None}
 use Rattle.std.proofs.Math.Logic.{∥∥₁_elim}
 use Rattle.t_terms.specs.Read.{instr}
-use Rattle.t_mismatch.specs.Mismatch.{InstrFaultWith, told}
+use Rattle.t_rules.specs.Mismatch.{told}
+use Rattle.t_rules.specs.Faults.{InstrFaultWith}
 use Rattle.t_mismatch.specs.Refusals.{SaysWith, odds_at}
 use Rattle.t_check.specs.Verdict.{program_in, known_at}
 use Rattle.t_mismatch.specs.declared.refusal.Refusal.{Refusal}
-use Rattle.t_mismatch.proofs.FirstWith.{instr_beside}
 use Rattle.t_check.proofs.checker.Checker.pass_instr.Goals as goal
 
 pub unreachable-requires : goal.unreachable-requires
@@ -23,8 +23,7 @@ unreachable-requires c =
     c.in-Err-Refused.field-0-is
     c.in-Err-Refused.ensures.step in
     ∥∥₁_elim c.requires.typed none
-    (λ t. c.no_fault_where_typed.ensures P n g i t.0 s code span t.1
-    ((instr_beside P n g s i).forget code None span fault))
+    (λ t. c.no_fault_where_typed.ensures P n g i t.0 s code span t.1 (None, fault))
 
 pub unreachable-requires-in-Err-AtOdds : goal.unreachable-requires-in-Err-AtOdds
 unreachable-requires-in-Err-AtOdds c =
@@ -43,4 +42,4 @@ unreachable-requires-in-Err-AtOdds c =
     c.in-Err-AtOdds.ensures.step in
     ∥∥₁_elim c.requires.typed none
     (λ t. c.no_fault_where_typed.ensures P n g i t.0 s code span t.1
-    ((instr_beside P n g s i).forget code (told (odds_at c.check_instr.new.types odds)) span fault.1))
+    (told (odds_at c.check_instr.new.types odds), fault.1))

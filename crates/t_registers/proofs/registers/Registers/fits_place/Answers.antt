@@ -2,7 +2,7 @@ use Rattle.std.proofs.Common.{Bool, IsTrue, ◌↔◌, sym, refl}
 use Rattle.std.proofs.lemmas.Result.{IfOk-weaker}
 use Rattle.t_intern.specs.Nodes.{at}
 use Rattle.t_registers.specs.Fitted.{FitsPlace}
-use Rattle.t_mismatch.specs.Mismatch.{KnownFits}
+use Rattle.t_rules.specs.Faults.{KnownFits}
 use Rattle.t_registers.specs.Known.{known}
 use Rattle.t_registers.proofs.FilePlaces.{place_by}
 use Rattle.t_registers.proofs.registers.Registers.fits_place.Goals as goal

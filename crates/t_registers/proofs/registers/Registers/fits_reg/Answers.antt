@@ -2,7 +2,7 @@ use Rattle.std.proofs.Common.{Bool, IsTrue, ◌↔◌}
 use Rattle.std.proofs.lemmas.Result.{IfOk-weaker}
 use Rattle.t_types.specs.Fits.{Fits}
 use Rattle.t_intern.specs.Nodes.{at}
-use Rattle.t_mismatch.specs.Mismatch.{KnownFits}
+use Rattle.t_rules.specs.Faults.{KnownFits}
 use Rattle.t_registers.specs.Known.{known, seen}
 use Rattle.t_registers.proofs.Rising.{known_fit}
 use Rattle.t_registers.proofs.registers.Registers.fits_reg.Goals as goal

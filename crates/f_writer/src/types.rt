@@ -101,9 +101,9 @@ pub(crate) fn write_type(text: &mut Vec<u8>, t: &FType, depth: u64) -> Result<()
     }
 }
 
-/// The text of a type inside so many type names (own choice): as in the text of a term, the names are numbered from the
-/// outermost. Parentheses stand only round an arrow, an `all` or a `some` on the left of an arrow or after `ref`. Errors:
-/// want of memory.
+/// The text of a type inside so many type names (own choice): as in the text of a term, the names are numbered from
+/// the outermost. Parentheses stand only round an arrow, an `all` or a `some` on the left of an arrow or after `ref`.
+/// Errors: want of memory.
 pub fn type_at(alloc: Global, t: &FType, names: u64) -> Result<Vec<u8>, OutOfMemory>
     ensures { IfOk result (λ text. text.items ≡ text_at names (tree t.now)) }
 {

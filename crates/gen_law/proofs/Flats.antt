@@ -12,7 +12,7 @@ use Rattle.a_terms.specs.Bound.{thirds}
 use Rattle.gen_law.specs.Gen.{tys, inside, small, boxed, unnest, stands, move, settle, target, decl_code, saved}
 use Rattle.gen_law.specs.Gen.{call_code, above, code, extras, rows, firsts, seconds, applied_to, constant, data_of}
 use Rattle.gen_law.specs.Gen.{generated_heap, generated}
-use Rattle.gen_law.specs.Packs.{NoPack, FlatValue, FlatSeq, FlatBlocks, FlatData, FlatHeap, FlatProgram}
+use Rattle.t_terms.specs.Flat.{NoPack, FlatValue, FlatSeq, FlatBlocks, FlatData, FlatHeap, Flat as FlatProgram}
 
 inside_none : (t : ℕ) (x : TValue) → NoPack (inside t x)
 inside_none t (T.Plain b us) = tt

@@ -2,6 +2,7 @@
 use Rattle.std.proofs.Common.{◌≡◌, ℕ, suc, ◌+◌, ◌≤◌, List, [], ◌∷◌, Some, None, refl, sym, ap, ap₂, ◌∙◌, arith, inl}
 use Rattle.std.proofs.Common.{inr}
 use Rattle.std.specs.Prelude.{max, ◌==◌, cond, Bool, true, false, nat_lt, if◌then◌else◌}
+use Rattle.std.proofs.Math.Numerals.{add-one, add-two}
 use Rattle.std.proofs.lemmas.Bool.{cond_both}
 use Rattle.a_terms.specs.Tree.{ATy, AInt, AVar, ATuple, ACode, AExists, ATys, NoATys, MoreATys, AFields, NoAFields}
 use Rattle.a_terms.specs.Tree.{MoreAFields, AVal, Var, Num, Lab, Data, Apply, Pack, AConsts, AProg, ashift}
@@ -16,7 +17,8 @@ use Rattle.t_terms.specs.Tree.{TProg}
 use Rattle.t_rules.specs.Registers.{no_types}
 use Rattle.gen_law.specs.Gen.{ty, ty_args, ty_fields, insert, header, constant, data_of, generated_blocks}
 use Rattle.gen_law.specs.Gen.{generated_heap, generated}
-use Rattle.gen_law.specs.TypesEach.{HasEach, DataEach, HeapEach, treach, treach_file, treach_fields, tbinds}
+use Rattle.t_terms.specs.Reach.{type_reach, regs_reach, fields_reach}
+use Rattle.gen_law.specs.TypesEach.{HasEach, DataEach, HeapEach, tbinds}
 use Rattle.gen_law.specs.TypesEach.{tbinds_file, tbinds_fields, TWithin, TypesWithin}
 use Rattle.gen_law.proofs.Values.{All-of, Carried, Labels}
 use Rattle.gen_law.proofs.Typed.{own_q, all_q, each_type, applied_each}
@@ -24,18 +26,18 @@ use Rattle.gen_law.proofs.Accepted.{constant_has, stands, good_each, all_good}
 
 -- the reach of translated types
 mutual
-  reach_ty : (t : ATy) → treach (ty t) ≡ areach t
+  reach_ty : (t : ATy) → type_reach (ty t) ≡ areach t
   reach_ty AInt = refl
   reach_ty (AVar n) = refl
-  reach_ty (ATuple fs) = ap suc (reach_fields fs)
-  reach_ty (ACode n ts) = ap (λ k. suc (suc k)) (reach_args ts 1)
-  reach_ty (AExists t) = ap suc (reach_ty t)
+  reach_ty (ATuple fs) = add-one _ ∙ ap suc (reach_fields fs)
+  reach_ty (ACode n ts) = add-two _ ∙ ap (λ k. suc (suc k)) (reach_args ts 1)
+  reach_ty (AExists t) = add-one _ ∙ ap suc (reach_ty t)
 
-  reach_args : (ts : ATys) (r : ℕ) → treach_file (ty_args ts r) ≡ areaches ts
+  reach_args : (ts : ATys) (r : ℕ) → regs_reach (ty_args ts r) ≡ areaches ts
   reach_args NoATys r = refl
   reach_args (MoreATys t ts) r = ap₂ max (reach_ty t) (reach_args ts (suc r))
 
-  reach_fields : (fs : AFields) → treach_fields (ty_fields fs) ≡ areach_fields fs
+  reach_fields : (fs : AFields) → fields_reach (ty_fields fs) ≡ areach_fields fs
   reach_fields NoAFields = refl
   reach_fields (MoreAFields t f fs) = ap₂ max (reach_ty t) (reach_fields fs)
 
@@ -97,31 +99,31 @@ mutual
   binds_shift_fields (MoreAFields t f fs) k c = ap₂ max (binds_shift t k c) (binds_shift_fields fs k c)
 
 -- a type that fits another has its reach, and binds as many
-reach_fit : (fs gs : TFields) → FieldsFit fs gs → (treach_fields fs ≡ treach_fields gs)
+reach_fit : (fs gs : TFields) → FieldsFit fs gs → (fields_reach fs ≡ fields_reach gs)
     × (tbinds_fields fs ≡ tbinds_fields gs)
 reach_fit NoFields NoFields h = (refl, refl)
 reach_fit (MoreFields t x fs) (MoreFields u y gs) h =
-    let r = reach_fit fs gs h.2 in (ap₂ max (ap treach h.0) r.0, ap₂ max (ap tbinds h.0) r.1)
+    let r = reach_fit fs gs h.2 in (ap₂ max (ap type_reach h.0) r.0, ap₂ max (ap tbinds h.0) r.1)
 reach_fit NoFields (MoreFields u y gs) h = absurd h
 reach_fit (MoreFields t x fs) NoFields h = absurd h
 
-fits_same : (u s : Ty) → Fits u s → (treach u ≡ treach s) × (tbinds u ≡ tbinds s)
-fits_same u s (inl e) = (ap treach e, ap tbinds e)
+fits_same : (u s : Ty) → Fits u s → (type_reach u ≡ type_reach s) × (tbinds u ≡ tbinds s)
+fits_same u s (inl e) = (ap type_reach e, ap tbinds e)
 fits_same u s (inr h) =
     let r = reach_fit h.0 h.1 h.4 in
-    (ap treach h.2 ∙ ap suc r.0 ∙ sym (ap treach h.3), ap tbinds h.2 ∙ r.1 ∙ sym (ap tbinds h.3))
+    (ap type_reach h.2 ∙ ap (λ n. n + 1) r.0 ∙ sym (ap type_reach h.3), ap tbinds h.2 ∙ r.1 ∙ sym (ap tbinds h.3))
 
 -- the file of a header
-insert_most : (r : ℕ) (t : Ty) (f : TFile) (R B : ℕ) → treach t ≤ R → tbinds t ≤ B →
-    (treach_file f ≤ R) × (tbinds_file f ≤ B) → (treach_file (insert r t f) ≤ R) × (tbinds_file (insert r t f) ≤ B)
+insert_most : (r : ℕ) (t : Ty) (f : TFile) (R B : ℕ) → type_reach t ≤ R → tbinds t ≤ B →
+    (regs_reach f ≤ R) × (tbinds_file f ≤ B) → (regs_reach (insert r t f) ≤ R) × (tbinds_file (insert r t f) ≤ B)
 insert_most r t NoRegs R B x y h = (omega arith, omega arith)
 insert_most r t (MoreRegs q u f) R B x y h =
     cond_both (r == q) (MoreRegs r t f)
     (cond (nat_lt r q) (MoreRegs r t (MoreRegs q u f)) (MoreRegs q u (insert r t f)))
-    (λ z. (treach_file z ≤ R) × (tbinds_file z ≤ B))
+    (λ z. (regs_reach z ≤ R) × (tbinds_file z ≤ B))
     (λ c. (omega (arith, h.0), omega (arith, h.1)))
     (λ c. cond_both (nat_lt r q) (MoreRegs r t (MoreRegs q u f)) (MoreRegs q u (insert r t f))
-    (λ z. (treach_file z ≤ R) × (tbinds_file z ≤ B))
+    (λ z. (regs_reach z ≤ R) × (tbinds_file z ≤ B))
     (λ d. (omega (arith, h.0), omega (arith, h.1)))
     (λ d. let i = insert_most r t f R B x y (omega (arith, h.0), omega (arith, h.1)) in
     (omega (arith, i.0, h.0), omega (arith, i.1, h.1))))
@@ -131,7 +133,7 @@ module _ (N R B : ℕ) where
   abbrev Part : ATy → Type 0
   Part t = (areach t ≤ R) × (abinds t ≤ B)
 
-  header_most : (u : ℕ → Bool) (m : List ℕ) (g : List ATy) → All-of Part g → (treach_file (header u m g) ≤ R)
+  header_most : (u : ℕ → Bool) (m : List ℕ) (g : List ATy) → All-of Part g → (regs_reach (header u m g) ≤ R)
       × (tbinds_file (header u m g) ≤ B)
   header_most u m [] s = (omega arith, omega arith)
   header_most u [] (t ∷ g) s = (omega arith, omega arith)
@@ -140,7 +142,7 @@ module _ (N R B : ℕ) where
       let rest = header_most (λ n. u (suc n)) m g s.1 in
       let x = reach_ty t in
       let y = binds_ty t in
-      cond_both (u 0) (insert r (ty t) f) f (λ z. (treach_file z ≤ R) × (tbinds_file z ≤ B))
+      cond_both (u 0) (insert r (ty t) f) f (λ z. (regs_reach z ≤ R) × (tbinds_file z ≤ B))
       (λ c. insert_most r (ty t) f R B (omega (arith, x, s.0.0)) (omega (arith, y, s.0.1)) rest) (λ c. rest)
 
   args_most : (k : ℕ) (us : ATys) → AAll (AWithin N R B) k us → (areaches us ≤ R) × (abinds_all us ≤ B)

@@ -7,7 +7,7 @@ use Rattle.t_terms.specs.Whole.{Whole}
 use Rattle.t_rules.specs.Rules.{Accepted}
 use Rattle.gen_law.specs.Gen.{generated}
 use Rattle.gen_law.specs.Correct.{Keeps}
-use Rattle.gen_law.specs.Packs.{FlatProgram}
+use Rattle.t_terms.specs.Flat.{Flat}
 
 -- what is generated for a typed program is accepted
 abbrev pub TypesKept : Type 0
@@ -15,7 +15,7 @@ TypesKept = (p : AProg) (main : ATm) → Program-ok p main → Accepted (generat
 
 -- it has no package inside a package
 abbrev pub PacksFlat : Type 0
-PacksFlat = (p : AProg) (main : ATm) → Program-ok p main → FlatProgram (generated p main)
+PacksFlat = (p : AProg) (main : ATm) → Program-ok p main → Flat (generated p main)
 
 -- what is generated for a typed program within the bound keeps the invariant of programs
 abbrev pub InvariantKept : Type 0

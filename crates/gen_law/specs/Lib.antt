@@ -4,7 +4,6 @@ pub mod Gen
 pub mod GenLaws
 pub mod Laws
 pub mod Layout
-pub mod Packs
 pub mod Registers
 pub mod Rules
 pub mod TypesEach

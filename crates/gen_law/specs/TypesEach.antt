@@ -9,6 +9,7 @@ use Rattle.t_types.specs.Fields.{filled, empty_fields}
 use Rattle.t_types.specs.Fits.{RegTypes, lookup}
 use Rattle.t_terms.specs.Tree.{TValue, Plain, Pack, TInstr, Arith, Bnz, Ld, Malloc, Mov, St, Unpack, TEnd, Jmp, Halt}
 use Rattle.t_terms.specs.Tree.{TSeq, Then, Ends, TBlock, TData, TProg, names_after}
+use Rattle.t_terms.specs.Reach.{type_reach}
 use Rattle.t_rules.specs.Registers.{with_reg, no_types}
 use Rattle.t_rules.specs.Rules.{BaseHas, Has, Typed, EndTyped}
 use Rattle.gen_law.specs.Gen.{generated}
@@ -73,24 +74,6 @@ HeapEach Q P (x ∷ xs) = DataEach Q P x × HeapEach Q P xs
 abbrev pub TypesEach : TProp → TProg → Type 0
 TypesEach Q P = BlocksEach Q P P.blocks × HeapEach Q P P.heap
 
--- the reach of a type: the greatest number of constructs that are open at one place of it, where the brace of a
--- register file counts twice
-abbrev mutual
-  pub treach : Ty → ℕ
-  treach IntTy = 0
-  treach (VarTy i) = 0
-  treach (CodeTy n f) = suc (suc (treach_file f))
-  treach (ExistsTy t) = suc (treach t)
-  treach (TupleTy fs) = suc (treach_fields fs)
-
-  pub treach_file : TFile → ℕ
-  treach_file NoRegs = 0
-  treach_file (MoreRegs r t f) = max (treach t) (treach_file f)
-
-  pub treach_fields : TFields → ℕ
-  treach_fields NoFields = 0
-  treach_fields (MoreFields t f fs) = max (treach t) (treach_fields fs)
-
 -- the greatest number of type names that are bound around one place of a type
 abbrev mutual
   pub tbinds : Ty → ℕ
@@ -110,7 +93,7 @@ abbrev mutual
 
 -- at most so many names in scope, so much reach, and so many names bound in the type
 abbrev pub TWithin : (names reach binds : ℕ) → TProp
-TWithin names reach binds n t = (n ≤ names) × (treach t ≤ reach) × (tbinds t ≤ binds)
+TWithin names reach binds n t = (n ≤ names) × (type_reach t ≤ reach) × (tbinds t ≤ binds)
 
 -- code generation adds two to the reach, and the names in scope to those of a type
 abbrev pub TypesWithin : Type 0

@@ -13,74 +13,18 @@ use Rattle.t_terms.specs.Tree.{TValue, Plain, Pack, TInstr, Arith, Bnz, Ld, Mall
 use Rattle.t_terms.specs.Tree.{Then, Ends, TBlock, TData, TProg, names_after}
 use Rattle.t_rules.specs.Registers.{with_reg, no_types}
 use Rattle.t_rules.specs.Rules.{Has, Typed}
-use Rattle.gen_law.specs.Packs as own
 use Rattle.gen_law.specs.TypesEach.{TWithin, AllTypes, FileTypes, HasEach, InstrEach, SeqEach, BlocksEach, DataEach}
-use Rattle.gen_law.specs.TypesEach.{HeapEach, TypesEach, treach, treach_file, treach_fields, tbinds, tbinds_file}
+use Rattle.gen_law.specs.TypesEach.{HeapEach, TypesEach, tbinds, tbinds_file}
 use Rattle.gen_law.specs.TypesEach.{tbinds_fields}
 use Rattle.spill_law.specs.Spill.{ins, or_int, type_of, type_in, field_type, filled_type, hidden_type, next, FewNames}
 use Rattle.spill_law.specs.Spill.{FewNamesFile, values_of, ValuesFew, SeqFew, BlocksFew, TypesFew}
-use Rattle.spill_law.specs.Reach.{type_reach, regs_reach, fields_reach, types_reach, value_reach, instr_reach}
-use Rattle.spill_law.specs.Reach.{seq_reach, blocks_reach, data_reach, heap_reach, reach, FlatInner, FlatValue}
-use Rattle.spill_law.specs.Reach.{FlatInstr, FlatSeq, FlatBlocks, FlatData, FlatHeap, Flat}
+use Rattle.t_terms.specs.Reach.{type_reach, regs_reach, fields_reach, types_reach}
+use Rattle.spill_law.specs.Reach.{value_reach, instr_reach, seq_reach, blocks_reach, data_reach, heap_reach, reach}
 use Rattle.spill_law.proofs.Files.{look_same, CaseOf, case_of, ins_less, ins_same, ins_more}
 use Rattle.spill_law.proofs.Computed.{value_is, next_is}
 use Rattle.spill_law.proofs.Kept.{AllIn}
 
--- packages
-inner_flat : (v : TValue) → own.NoPack v → FlatInner v
-inner_flat (Plain b ts) h = tt
-inner_flat (Pack t v s) h = h
-
-value_flat : (v : TValue) → own.FlatValue v → FlatValue v
-value_flat (Plain b ts) h = tt
-value_flat (Pack t v s) h = inner_flat v h
-
-instr_flat : (i : TInstr) → own.FlatInstr i → FlatInstr i
-instr_flat (Arith op rd rs v) h = value_flat v h
-instr_flat (Bnz r v) h = value_flat v h
-instr_flat (Ld rd rs i) h = tt
-instr_flat (Malloc rd ts) h = tt
-instr_flat (Mov rd v) h = value_flat v h
-instr_flat (St rd i rs) h = tt
-instr_flat (Unpack rd v) h = value_flat v h
-
-seq_flat : (c : TSeq) → own.FlatSeq c → FlatSeq c
-seq_flat (Then i c) h = (instr_flat i h.0, seq_flat c h.1)
-seq_flat (Ends (Jmp v)) h = value_flat v h
-seq_flat (Ends Halt) h = tt
-
-blocks_flat : (bs : List TBlock) → own.FlatBlocks bs → FlatBlocks bs
-blocks_flat [] h = tt
-blocks_flat (b ∷ bs) h = (seq_flat b.code h.0, blocks_flat bs h.1)
-
-data_flat : (xs : TData) → own.FlatData xs → FlatData xs
-data_flat [] h = tt
-data_flat (x ∷ xs) h = (value_flat x.value h.0, data_flat xs h.1)
-
-heap_flat : (hs : List TData) → own.FlatHeap hs → FlatHeap hs
-heap_flat [] h = tt
-heap_flat (x ∷ hs) h = (data_flat x h.0, heap_flat hs h.1)
-
-pub flat : (P : TProg) → own.FlatProgram P → Flat P
-flat P h = (blocks_flat P.blocks h.0, heap_flat P.heap h.1)
-
 -- reach and names of types
-mutual
-  reach_most : (t : Ty) → type_reach t ≤ treach t
-  reach_most IntTy = omega arith
-  reach_most (VarTy i) = omega arith
-  reach_most (CodeTy n f) = let a = file_most f in omega (arith, a)
-  reach_most (ExistsTy t) = let a = reach_most t in omega (arith, a)
-  reach_most (TupleTy fs) = let a = fields_most fs in omega (arith, a)
-
-  file_most : (f : TFile) → regs_reach f ≤ treach_file f
-  file_most NoRegs = omega arith
-  file_most (MoreRegs r t f) = let a = reach_most t in let b = file_most f in omega (arith, a, b)
-
-  fields_most : (fs : TFields) → fields_reach fs ≤ treach_fields fs
-  fields_most NoFields = omega arith
-  fields_most (MoreFields t b fs) = let a = reach_most t in let c = fields_most fs in omega (arith, a, c)
-
 mutual
   few_type : (n : ℕ) (t : Ty) → n + tbinds t ≤ max_names → FewNames n t
   few_type n IntTy h = tt
@@ -99,7 +43,7 @@ mutual
   few_fields n (MoreFields t b fs) h = (few_type n t (omega (arith, h)), few_fields n fs (omega (arith, h)))
 
 -- a shift keeps both
-var_reach : (b : Bool) (i j : ℕ) → treach (if b then VarTy i else VarTy j) ≡ 0
+var_reach : (b : Bool) (i j : ℕ) → type_reach (if b then VarTy i else VarTy j) ≡ 0
 var_reach true i j = refl
 var_reach false i j = refl
 
@@ -108,18 +52,18 @@ var_binds true i j = refl
 var_binds false i j = refl
 
 mutual
-  shift_reach : (d : ℕ) (t : Ty) → treach (over (shifted VarTy 1) d t) ≡ treach t
+  shift_reach : (d : ℕ) (t : Ty) → type_reach (over (shifted VarTy 1) d t) ≡ type_reach t
   shift_reach d IntTy = refl
   shift_reach d (VarTy i) = var_reach (nat_lt i d) i (i + 1)
-  shift_reach d (CodeTy n f) = ap (λ m. suc (suc m)) (shift_reach_file (d + n) f)
-  shift_reach d (ExistsTy t) = ap suc (shift_reach (d + 1) t)
-  shift_reach d (TupleTy fs) = ap suc (shift_reach_fields d fs)
+  shift_reach d (CodeTy n f) = ap (λ m. m + 2) (shift_reach_file (d + n) f)
+  shift_reach d (ExistsTy t) = ap (λ m. m + 1) (shift_reach (d + 1) t)
+  shift_reach d (TupleTy fs) = ap (λ m. m + 1) (shift_reach_fields d fs)
 
-  shift_reach_file : (d : ℕ) (f : TFile) → treach_file (over_file (shifted VarTy 1) d f) ≡ treach_file f
+  shift_reach_file : (d : ℕ) (f : TFile) → regs_reach (over_file (shifted VarTy 1) d f) ≡ regs_reach f
   shift_reach_file d NoRegs = refl
   shift_reach_file d (MoreRegs r t f) = let a = shift_reach d t in let b = shift_reach_file d f in omega (arith, a, b)
 
-  shift_reach_fields : (d : ℕ) (fs : TFields) → treach_fields (over_fields (shifted VarTy 1) d fs) ≡ treach_fields fs
+  shift_reach_fields : (d : ℕ) (fs : TFields) → fields_reach (over_fields (shifted VarTy 1) d fs) ≡ fields_reach fs
   shift_reach_fields d NoFields = refl
   shift_reach_fields d (MoreFields t x fs) =
       let a = shift_reach d t in let b = shift_reach_fields d fs in omega (arith, a, b)
@@ -155,7 +99,7 @@ none_known = fun_ext (λ q. refl)
 
 module _ (N R B : ℕ) (small : N + B ≤ max_names) where
   abbrev Ok : Ty → Type 0
-  Ok t = (treach t ≤ R) × (tbinds t ≤ B)
+  Ok t = (type_reach t ≤ R) × (tbinds t ≤ B)
 
   ok_of : (n : ℕ) (t : Ty) → TWithin N R B n t → Ok t
   ok_of n t h = (h.1, h.2)
@@ -175,7 +119,7 @@ module _ (N R B : ℕ) (small : N + B ≤ max_names) where
 
   reach_all : (x : TFile) → AllIn Ok x → regs_reach x ≤ R
   reach_all NoRegs h = omega arith
-  reach_all (MoreRegs r t x) h = let a = reach_most t in let b = reach_all x h.1 in omega (arith, a, b, h.0.0)
+  reach_all (MoreRegs r t x) h = let b = reach_all x h.1 in omega (arith, b, h.0.0)
 
   file_in : (n : ℕ) (x : TFile) → FileTypes (TWithin N R B) n x → AllIn Ok x
   file_in n NoRegs h = tt
@@ -183,7 +127,7 @@ module _ (N R B : ℕ) (small : N + B ≤ max_names) where
 
   types_in : (n : ℕ) (ts : List Ty) → AllTypes (TWithin N R B) n ts → types_reach ts ≤ R
   types_in n [] h = omega arith
-  types_in n (t ∷ ts) h = let a = reach_most t in let b = types_in n ts h.1 in omega (arith, a, b, h.0.1)
+  types_in n (t ∷ ts) h = let b = types_in n ts h.1 in omega (arith, b, h.0.1)
 
   module _ (P : TProg) where
     value_type : (n : ℕ) (g : RegTypes) (v : TValue) (t : Ty) → HasEach (TWithin N R B) P n g v t → TWithin N R B n t
@@ -197,11 +141,9 @@ module _ (N R B : ℕ) (small : N + B ≤ max_names) where
     written : (n : ℕ) (g : RegTypes) (v : TValue) (t : Ty) → HasEach (TWithin N R B) P n g v t → value_reach v ≤ R
     written n g (Plain b ts) t h = types_in n ts h.1.4
     written n g (Pack u v s) t h =
-        let a = reach_most u in
         let b = written n g v h.1.0 h.1.1 in
-        let c = reach_most t in
         let same = ap type_reach (sym h.0.5) in
-        omega (arith, a, b, c, same, h.1.2.1, h.1.3.1)
+        omega (arith, b, same, h.1.2.1, h.1.3.1)
 
     -- a value's type, computed
     computed : (n : ℕ) (x : TFile) (v : TValue) (t : Ty) → HasEach (TWithin N R B) P n (lookup x) v t →
@@ -217,9 +159,8 @@ module _ (N R B : ℕ) (small : N + B ≤ max_names) where
     value_most n x v t h =
         let a = written n (lookup x) v t h in
         let b = ap type_reach (computed n x v t h) in
-        let c = reach_most t in
         let d = value_type n (lookup x) v t h in
-        omega (arith, a, b, c, d.1)
+        omega (arith, a, b, d.1)
 
     -- an instruction, and what is known after it
     record Goes (n : ℕ) (x : TFile) (i : TInstr) : Type 0 where
@@ -325,16 +266,15 @@ module _ (N R B : ℕ) (small : N + B ≤ max_names) where
     data_in (x ∷ xs) h =
         let v = value_most 0 NoRegs x.value h.0.1.0
         (subst (λ g. HasEach (TWithin N R B) P 0 g x.value h.0.1.0) none_known h.0.1.1) in
-        let t = reach_most x.ty in
         let r = data_in xs h.1 in
-        omega (arith, v, t, r, h.0.0.1)
+        omega (arith, v, r, h.0.0.1)
 
-    heap_in : (hs : List TData) → HeapEach (TWithin N R B) P hs → heap_reach P hs ≤ R + 1
+    heap_in : (hs : List TData) → HeapEach (TWithin N R B) P hs → heap_reach P hs ≤ R
     heap_in [] h = omega arith
     heap_in (x ∷ hs) h = let a = data_in x h.0 in let r = heap_in hs h.1 in omega (arith, a, r)
 
     pub types_few : TypesEach (TWithin N R B) P → TypesFew P
     types_few h = (blocks_in P.blocks h.0).0
 
-    pub reach_within : TypesEach (TWithin N R B) P → reach P ≤ R + 1
+    pub reach_within : TypesEach (TWithin N R B) P → reach P ≤ R
     reach_within h = let a = (blocks_in P.blocks h.0).1 in let b = heap_in P.heap h.1 in omega (arith, a, b)

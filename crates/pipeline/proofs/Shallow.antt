@@ -8,24 +8,24 @@ use Rattle.t_terms.specs.Tree.{TSeq, Then, Ends, TBlock, TData, TProg, names_aft
 use Rattle.t_terms.specs.Nesting.{type_nesting, regs_nesting, fields_nesting, types_nesting, value_nesting}
 use Rattle.t_terms.specs.Nesting.{instr_nesting, end_nesting, seq_nesting, blocks_nesting, data_nesting, heap_nesting}
 use Rattle.t_terms.specs.Nesting.{nesting}
-use Rattle.gen_law.specs.Packs.{NoPack, FlatValue, FlatInstr, FlatEnd, FlatSeq, FlatBlocks, FlatData, FlatHeap}
-use Rattle.gen_law.specs.Packs.{FlatProgram}
+use Rattle.t_terms.specs.Flat.{NoPack, FlatValue, FlatInstr, FlatEnd, FlatSeq, FlatBlocks, FlatData, FlatHeap, Flat}
+use Rattle.t_terms.specs.Reach.{type_reach, regs_reach, fields_reach}
 use Rattle.gen_law.specs.TypesEach.{TWithin, AllTypes, FileTypes, HasEach, InstrEach, EndEach, SeqEach, BlocksEach}
-use Rattle.gen_law.specs.TypesEach.{DataEach, HeapEach, TypesEach, treach, treach_file, treach_fields}
+use Rattle.gen_law.specs.TypesEach.{DataEach, HeapEach, TypesEach}
 
 mutual
-  of_type : (t : Ty) → type_nesting t ≤ treach t
+  of_type : (t : Ty) → type_nesting t ≤ type_reach t
   of_type IntTy = omega arith
   of_type (VarTy i) = omega arith
   of_type (CodeTy n f) = let x = of_file f in omega (arith, x)
   of_type (ExistsTy t) = let x = of_type t in omega (arith, x)
   of_type (TupleTy fs) = let x = of_fields fs in omega (arith, x)
 
-  of_file : (f : TFile) → regs_nesting f ≤ treach_file f
+  of_file : (f : TFile) → regs_nesting f ≤ regs_reach f
   of_file NoRegs = omega arith
   of_file (MoreRegs r t f) = let x = of_type t in let y = of_file f in omega (arith, x, y)
 
-  of_fields : (fs : TFields) → fields_nesting fs ≤ treach_fields fs
+  of_fields : (fs : TFields) → fields_nesting fs ≤ fields_reach fs
   of_fields NoFields = omega arith
   of_fields (MoreFields t f fs) = let x = of_type t in let y = of_fields fs in omega (arith, x, y)
 
@@ -95,5 +95,5 @@ module _ (N R B : ℕ) where
     of_heap (x ∷ xs) f h = let a = of_data x f.0 h.0 in let b = of_heap xs f.1 h.1 in omega (arith, a, b)
 
     -- where no package holds a package
-    pub shallow : FlatProgram P → TypesEach (TWithin N R B) P → nesting P ≤ R + 3
+    pub shallow : Flat P → TypesEach (TWithin N R B) P → nesting P ≤ R + 3
     shallow f h = let x = of_blocks P.blocks f.0 h.0 in let y = of_heap P.heap f.1 h.1 in omega (arith, x, y)

@@ -34,7 +34,8 @@ pub record FramedWork (e : Term) (P : TProg) : Type 0 where
 abbrev pub WorkWithin : Term → TProg → Type 0
 WorkWithin e P = (HasBlocks e P × SameWeights e P) ⊎ FramedWork e P
 
--- which of both it is, by the program that is made without a bound: it stays as it is where that has no register above k
+-- which of both it is, by the program that is made without a bound: it stays as it is where that has no register above
+-- k
 pub record WorkByBound (k : ℕ) (e : Term) (unbounded P : TProg) : Type 0 where
   pub stays : RegistersUpTo k unbounded → HasBlocks e P × SameWeights e P
   pub framed : (RegistersUpTo k unbounded → ⊥) → FramedWork e P

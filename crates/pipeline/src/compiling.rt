@@ -6,7 +6,7 @@ ghost use Rattle.t_terms.specs.ReadProgram.{program as program_tree};
 ghost use Rattle.t_terms.specs.Nesting.{nesting};
 ghost use Rattle.t_terms.specs.Nesting.{most_open};
 ghost use Rattle.t_check.specs.Checked.{checked_program};
-ghost use Rattle.gen_law.specs.Packs.{FlatProgram};
+ghost use Rattle.t_terms.specs.Flat.{Flat};
 ghost use Rattle.gen_law.specs.TypesEach.{TypesEach, TWithin};
 ghost use Rattle.pipeline.specs.Made.{IsMade};
 ghost use Rattle.pipeline.specs.Meaning.{EntersSeldom};
@@ -33,7 +33,7 @@ fn assemble(alloc: Global, program: &Program) -> Result<TProgram, OutOfMemory>
     ensures work { IfOk result (λ p. HasBlocks (term_of (program_term program.now)) (program_tree p)) }
     ensures weights { IfOk result (λ p. SameWeights (term_of (program_term program.now)) (program_tree p)) }
     ensures entered { IfOk result (λ p. ∥ EntersSeldom (term_of (program_term program.now)) (program_tree p) ∥₁) }
-    ensures flat { IfOk result (λ p. ∥ FlatProgram (program_tree p) ∥₁) }
+    ensures flat { IfOk result (λ p. ∥ Flat (program_tree p) ∥₁) }
     ensures within { IfOk result (λ p.
         ∥ TypesEach (TWithin 70368744177664 1606 140737488355328) (program_tree p) ∥₁) }
 {

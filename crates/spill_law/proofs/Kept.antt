@@ -10,7 +10,8 @@ use Rattle.t_terms.specs.Tree.{TProg, names_after}
 use Rattle.t_rules.specs.Rules.{Has, SeqAccepted}
 use Rattle.spill_law.specs.Spill.{type_of, next, numbers, target, value_reads, reads, live, among, kept, FewNames}
 use Rattle.spill_law.specs.Spill.{FewNamesFile, values_of, ValuesFew, SeqFew}
-use Rattle.spill_law.specs.Reach.{type_reach, regs_reach, value_reach, instr_reach, seq_reach}
+use Rattle.t_terms.specs.Reach.{type_reach, regs_reach}
+use Rattle.spill_law.specs.Reach.{value_reach, instr_reach, seq_reach}
 use Rattle.spill_law.proofs.Files.{look_same, RisesFrom, Ascends, rises_ascends}
 use Rattle.spill_law.proofs.Computed.{value_is, next_is, ascends_next}
 use Rattle.spill_law.proofs.Live.{among_left, among_right, among_next, Sub, Agree, instr_agrees, value_agrees}

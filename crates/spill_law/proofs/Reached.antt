@@ -1,4 +1,4 @@
--- The text of what is spilled has at most two constructs more open than the program's types reach.
+-- The text of what is spilled has at most three constructs more open than the program's types reach.
 use Rattle.std.proofs.Common.{ℕ, zero, suc, ◌+◌, ◌≤◌, nat_eq, nat_lt, cond, Bool, true, false, List, [], ◌∷◌, length}
 use Rattle.std.proofs.Common.{map}
 use Rattle.std.proofs.Common.{Some, arith}
@@ -19,11 +19,9 @@ use Rattle.spill_law.specs.Spill.{layout, load, load_value, second_at, fill, bui
 use Rattle.spill_law.specs.Spill.{Fills, Gathers, way_of, way, after, slots_by, used_by, slots, fill_slot, finish}
 use Rattle.spill_law.specs.Spill.{step}
 use Rattle.spill_law.specs.Spill.{code, sp_blocks, sp_data, spilled_above}
-use Rattle.spill_law.specs.Reach.{type_reach, regs_reach, fields_reach, types_reach, value_reach, instr_reach}
-use Rattle.spill_law.specs.Reach.{seq_reach}
-use Rattle.spill_law.specs.Reach.{blocks_reach, data_reach, heap_reach, reach, FlatValue, FlatInstr, FlatSeq}
-use Rattle.spill_law.specs.Reach.{FlatBlocks}
-use Rattle.spill_law.specs.Reach.{FlatData, FlatHeap, Flat}
+use Rattle.t_terms.specs.Flat.{FlatValue, FlatInstr, FlatSeq, FlatBlocks, FlatData, FlatHeap, Flat}
+use Rattle.t_terms.specs.Reach.{type_reach, regs_reach, fields_reach, types_reach}
+use Rattle.spill_law.specs.Reach.{value_reach, instr_reach, seq_reach, blocks_reach, data_reach, heap_reach, reach}
 use Rattle.spill_law.proofs.Scopes.{scoped_regs, scoped_ascends}
 use Rattle.spill_law.proofs.Kept.{KeptReach, kept_reach, knows_first}
 
@@ -234,7 +232,7 @@ module _ (n : ℕ) (some : 2 ≤ n) (m : ℕ) where
       let c = data_most P xs f.1 (omega (arith, le)) in
       omega (arith, a, b, c, le)
 
-heap_most : (n m : ℕ) (P : TProg) (hs : List TData) → FlatHeap hs → heap_reach P hs + 2 ≤ n →
+heap_most : (n m : ℕ) (P : TProg) (hs : List TData) → FlatHeap hs → heap_reach P hs + 3 ≤ n →
     heap_nesting (map (sp_data m) hs) ≤ n
 heap_most n m P [] f le = omega arith
 heap_most n m P (x ∷ hs) f le =
@@ -242,11 +240,11 @@ heap_most n m P (x ∷ hs) f le =
     let b = heap_most n m P hs f.1 (omega (arith, le)) in
     omega (arith, a, b)
 
-pub reached : (m : ℕ) (P : TProg) → Whole P → Accepted P → Flat P → nesting (spilled_above m P) ≤ reach P + 2
+pub reached : (m : ℕ) (P : TProg) → Whole P → Accepted P → Flat P → nesting (spilled_above m P) ≤ reach P + 3
 reached m P w k f =
     let a = blocks_most (reach P + 2) (omega arith) m P (length P.blocks) (length P.heap) P.blocks w.1 k.2 f.0
     (omega arith) in
-    let b = heap_most (reach P + 2) m P P.heap f.1 (omega arith) in
+    let b = heap_most (reach P + 3) m P P.heap f.1 (omega arith) in
     omega (arith, a, b)
 
 pub within_twenty : (m : ℕ) (P : TProg) → Whole P → Accepted P → Flat P → nesting (spilled_above m P) ≤ reach P + 20

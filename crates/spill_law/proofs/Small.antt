@@ -14,9 +14,9 @@ use Rattle.spill_law.specs.Spill.{next, lows, spilled, TypesFew}
 use Rattle.spill_law.specs.Bound.{RegistersUpTo}
 use Rattle.spill_law.specs.Bounded.{Spills}
 use Rattle.spill_law.specs.Correct.{times_in, CountsKept, origin}
-use Rattle.spill_law.specs.Reach.{type_reach, regs_reach, fields_reach, types_reach, value_reach, instr_reach}
-use Rattle.spill_law.specs.Reach.{seq_reach, blocks_reach, data_reach, heap_reach, reach, FlatValue, FlatInstr}
-use Rattle.spill_law.specs.Reach.{FlatSeq, FlatBlocks, FlatData, FlatHeap, Flat}
+use Rattle.t_terms.specs.Flat.{FlatValue, FlatInstr, FlatSeq, FlatBlocks, FlatData, FlatHeap, Flat}
+use Rattle.t_terms.specs.Reach.{type_reach, regs_reach, fields_reach, types_reach}
+use Rattle.spill_law.specs.Reach.{value_reach, instr_reach, seq_reach, blocks_reach, data_reach, heap_reach, reach}
 use Rattle.spill_law.proofs.Standing.{standing_within_entries}
 use Rattle.spill_law.proofs.Typed.{kept_types}
 use Rattle.spill_law.proofs.Lows.{one_low, six_more, six_fit}
@@ -83,11 +83,11 @@ data_most P [] f = omega arith
 data_most P (x ∷ xs) f =
     let a = value_most x.value f.0 in let b = type_most x.ty in let c = data_most P xs f.1 in omega (arith, a, b, c)
 
-heap_most : (P : TProg) (hs : List TData) → FlatHeap hs → heap_nesting hs ≤ heap_reach P hs + 2
+heap_most : (P : TProg) (hs : List TData) → FlatHeap hs → heap_nesting hs ≤ heap_reach P hs + 3
 heap_most P [] f = omega arith
 heap_most P (x ∷ hs) f = let a = data_most P x f.0 in let b = heap_most P hs f.1 in omega (arith, a, b)
 
-whole_most : (P : TProg) → Flat P → nesting P ≤ reach P + 2
+whole_most : (P : TProg) → Flat P → nesting P ≤ reach P + 3
 whole_most P f = let a = blocks_most P P.blocks f.0 in let b = heap_most P P.heap f.1 in omega (arith, a, b)
 
 -- as it is

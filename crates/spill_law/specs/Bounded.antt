@@ -7,7 +7,8 @@ use Rattle.t_rules.specs.Machine.{Place}
 use Rattle.t_terms.specs.Nesting.{nesting}
 use Rattle.spill_law.specs.Bound.{RegistersUpTo}
 use Rattle.spill_law.specs.Correct.{HaltsAlike, CountsKept}
-use Rattle.spill_law.specs.Reach.{reach, Flat}
+use Rattle.t_terms.specs.Flat.{Flat}
+use Rattle.spill_law.specs.Reach.{reach}
 
 -- what holds of a program and one whose places come from its places: accepted and whole, no register above k, the same
 -- meaning, no place executed too often, and a text that is hardly deeper than the types of the program

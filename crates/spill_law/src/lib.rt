@@ -3,14 +3,15 @@
 
 ghost use Rattle.std.specs.Prelude.{ℕ, ◌+◌, ◌≤◌};
 ghost use Rattle.t_terms.specs.Nesting.{nesting};
-ghost use Rattle.spill_law.specs.Reach.{reach, Flat};
+ghost use Rattle.t_terms.specs.Flat.{Flat};
+ghost use Rattle.spill_law.specs.Reach.{reach};
 ghost use Rattle.t_terms.specs.Tree.{TProg};
 ghost use Rattle.t_terms.specs.Whole.{Whole};
 ghost use Rattle.t_rules.specs.Rules.{Accepted};
 ghost use Rattle.spill_law.specs.Spill.{spilled, TypesFew};
 ghost use Rattle.spill_law.specs.Bound.{RegistersUpTo};
 ghost use Rattle.spill_law.specs.Bounded.{Spills};
-ghost use Rattle.spill_law.specs.Laws.{SpilledRunSeldom};
+ghost use Rattle.spill_law.specs.Laws.{SpilledRunSeldom, TypesAreTold, FilesAreTold};
 ghost use Rattle.spill_law.specs.Correct.{HaltsAlike, CountsKept, origin};
 
 /// What is spilled of an accepted program is accepted.
@@ -60,4 +61,10 @@ pub fn few_registers_may_stay()
 /// Where counts are kept and no block of the program is entered more than n times, no place is executed more often.
 pub fn places_run_seldom()
     ensures { SpilledRunSeldom }
+{}
+
+/// The types and files by which the bound is computed are those of the typing rules.
+pub fn types_are_told()
+    ensures types { TypesAreTold }
+    ensures files { FilesAreTold }
 {}

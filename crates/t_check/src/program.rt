@@ -20,8 +20,8 @@ use t_registers::{Labels, Registers, code_parts};
 use t_terms::{Block, Data, TCode, TProgram, Value};
 use t_types::TType;
 
-// The first block takes nothing, and then each data tuple and each block. The table is the caller's, who may ask what is
-// at odds.
+// The first block takes nothing, and then each data tuple and each block. The table is the caller's, who may ask what
+// is at odds.
 pub(crate) fn check_program(
     alloc: Global,
     types: &mut Types,

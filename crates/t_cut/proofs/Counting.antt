@@ -1,5 +1,6 @@
 -- The first part at a place, found by a look at each in turn.
-use Rattle.std.proofs.Common.{◌≡◌, ◌<◌, ◌≤◌, ◌∙◌, ℕ, zero, suc, ◌+◌, List, [], ◌∷◌, length, get_or, take, refl, sym, ap, subst}
+use Rattle.std.proofs.Common.{◌≡◌, ◌<◌, ◌≤◌, ◌∙◌, ℕ, zero, suc, ◌+◌, List, [], ◌∷◌, length, get_or, take, refl, sym, ap}
+use Rattle.std.proofs.Common.{subst}
 use Rattle.std.proofs.Common.{Bool, true, false, ◌||◌, if◌then◌else◌, arith, add-one, Option, Some, None}
 use Rattle.std.proofs.Math.Seq.{take-length}
 use Rattle.idx_core.specs.declared.span.Span.{Span}

@@ -57,7 +57,8 @@ module _ (Q P : TProg) (labels : Labels Q P) (tuples : Tuples Q P) where
         Found (x ∷ xs) zero i n g
     first x xs y ys i n g f h = let e : plain y ≡ h.0 = let z = h.1 in cc in (plain x, refl, f h.0 e h.2)
 
-    found : (bs : List SBlock) (b i n : ℕ) (g : RegTypes) → IsBefore place bs b i → FoundCut (cut_blocks place bs) b i n g →
+    found : (bs : List SBlock) (b i n : ℕ) (g : RegTypes) → IsBefore place bs b i → FoundCut (cut_blocks place bs) b i n
+        g →
         Found bs b i n g
     found [] b i n g before h = absurd before
     found (x ∷ xs) zero i n g before h = go (in_block place x) refl h
@@ -76,5 +77,6 @@ module _ (Q P : TProg) (labels : Labels Q P) (tuples : Tuples Q P) where
 
 pub known_before : KnownBefore
 known_before P place b i n g before h =
-    let labels = labels_alike (cut place P) P (alike_back P.blocks (cut_blocks place P.blocks) (alike_cut place P.blocks)) in
+    let labels = labels_alike (cut place P) P (alike_back P.blocks (cut_blocks place P.blocks)
+    (alike_cut place P.blocks)) in
     found (plain_program (cut place P)) (plain_program P) labels (λ d x e. e) place P.blocks b i n g before h

@@ -1,4 +1,5 @@
--- A program that is cut at a place: what stands before the place is as it was, and each block that would go on behind it
+-- A program that is cut at a place: what stands before the place is as it was, and each block that would go on behind
+-- it
 -- halts there.
 use Rattle.std.specs.Prelude.{pos, map, if◌then◌else◌, List, [], ◌∷◌, ◌++◌}
 use Rattle.idx_core.specs.declared.span.Span.{Span}

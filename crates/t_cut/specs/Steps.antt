@@ -1,5 +1,6 @@
 -- What the steps of cutting a program do. Nothing that is promised of a cut program rests on this file but `IsCount`.
-use Rattle.std.specs.Prelude.{◌≡◌, ◌≤◌, ℕ, zero, suc, length, take, Bool, true, false, Option, Some, None, List, [], ◌∷◌}
+use Rattle.std.specs.Prelude.{◌≡◌, ◌≤◌, ℕ, zero, suc, length, take, Bool, true, false, Option, Some, None, List, []}
+use Rattle.std.specs.Prelude.{◌∷◌}
 use Rattle.idx_core.specs.declared.span.Span.{Span}
 use Rattle.t_terms.specs.Tree.{TInstr}
 use Rattle.t_terms.specs.Spanned.{SBlock}

@@ -96,8 +96,8 @@ fn blocks_to(alloc: Global, blocks: Vec<Block>, place: Span) -> Result<Vec<Block
 }
 
 /// The program cut at a place: each block and each instruction before the first instruction or end that stands there is
-/// as it was, and in its place, and at the start of each block behind it, register 1 is set to 0 and the program halts. An
-/// error is want of memory.
+/// as it was, and in its place, and at the start of each block behind it, register 1 is set to 0 and the program halts.
+/// An error is want of memory.
 pub fn cut(alloc: Global, program: TProgram, place: Span) -> Result<TProgram, OutOfMemory>
     ensures { IfOk result (λ q. spanned_program q ≡ cut place (spanned_program program)) }
 {

@@ -5,7 +5,7 @@ ghost use Rattle.t_rules.specs.Rules.{Accepted};
 ghost use Rattle.a_terms.specs.Program.{program_in, main_in};
 ghost use Rattle.gen_law.specs.Gen.{generated};
 ghost use Rattle.gen_law.specs.Correct.{Keeps};
-ghost use Rattle.gen_law.specs.Packs.{FlatProgram};
+ghost use Rattle.t_terms.specs.Flat.{Flat};
 ghost use Rattle.gen_law.specs.TypesEach.{TypesEach, TWithin};
 
 use crate::program::all_blocks;
@@ -32,7 +32,7 @@ fn whole_program(alloc: Global, program: &AProgram) -> Result<TProgram, OutOfMem
 pub fn generate(alloc: Global, program: &AProgram) -> Result<TProgram, OutOfMemory>
     ensures is { IfOk result (λ r. program_tree r ≡ generated (program_in program.now) (main_in program.now)) }
     ensures accepted { IfOk result (λ r. ∥ Accepted (program_tree r) ∥₁) }
-    ensures flat { IfOk result (λ r. ∥ FlatProgram (program_tree r) ∥₁) }
+    ensures flat { IfOk result (λ r. ∥ Flat (program_tree r) ∥₁) }
     ensures within { IfOk result (λ r. ∥ TypesEach (TWithin 70368744177664 1606 140737488355328) (program_tree r) ∥₁) }
     ensures keeps { IfOk result (λ r. ∥ Keeps (program_in program.now) (main_in program.now) (program_tree r) ∥₁) }
 {

@@ -1,7 +1,9 @@
+pub mod Flat
 pub mod Laws
 pub mod Nesting
 pub mod Read
 pub mod ReadProgram
+pub mod Reach
 pub mod Spanned
 pub mod SpannedLaws
 pub mod Tree

@@ -12,7 +12,7 @@ use Rattle.spill_law.specs.Correct.{origin}
 use Rattle.pipeline.specs.Compilation.{IsCompilationWithin}
 use Rattle.pipeline.specs.Work.{WorkWithin}
 use Rattle.pipeline.proofs.Bounded.{bounded}
-use Rattle.pipeline.proofs.Framed.{flat, types_few, reach_within}
+use Rattle.pipeline.proofs.Framed.{types_few, reach_within}
 use Rattle.pipeline.proofs.Shallow.{shallow}
 use Rattle.pipeline.proofs.Weighing.{framed}
 use Rattle.pipeline.proofs.compiling.compile_within.Goals as goal
@@ -89,7 +89,7 @@ returns-clause-shallow c =
     (∥∥₁_elim c.in_ok-framed.ensures.spills le_prop (λ spills.
     ∥∥₁_elim c.in_ok-made.ensures.flat le_prop (λ packs.
     ∥∥₁_elim c.in_ok-made.ensures.within le_prop (λ within.
-    let x = spills.shallow (flat P packs) in
+    let x = spills.shallow packs in
     let y = reach_within 70368744177664 1606 140737488355328 (omega arith) P within in
     omega (arith, x, y)))))
 

@@ -3,7 +3,7 @@ use Rattle.std.proofs.Math.Logic.{∥∥₁_map}
 use Rattle.t_rules.specs.Rules.{Accepted}
 use Rattle.a_terms.specs.Program.{program_in, main_in}
 use Rattle.gen_law.specs.Correct.{Keeps}
-use Rattle.gen_law.specs.Packs.{FlatProgram}
+use Rattle.t_terms.specs.Flat.{Flat}
 use Rattle.gen_law.specs.TypesEach.{TypesEach, TWithin}
 use Rattle.t_gen.proofs.generation.generate.Goals as goal
 
@@ -19,7 +19,7 @@ returns-clause-flat c =
     let p = program_in c.args.program.now in
     let main = main_in c.args.program.now in
     ∥∥₁_map c.args.program.now.bound
-    (λ b. subst FlatProgram (sym c.in_ok-made.ensures) (c.packs_are_flat.ensures p main b.0.0))
+    (λ b. subst Flat (sym c.in_ok-made.ensures) (c.packs_are_flat.ensures p main b.0.0))
 
 pub returns-clause-within : goal.returns-clause-within
 returns-clause-within c =

@@ -49,5 +49,5 @@ FlatHeap [] = Unit {0}
 FlatHeap (x ∷ xs) = FlatData x × FlatHeap xs
 
 -- in a whole program
-abbrev pub FlatProgram : TProg → Type 0
-FlatProgram P = FlatBlocks P.blocks × FlatHeap P.heap
+abbrev pub Flat : TProg → Type 0
+Flat P = FlatBlocks P.blocks × FlatHeap P.heap

@@ -30,6 +30,7 @@ asked_action other = None
 asked_is : (o : Instruction) → asked o ≡ asked_action (action o)
 unfolding asked_action
 asked_is (code.Malloc d n) = refl
+asked_is (code.Pair d a b) = refl
 asked_is other = refl
 
 asked_instr : (m : PlaceList) (es : List ℕ) (o : Action) (i : EInstr) (r : ESeq) → IsInstr m es o i →

@@ -9,7 +9,7 @@ use Rattle.t_terms.specs.Tree.{TProg}
 use Rattle.t_terms.specs.Whole.{Whole}
 use Rattle.t_rules.specs.Rules.{Accepted}
 use Rattle.t_rules.specs.Machine.{State, Place, Spot, After}
-use Rattle.t_rules.specs.Times.{places, is_spot, Times}
+use Rattle.t_rules.specs.Times.{places, is_spot}
 use Rattle.t_rules.specs.Erase.{ESeq, EThen, EJmp, EHalt, erase_blocks}
 use Rattle.t_collect.specs.declared.word.Word.{Word}
 use Rattle.t_machine.specs.Laid.{size, sizes, Within}
@@ -17,8 +17,8 @@ use Rattle.t_machine.specs.Along.{Ends, later}
 use Rattle.t_machine.specs.ProgramLaws.{ProgramLaws}
 use Rattle.t_machine.specs.Runs.{steps_made}
 use Rattle.t_machine.specs.State.{Shows}
-use Rattle.t_machine.specs.Tables.{last_places, times_in, seq_table, blocks_table, table, AreCounts, FirstCounts}
-use Rattle.t_machine.specs.Tables.{CountsOn, HasTable}
+use Rattle.t_machine.specs.Tables.{last_places, seq_table, blocks_table, table, AreCounts, FirstCounts}
+use Rattle.t_machine.specs.Tables.{CountsOn, HasTable, raised}
 use Rattle.t_machine.specs.declared.code.Code.{Code}
 use Rattle.t_machine.specs.declared.heap.Heap.{Heap}
 use Rattle.t_machine.specs.declared.machine.Ran.{Ran}
@@ -76,10 +76,6 @@ blocks_same f g b [] h = refl
 blocks_same f g b (c ∷ cs) h =
     ap (λ ks. ks ++ blocks_table g (b + 1) cs) (seq_same f g b 0 c (λ j le. h b j (omega arith)))
     ∙ ap (λ ks. seq_table f b 0 c ++ ks) (blocks_same f g (b + 1) cs (λ a j le. h a j (omega arith)))
-
--- the number at a place of a list, one higher
-abbrev raised : List ℕ → ℕ → List ℕ
-raised xs k = set xs k (get_or xs k 0 + 1)
 
 -- behind the table of a block
 raised_behind : (f : Counting) (b i : ℕ) (c : ESeq) (rest : List ℕ) (k : ℕ) →

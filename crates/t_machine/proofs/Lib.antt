@@ -29,3 +29,5 @@ pub mod Stopping
 pub mod Placed
 pub mod Seldom
 pub mod Splitting
+pub mod Joining
+pub mod AtOnce

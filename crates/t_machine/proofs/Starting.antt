@@ -29,6 +29,7 @@ use Rattle.t_collect.specs.Tuples.{starts_from, PointsBelow}
 use Rattle.t_machine.specs.Heap.{IsHeap, IsFresh, Started, AllStarted}
 use Rattle.t_machine.specs.Numbers.{numbers}
 use Rattle.t_machine.specs.Code.{IsCode, all_moved}
+use Rattle.t_machine.specs.Pairs.{ArePairs}
 use Rattle.t_machine.specs.Laid.{IsLaid}
 use Rattle.t_machine.specs.State.{Shows}
 use Rattle.t_collect.specs.declared.word.Word.{Word}
@@ -76,7 +77,8 @@ module _ (x : Heap) (h : EHeap) (is : IsHeap x h) (fresh : IsFresh x)
       e ∙ omega (arith, zero)
 
   below_is : (v : Word) → Started (starts_from 0 h) v → WordBelow (length h) (word v)
-  below_is (Address a) e = subst (λ n. tuple_of a < n) (starts_count 0 h) (started_below (starts_from 0 h) (Address a) e)
+  below_is (Address a) e = subst (λ n. tuple_of a < n) (starts_count 0 h) (started_below (starts_from 0 h) (Address a)
+      e)
   below_is (Int i) e = tt
   below_is (Label l) e = tt
   below_is (Empty n) e = tt
@@ -133,11 +135,12 @@ module _ (x : Heap) (h : EHeap) (is : IsHeap x h) (fresh : IsFresh x)
       }
 
 pub begins : ProgramLaws → (P : TProg) (x : Heap) (ws : List Word) (code : Code) (at : ℕ) → 1 ≤ length P.blocks →
-    IsCode code (erase_blocks P) → IsLaid code (erase_blocks P) → ArePlaces code.places → IsHeap x (erase_heap P) →
-    IsFresh x → AllStarted (starts_from 0 (erase_heap P)) (cells_of x.cells) →
+    IsCode code (erase_blocks P) → IsLaid code (erase_blocks P) → ArePairs code.instructions.items →
+    ArePlaces code.places → IsHeap x (erase_heap P) → IsFresh x →
+    AllStarted (starts_from 0 (erase_heap P)) (cells_of x.cells) →
     AllStarted (starts_from 0 (erase_heap P)) (all_moved code.instructions.items) →
     ws ≡ replicate (length code.places) (Empty 0) → slice_get code.entries.items 0 ≡ Some at → Shows P 0 x ws code at
-begins laws P x ws code at some is laid places heap fresh in_heap in_code words entry =
+begins laws P x ws code at some is laid paired places heap fresh in_heap in_code words entry =
     let b = first_there P.blocks some in
     let S = starts_from 0 (erase_heap P) in
     let count : length (starts_from 0 (erase_heap P)) ≡ x.fixed = ap (λ ss. length ss) (sym heap.1) ∙ sym fresh.fixed in
@@ -159,6 +162,7 @@ begins laws P x ws code at some is laid places heap fresh in_heap in_code words 
       };
       has_code = is;
       laid = laid;
+      paired = paired;
       has_places = places;
       has_heap = heap;
       heap_started = in_heap;
@@ -180,13 +184,15 @@ tuples_of tuples = map (map erase_datum) (data_of tuples)
 
 pub starts : ProgramLaws → (p : TProgram) → 1 ≤ length (blocks_of p.blocks.items) → (lent : List Block) →
     lent ≡ p.blocks.items → (code : Code) → IsCode code (map erase_block (blocks_of lent)) →
-    IsLaid code (map erase_block (blocks_of lent)) → ArePlaces code.places → (n : ℕ) → n ≡ length code.places
+    IsLaid code (map erase_block (blocks_of lent)) → ArePairs code.instructions.items →
+    ArePlaces code.places → (n : ℕ) → n ≡ length code.places
     → (x : Heap) (tuples : List Data) → tuples ≡ p.heap.items → IsHeap x (tuples_of tuples) → IsFresh x
     → (ss : List ℕ) → ss ≡ starts_from 0 (tuples_of tuples) → AllStarted ss (cells_of x.cells) →
     AllStarted ss (all_moved code.instructions.items)
     → (xs : List Word) → xs ≡ [] → (k : ℕ) → k ≡ 0 → (ws : List Word) → ws ≡ take n xs ++ replicate (n - k) (Empty 0) →
     (at : ℕ) → at ≡ get_or code.entries.items 0 at → Shows (program p) 0 x ws code at
-starts laws p some lent same code is laid places n count x tuples all heap fresh ss are in_heap in_code xs none k none_kept ws
+starts laws p some lent same code is laid paired places n count x tuples all heap fresh ss are in_heap in_code xs none k
+    none_kept ws
     words at entry =
     let bs = p.blocks.items in
     let holds = subst (λ (cs : List Block). IsCode code (map erase_block (blocks_of cs))) same is in
@@ -194,7 +200,7 @@ starts laws p some lent same code is laid places n count x tuples all heap fresh
     let entries = first_entry code.places code.entries.items code.instructions.items code.entries.items
     (map erase_block (blocks_of bs)) holds (erased_count (blocks_of bs) some) in
     let begun : ss ≡ starts_from 0 (erase_heap (program p)) = are ∙ ap (λ ys. starts_from 0 (tuples_of ys)) all in
-    begins laws (program p) x ws code at some holds lies places
+    begins laws (program p) x ws code at some holds lies paired places
     (subst (λ (ys : List Data). IsHeap x (tuples_of ys)) all heap) fresh
     (subst (λ zs. AllStarted zs (cells_of x.cells)) begun in_heap)
     (subst (λ zs. AllStarted zs (all_moved code.instructions.items)) begun in_code)

@@ -35,6 +35,7 @@ action (code.BnzRegister s k) = Bnz s (target.Register k)
 action (code.BnzEntry s n) = Bnz s (target.Entry n)
 action (code.Ld d s f) = Ld d s f
 action (code.Malloc d n) = Malloc d n
+action (code.Pair d a b) = Malloc d 2
 action (code.MovRegister d s) = Mov d (operand.Register s)
 action (code.MovInt d i) = Mov d (operand.Int i)
 action (code.MovLabel d l) = Mov d (operand.Label l)

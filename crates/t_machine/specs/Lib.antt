@@ -2,10 +2,12 @@ pub mod Action
 pub mod Along
 pub mod Code
 pub mod Collected
+pub mod Filling
 pub mod Heap
 pub mod Laid
 pub mod Lowering
 pub mod Numbers
+pub mod Pairs
 pub mod Places
 pub mod Placing
 pub mod ProgramLaws

@@ -1,5 +1,6 @@
 -- How often each place of a program is executed, as a table of its places.
 use Rattle.std.specs.Prelude.{◌≡◌, ℕ, zero, suc, ◌+◌, ◌<◌, List, [], ◌∷◌, ◌++◌, length, count_by}
+use Rattle.std.specs.Prelude.{slice_set, slice_index}
 use Rattle.std.specs.List.{sum}
 use Rattle.t_terms.specs.Tree.{TProg}
 use Rattle.t_terms.specs.Whole.{Whole}
@@ -52,6 +53,10 @@ pub record CountsOn (x : Heap) (ws : List Word) (code : Code) (at k : ℕ) (xs y
   pub counts : (P : TProg) → Whole P → Accepted P → (n m : ℕ) → Shows P m x ws code at → AreCounts P n m xs →
       AreCounts P (n + k) (m + k) ys
   pub sum : sum ys ≡ sum xs + k
+
+-- a table with one more at a place
+abbrev pub raised : List ℕ → ℕ → List ℕ
+raised xs k = slice_set xs k (slice_index xs k + 1)
 
 -- the table has a place for each of the code, and there is room for that many more in each
 pub record HasTable (code : Code) (more : ℕ) (xs : List ℕ) : Type 0 where

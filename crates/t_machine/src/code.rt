@@ -31,7 +31,8 @@ pub(crate) enum Target {
 }
 
 /// An instruction, or the end of a block, with a variant for each kind of operand. A register is the place of its word,
-/// and `to` is where a block begins in the code. The register of `Halt` is register 1.
+/// and `to` is where a block begins in the code. The register of `Halt` is register 1. A `Pair` is a `Malloc` of two
+/// fields that the next two instructions fill, from the registers `first` and `second`.
 #[derive(Clone, Copy)]
 pub(crate) enum Instruction {
     AddRegister { rd: u32, rs: u32, right: u32 },
@@ -44,6 +45,7 @@ pub(crate) enum Instruction {
     BnzEntry { r: u32, to: usize },
     Ld { rd: u32, rs: u32, field: usize },
     Malloc { rd: u32, size: usize },
+    Pair { rd: u32, first: u32, second: u32 },
     MovRegister { rd: u32, rs: u32 },
     MovInt { rd: u32, int: i64 },
     MovLabel { rd: u32, label: usize },

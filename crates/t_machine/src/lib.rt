@@ -10,6 +10,7 @@ mod heap;
 mod laws;
 mod loading;
 mod machine;
+mod pairs;
 mod places;
 mod placing;
 mod resuming;

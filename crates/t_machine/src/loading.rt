@@ -17,6 +17,7 @@ ghost use Rattle.t_machine.specs.Action.{action, data_word, moved_data};
 ghost use Rattle.t_machine.specs.Code.{IsBase, IsNumber, IsTarget, IsInstr, IsEnd, IsCode, all_moved};
 ghost use Rattle.t_machine.specs.Laid.{size, begins, Adds, InBase, InInstr, InBlock, IsLaid, IsNamed};
 ghost use Rattle.t_machine.specs.Lowering.{IsFilled};
+ghost use Rattle.t_machine.specs.Pairs.{ArePairs};
 ghost use Rattle.t_machine.specs.Room.{most_tuples, most_fields, SameCaps, IsUncapped};
 ghost use Rattle.t_machine.specs.Runs.{Stands};
 
@@ -24,6 +25,7 @@ use crate::code::{Code, Instruction, Number, Operand, Target};
 use crate::heap::Heap;
 use crate::laws::programs_keep_laws;
 use crate::machine::Machine;
+use crate::pairs::join_pairs;
 use crate::places::Places;
 use crate::starts::{data_address, load_starts, sum};
 use idx_core::{OutOfMemory, Span};
@@ -47,7 +49,7 @@ pub fn load(alloc: Global, program: &Checked) -> Result<Machine, OutOfMemory>
     programs_keep_laws();
     let program = program.program();
     let starts = load_starts(alloc, &program.heap)?;
-    let code = load_blocks(alloc, &program.blocks, &starts)?;
+    let code = load_code(alloc, &program.blocks, &starts)?;
     let count = code.places.len();
     let mut registers = Vec::new(alloc);
     registers.resize(count, Word::Empty(0))?;
@@ -118,7 +120,21 @@ fn load_word(v: &Value, starts: &[u32]) -> Result<Word, OutOfMemory>
     }
 }
 
-// The code of the blocks.
+// The code of the blocks, in which pairs are joined.
+fn load_code(alloc: Global, blocks: &[Block], starts: &[u32]) -> Result<Code, OutOfMemory>
+    requires { (p : ℕ) × WellFormedBlocks p (length starts.now) (blocks_of blocks.now) }
+    ensures code { IfOk result (λ x. IsCode x (map erase_block (blocks_of blocks.now))) }
+    ensures laid { IfOk result (λ x. IsLaid x (map erase_block (blocks_of blocks.now))) }
+    ensures named { IfOk result (λ x. IsNamed x (map erase_block (blocks_of blocks.now))) }
+    ensures started { IfOk result (λ x. AllStarted starts.now (all_moved x.instructions.items)) }
+    ensures paired { IfOk result (λ x. ArePairs x.instructions.items) }
+{
+    let mut code = load_blocks(alloc, blocks, starts)?;
+    join_pairs(&mut code.instructions);
+    Ok(code)
+}
+
+// The code of the blocks, instruction by instruction.
 fn load_blocks(alloc: Global, blocks: &[Block], starts: &[u32]) -> Result<Code, OutOfMemory>
     requires { (p : ℕ) × WellFormedBlocks p (length starts.now) (blocks_of blocks.now) }
     ensures code { IfOk result (λ x. IsCode x (map erase_block (blocks_of blocks.now))) }

@@ -16,8 +16,8 @@ use Rattle.t_terms.specs.Whole.{WellFormedBlocks, WellFormedHeap}
 use Rattle.t_machine.proofs.There.{data_count}
 use Rattle.t_machine.proofs.loading.load.Goals as goal
 
-pub load_blocks-requires : goal.load_blocks-requires
-load_blocks-requires c =
+pub load_code-requires : goal.load_code-requires
+load_code-requires c =
     let p = c.program-program.result.now in
     let P = program p in
     let count = data_count p.heap.items c.in_ok-starts.starts.items (c.in_ok-starts.ensures
@@ -50,6 +50,7 @@ invariant_of-result c =
     ∙ ap (λ (ds : List Data). starts_from 0 (tuples_of ds)) (c.deref.ensures.value ∙ sym c.deref-4.ensures.value) in
     let shows = starts c.programs_keep_laws.ensures p p.whole.0 c.deref-2.result.now
     c.deref-2.ensures.value c.in_ok-code.code c.in_ok-code.ensures.code c.in_ok-code.ensures.laid
+    c.in_ok-code.ensures.paired
     c.len-count.ensures.places
     c.len-count.result c.len-count.ensures.len c.in_ok-heap.heap c.deref-4.result.now c.deref-4.ensures.value
     c.in_ok-heap.ensures.heap c.in_ok-heap.ensures.fresh ss starts_are
@@ -70,6 +71,7 @@ returns-clause-stands c =
     ∙ ap (λ (ds : List Data). starts_from 0 (tuples_of ds)) (c.deref.ensures.value ∙ sym c.deref-4.ensures.value) in
     let shows = starts c.programs_keep_laws.ensures p p.whole.0 c.deref-2.result.now
     c.deref-2.ensures.value c.in_ok-code.code c.in_ok-code.ensures.code c.in_ok-code.ensures.laid
+    c.in_ok-code.ensures.paired
     c.len-count.ensures.places
     c.len-count.result c.len-count.ensures.len c.in_ok-heap.heap c.deref-4.result.now c.deref-4.ensures.value
     c.in_ok-heap.ensures.heap c.in_ok-heap.ensures.fresh ss starts_are

@@ -1,7 +1,6 @@
 // The description of the command line, as `clap` takes it.
-ghost use Rattle.std.specs.Prelude.{◌≡◌, IfOk, false, true};
-ghost use Rattle.std.specs.Result.{IsOkAnd};
-ghost use Rattle.clap.specs.Words.{app_of, rule_of, with_subcommand};
+ghost use Rattle.std.specs.Prelude.{◌≡◌, IfOk, codes, false, true};
+ghost use Rattle.clap.specs.Words.{App, Rule, app_of, new_app, rule_of, with_rule, with_subcommand};
 ghost use Rattle.words.specs.Description.{file_rule, number_rule, registers_rule, compile_app, check_app, run_app};
 ghost use Rattle.words.specs.Description.{typeof_app, eval_app, gen_app, upgrade_app, trace_app};
 ghost use Rattle.words.specs.Description.{cost_app, explain_app, form_rule, listing_app, show_app};
@@ -60,124 +59,178 @@ fn form<'a>(alloc: Global) -> Arg<'a>
         .action(ArgAction::Set)
 }
 
+// A command without its arguments.
+fn named<'a>(alloc: Global, name: &'a str, about: &'a str) -> Command<'a>
+    ensures { app_of result ≡ new_app name.entry.now }
+{
+    Command::new(alloc, name).about(about)
+}
+
+// A command that reads a file.
+fn reads<'a>(alloc: Global, name: &'a str, about: &'a str) -> Result<Command<'a>, AllocError>
+    ensures { IfOk result (λ c. app_of c ≡ with_rule (new_app name.entry.now) (file_rule (codes "IN"))) }
+{
+    named(alloc, name, about).arg(file(alloc, "IN", "The file to read"))
+}
+
+// The file that a command writes.
+fn written<'a>(alloc: Global) -> Arg<'a>
+    ensures rule { rule_of result ≡ file_rule (codes "OUT") }
+    ensures local { result.global ≡ false }
+{
+    file(alloc, "OUT", "The file to write over")
+}
+
+// A command with one more argument.
+fn with<'a>(
+    command: Result<Command<'a>, AllocError>,
+    arg: Arg<'a>,
+) -> Result<Command<'a>, AllocError>
+    ensures { (above : App) (rule : Rule) → IfOk command.entry (λ c. app_of c ≡ above) →
+        rule_of arg.entry ≡ rule → arg.entry.global ≡ false → IfOk result (λ c. app_of c ≡ with_rule above rule) }
+{
+    command?.arg(arg)
+}
+
 fn compile_words<'a>(alloc: Global) -> Result<Command<'a>, AllocError>
     ensures { IfOk result (λ c. app_of c ≡ compile_app) }
 {
-    Command::new(alloc, "compile")
-        .about("Compiles the source text IN into the TAL text OUT")
-        .arg(file(alloc, "IN", "The file to read"))?
-        .arg(file(alloc, "OUT", "The file to write over"))?
-        .arg(registers(alloc))
+    let command = reads(
+        alloc,
+        "compile",
+        "Compiles the source text IN into the TAL text OUT",
+    );
+    let command = with(command, written(alloc));
+    with(command, registers(alloc))
 }
 
 fn check_words<'a>(alloc: Global) -> Result<Command<'a>, AllocError>
     ensures { IfOk result (λ c. app_of c ≡ check_app) }
 {
-    Command::new(alloc, "check")
-        .about("Checks the TAL text IN")
-        .arg(file(alloc, "IN", "The file to read"))
+    reads(alloc, "check", "Checks the TAL text IN")
 }
 
 fn run_words<'a>(alloc: Global) -> Result<Command<'a>, AllocError>
     ensures { IfOk result (λ c. app_of c ≡ run_app) }
 {
-    Command::new(alloc, "run")
-        .about("Runs the TAL text IN for at most N instructions")
-        .arg(file(alloc, "IN", "The file to read"))?
-        .arg(number(alloc, "fuel", "The most instructions to make"))
+    let command = reads(
+        alloc,
+        "run",
+        "Runs the TAL text IN for at most N instructions",
+    );
+    with(
+        command,
+        number(alloc, "fuel", "The most instructions to make"),
+    )
 }
 
 fn typeof_words<'a>(alloc: Global) -> Result<Command<'a>, AllocError>
     ensures { IfOk result (λ c. app_of c ≡ typeof_app) }
 {
-    Command::new(alloc, "typeof")
-        .about("Shows the type of the source text IN")
-        .arg(file(alloc, "IN", "The file to read"))
+    reads(alloc, "typeof", "Shows the type of the source text IN")
 }
 
 fn eval_words<'a>(alloc: Global) -> Result<Command<'a>, AllocError>
     ensures { IfOk result (λ c. app_of c ≡ eval_app) }
 {
-    Command::new(alloc, "eval")
-        .about("Evaluates the source text IN within N turns")
-        .arg(file(alloc, "IN", "The file to read"))?
-        .arg(number(alloc, "turns", "The most turns to take"))
+    let command = reads(alloc, "eval", "Evaluates the source text IN within N turns");
+    with(command, number(alloc, "turns", "The most turns to take"))
 }
 
 fn gen_words<'a>(alloc: Global) -> Result<Command<'a>, AllocError>
     ensures { IfOk result (λ c. app_of c ≡ gen_app) }
 {
-    Command::new(alloc, "gen")
-        .about("Writes the source of the seed N to OUT, compiled, evaluated, checked and run")
-        .arg(file(alloc, "OUT", "The file to write over"))?
-        .arg(number(alloc, "seed", "The seed"))
+    let about = "Writes the source of the seed N to OUT, compiled, evaluated, checked and run";
+    let command = with(Ok(named(alloc, "gen", about)), written(alloc));
+    with(command, number(alloc, "seed", "The seed"))
 }
 
 fn upgrade_words<'a>(alloc: Global) -> Result<Command<'a>, AllocError>
     ensures { IfOk result (λ c. app_of c ≡ upgrade_app) }
 {
-    Command::new(alloc, "upgrade")
-        .about("Writes the program of the TAL text IN to OUT in the newest version of the language")
-        .arg(file(alloc, "IN", "The file to read"))?
-        .arg(file(alloc, "OUT", "The file to write over"))
+    let command = reads(
+        alloc,
+        "upgrade",
+        "Writes the program of the TAL text IN to OUT in the newest version of the language",
+    );
+    with(command, written(alloc))
 }
 
 fn trace_words<'a>(alloc: Global) -> Result<Command<'a>, AllocError>
     ensures { IfOk result (λ c. app_of c ≡ trace_app) }
 {
-    Command::new(alloc, "trace")
-        .about(
-            "Runs the TAL text IN for at most --to instructions, and shows each state from --from on",
-        )
-        .arg(file(alloc, "IN", "The file to read"))?
-        .arg(number(
+    let command = reads(
+        alloc,
+        "trace",
+        "Runs the TAL text IN for at most --to instructions, and shows each state from --from on",
+    );
+    let command = with(
+        command,
+        number(
             alloc,
             "from",
             "The number of instructions before the first state that is shown",
-        ))?
-        .arg(number(alloc, "to", "The most instructions to make"))
+        ),
+    );
+    with(
+        command,
+        number(alloc, "to", "The most instructions to make"),
+    )
 }
 
 pub(crate) fn show_words<'a>(alloc: Global) -> Result<Command<'a>, AllocError>
     ensures { IfOk result (λ c. app_of c ≡ show_app) }
 {
-    Command::new(alloc, "show")
-        .about("Shows a form of the program of the source text IN")
-        .arg(file(alloc, "IN", "The file to read"))?
-        .arg(form(alloc))
+    let command = reads(
+        alloc,
+        "show",
+        "Shows a form of the program of the source text IN",
+    );
+    with(command, form(alloc))
 }
 
 fn explain_words<'a>(alloc: Global) -> Result<Command<'a>, AllocError>
     ensures { IfOk result (λ c. app_of c ≡ explain_app) }
 {
-    Command::new(alloc, "explain")
-        .about("Shows what is wrong with the source text or TAL text IN")
-        .arg(file(alloc, "IN", "The file to read"))
+    reads(
+        alloc,
+        "explain",
+        "Shows what is wrong with the source text or TAL text IN",
+    )
 }
 
 fn cost_words<'a>(alloc: Global) -> Result<Command<'a>, AllocError>
     ensures { IfOk result (λ c. app_of c ≡ cost_app) }
 {
-    Command::new(alloc, "cost")
-        .about("Runs the TAL text IN for at most N instructions, and shows what the run cost")
-        .arg(file(alloc, "IN", "The file to read"))?
-        .arg(number(alloc, "fuel", "The most instructions to make"))
+    let command = reads(
+        alloc,
+        "cost",
+        "Runs the TAL text IN for at most N instructions, and shows what the run cost",
+    );
+    with(
+        command,
+        number(alloc, "fuel", "The most instructions to make"),
+    )
 }
 
 fn listing_words<'a>(alloc: Global) -> Result<Command<'a>, AllocError>
     ensures { IfOk result (λ c. app_of c ≡ listing_app) }
 {
-    Command::new(alloc, "listing")
-        .about("Shows the TAL text IN with the types of the registers at each place")
-        .arg(file(alloc, "IN", "The file to read"))
+    reads(
+        alloc,
+        "listing",
+        "Shows the TAL text IN with the types of the registers at each place",
+    )
 }
 
 fn types_words<'a>(alloc: Global) -> Result<Command<'a>, AllocError>
     ensures { IfOk result (λ c. app_of c ≡ types_app) }
 {
-    Command::new(alloc, "types")
-        .about("Shows the names that the source text IN binds, with their types")
-        .arg(file(alloc, "IN", "The file to read"))
+    reads(
+        alloc,
+        "types",
+        "Shows the names that the source text IN binds, with their types",
+    )
 }
 
 // The command line without its subcommands: one must be given, and there is no `help` among them.
@@ -191,33 +244,31 @@ fn bare_words<'a>(alloc: Global) -> Command<'a>
 
 // The command line with one more subcommand, where no argument of that is global.
 fn with_words<'a>(
-    all: Command<'a>,
+    all: Result<Command<'a>, AllocError>,
     sub: Result<Command<'a>, AllocError>,
 ) -> Result<Command<'a>, AllocError>
-    ensures { IfOk result (λ c. IsOkAnd sub.entry (λ s. (app_of s).top.is_plain ≡ true →
-        app_of c ≡ with_subcommand (app_of all.entry) (app_of s).top)) }
+    ensures { (above below : App) → IfOk all.entry (λ c. app_of c ≡ above) →
+        IfOk sub.entry (λ c. app_of c ≡ below) → below.top.is_plain ≡ true →
+        IfOk result (λ c. app_of c ≡ with_subcommand above below.top) }
 {
-    let sub = sub?;
-    let all = all.subcommand(sub)?;
-    Ok(all)
+    all?.subcommand(sub?)
 }
 
 // The whole description.
 pub(crate) fn talc_words<'a>(alloc: Global) -> Result<Command<'a>, AllocError>
     ensures { IfOk result (λ c. app_of c ≡ talc_app) }
 {
-    let compile = with_words(bare_words(alloc), compile_words(alloc))?;
-    let check = with_words(compile, check_words(alloc))?;
-    let run = with_words(check, run_words(alloc))?;
-    let type_of = with_words(run, typeof_words(alloc))?;
-    let eval = with_words(type_of, eval_words(alloc))?;
-    let generate = with_words(eval, gen_words(alloc))?;
-    let upgrade = with_words(generate, upgrade_words(alloc))?;
-    let trace = with_words(upgrade, trace_words(alloc))?;
-    let show = with_words(trace, show_words(alloc))?;
-    let explain = with_words(show, explain_words(alloc))?;
-    let cost = with_words(explain, cost_words(alloc))?;
-    let listing = with_words(cost, listing_words(alloc))?;
-    let all = with_words(listing, types_words(alloc))?;
-    Ok(all)
+    let all = with_words(Ok(bare_words(alloc)), compile_words(alloc));
+    let all = with_words(all, check_words(alloc));
+    let all = with_words(all, run_words(alloc));
+    let all = with_words(all, typeof_words(alloc));
+    let all = with_words(all, eval_words(alloc));
+    let all = with_words(all, gen_words(alloc));
+    let all = with_words(all, upgrade_words(alloc));
+    let all = with_words(all, trace_words(alloc));
+    let all = with_words(all, show_words(alloc));
+    let all = with_words(all, explain_words(alloc));
+    let all = with_words(all, cost_words(alloc));
+    let all = with_words(all, listing_words(alloc));
+    with_words(all, types_words(alloc))
 }

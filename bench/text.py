@@ -1,20 +1,25 @@
-"""Reading and writing of assembly texts: `tal_copy` beside wabt's wat2wasm on a text of like size, in one run.
+"""Reading and writing of assembly texts: `talc` beside wabt's wat2wasm on a text of like size, in one run, where that
+is installed.
 
-`tal_copy` reads a text, and writes the text of its program; wat2wasm reads a text and writes binary. What is wanted: at
-most 2.2 times the time for twice the text, and at most wat2wasm's time a byte. A row that misses says so.
+`talc check` of a text whose last name is not bound does no more than read it, `talc upgrade` reads, checks and writes
+one, and takes more than `talc check` by the writing alone; wat2wasm reads a text and writes binary. What is wanted of
+reading and writing: at most 2.2 times the time for twice the text, and at most wat2wasm's time a byte. A row that misses
+says so. With a number as its one word it takes texts of that many bytes in place of 10000000, for a first look.
 """
+import shutil
 import sys
 from pathlib import Path
 
-from measure import ROOT, available, best, folder, ratio
+from measure import best, folder, program, ratio
 
-COPY = ROOT / "crates" / "tal_copy" / "out" / "tal_copy"
-BLOCK = 40
+BLOCK, SIZE = 40, 10_000_000
 MOST_TIMES, MOST_OF_TEXT = 2.2, 1
+# The status of a text that is refused.
+REFUSED = 1
 
 
-def assembly(size):
-    """Blocks of 40 instructions that jump to one another, at least so many bytes."""
+def assembly(size, last):
+    """Blocks of 40 instructions that jump to one another, and the last one to this label, at least so many bytes."""
     body = ["malloc r3[int, <int^1, int^0>, all[a]{r1:a, r2:some b. b}]", "mov r4, pack[int, 7] as some c. c"]
     body += ["add r1, r1, 12345", "mul r1, r1, r1", "mov r5, r4"] * ((BLOCK - 3) // 3)
     lines, written, count = ["tal 1"], 0, 0
@@ -25,6 +30,7 @@ def assembly(size):
         lines.append(f"L{count}: code[]{header}.\n{first}{block}\njmp L{max(count, 1)}")
         written += len(lines[-1]) + 1
         count += 1
+    lines.append(f"L{count}: code[]{{r1:int}}.\njmp {last}")
     if count == 1:
         lines.append("L1: code[]{r1:int}.\nhalt[int]")
     return "\n".join(lines) + "\n"
@@ -40,28 +46,37 @@ def module(size):
     return "\n".join(lines + [")"]) + "\n"
 
 
-def main():
-    if not COPY.exists():
-        sys.exit(f"{COPY} is missing: run rt run in crates/tal_copy once, which builds it")
-    to_wasm = available("wat2wasm")
-    with folder() as place:
-        def copied(size):
-            text = assembly(size)
-            Path(f"{place}/p.tal").write_text(text)
-            run = best([str(COPY), f"{place}/p.tal", f"{place}/q.tal"])
-            return len(text), run
+class Copied:
+    """What it takes to read a text and to write it again: seconds, and how many of them are for reading."""
 
-        size, whole = copied(10_000_000)
-        _, half = copied(5_000_000)
-        wat = module(10_000_000)
-        Path(f"{place}/p.wat").write_text(wat)
-        theirs = best([to_wasm, f"{place}/p.wat", "-o", f"{place}/p.wasm"])
+    def __init__(self, talc, place, size):
+        whole, cut = f"{place}/p.tal", f"{place}/cut.tal"
+        text = assembly(size, "L1")
+        Path(whole).write_text(text, encoding="ascii")
+        Path(cut).write_text(assembly(size, "none"), encoding="ascii")
+        read = best([talc, "check", cut], wanted=(REFUSED, None))
+        checked = best([talc, "check", whole])
+        upgraded = best([talc, "upgrade", whole, f"{place}/q.tal"])
+        self.size, self.peak, self.reading = len(text), upgraded.peak, read.seconds
+        self.seconds = self.rests = read.seconds + max(0.0, upgraded.seconds - checked.seconds)
+
+
+def main(size):
+    talc, to_wasm = program(), shutil.which("wat2wasm")
+    with folder() as place:
+        whole, half = Copied(talc, place, size), Copied(talc, place, size // 2)
         print(
-            f"tal_copy, {size} bytes: {whole.seconds:.2f} s, {size / whole.seconds:.2e} bytes a second, "
-            f"{whole.peak / 1e6:.0f} MB"
+            f"{whole.size} bytes: {whole.seconds:.2f} s, {whole.reading:.2f} of them to read, "
+            f"{whole.size / whole.seconds:.2e} bytes a second; at most {whole.peak / 1e6:.0f} MB with the check"
         )
         print(f"times the half: {ratio(whole, half, MOST_TIMES)}")
-        print(f"times wat2wasm's time a byte: {ratio(whole, theirs, MOST_OF_TEXT, size / len(wat))}")
+        if not to_wasm:
+            print("wat2wasm is not installed, so nothing is beside it")
+            return
+        wat = module(size)
+        Path(f"{place}/p.wat").write_text(wat, encoding="ascii")
+        theirs = best([to_wasm, f"{place}/p.wat", "-o", f"{place}/p.wasm"])
+        print(f"times wat2wasm's time a byte: {ratio(whole, theirs, MOST_OF_TEXT, whole.size / len(wat))}")
 
 
-main()
+main(int(sys.argv[1]) if len(sys.argv) > 1 else SIZE)

@@ -1,2 +1,1 @@
 mod FewNames
-mod Wide

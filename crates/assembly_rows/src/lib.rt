@@ -1,5 +1,5 @@
-//! Worked examples of the assembly side: types, tokens, reading, writing, running, and programs that are kept within
-//! some registers. It holds tests alone.
+//! Worked examples of the assembly side: a run in parts, memory that is reserved, and programs that are kept within some
+//! registers. It holds tests alone.
 #![tactic(auto)]
 
 #[cfg(test)]

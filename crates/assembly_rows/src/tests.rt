@@ -1,12 +1,7 @@
-// Assembly texts, types and programs.
+// The machine, and programs by hand; calls on trees that no command makes.
 mod by_hand;
-mod data;
 mod few_names;
-mod grammar;
-mod interning;
-mod lexing;
 mod programs;
-mod reading;
 mod running;
 mod terms;
 mod types;

@@ -1,6 +1,4 @@
-// Terms that are larger than those of any source text.
-mod checking;
-mod evaluating;
+// Terms that nest deeper than any text may; calls on types that no pass makes.
+mod deep;
 mod forms;
-mod passing;
-mod stacks;
+mod scoped;

@@ -1,18 +1,22 @@
 // The commands of a row, each with what is wanted of it.
 use crate::content::is_as_said;
-use crate::files::{are_left, failing, files_before};
+use crate::files::{are_left, failing, files_before, is_scant};
 use crate::keys::STEP;
 use crate::row::{Row, status_of, table_of};
+use crate::scant::{RowFiles, RowSink};
 use crate::text::bytes_of;
 use crate::unlike::{Unlike, is_number, is_same, part_unlike};
-use io_core::{MemFiles, MemSink};
+use io_core::MemSink;
 use std::alloc::{AllocError, Global};
 use talc_core::talc;
 use toml::{Table, Value};
 
-// The words of a command line.
-fn words_of(alloc: Global, line: &str) -> Result<Vec<String>, AllocError> {
+// The words of a command line behind the program's own name; where there is no line, there are no words at all.
+fn words_of(alloc: Global, line: Option<&str>) -> Result<Vec<String>, AllocError> {
     let mut words = Vec::new(alloc);
+    let Some(line) = line else {
+        return Ok(words);
+    };
     words.push(String::from_str(alloc, "talc")?)?;
     for word in line.split_whitespace() {
         words.push(String::from_str(alloc, word)?)?;
@@ -23,7 +27,7 @@ fn words_of(alloc: Global, line: &str) -> Result<Vec<String>, AllocError> {
 // A command, and what is wanted of it.
 #[derive(Clone, Copy)]
 struct Command<'a> {
-    words: &'a str,
+    words: Option<&'a str>,
     status: u8,
     out: Option<&'a Value>,
     err: Option<&'a Value>,
@@ -33,8 +37,8 @@ struct Command<'a> {
 // The two outputs of a command.
 #[derive(Drop)]
 struct Outputs {
-    out: MemSink,
-    err: MemSink,
+    out: RowSink,
+    err: RowSink,
 }
 
 // What is wanted on the error output.
@@ -62,8 +66,8 @@ fn is_answer(
     outputs: &Outputs,
     status: u8,
 ) -> Result<(), Unlike> {
-    is_told(alloc, command, outputs.err.taken())?;
-    is_shown(alloc, command, outputs.out.taken())?;
+    is_told(alloc, command, outputs.err.sink.taken())?;
+    is_shown(alloc, command, outputs.out.sink.taken())?;
     is_number(
         alloc,
         "status",
@@ -75,7 +79,7 @@ fn is_answer(
 // Does the command over the files and these outputs.
 fn does(
     alloc: Global,
-    files: &mut MemFiles,
+    files: &mut RowFiles,
     mut outputs: Outputs,
     command: &Command,
 ) -> Result<(), Unlike> {
@@ -92,7 +96,7 @@ fn step_of(step: &Table) -> Result<Command<'_>, Unlike> {
     };
     match words {
         Some(words) => Ok(Command {
-            words,
+            words: Some(words),
             status: status_of(step.get("status"))?,
             out: step.get("out"),
             err: step.get("err"),
@@ -102,15 +106,23 @@ fn step_of(step: &Table) -> Result<Command<'_>, Unlike> {
     }
 }
 
-fn does_step(alloc: Global, files: &mut MemFiles, step: &Value) -> Result<(), Unlike> {
+// An output whose puts fail that the list names.
+fn output(alloc: Global, failing: Vec<(u64, u64)>, scant: bool) -> RowSink {
+    RowSink {
+        sink: MemSink::new(alloc, failing),
+        scant,
+    }
+}
+
+fn does_step(alloc: Global, files: &mut RowFiles, step: &Value) -> Result<(), Unlike> {
     let command = step_of(table_of(step, STEP)?)?;
-    let out = MemSink::new(alloc, Vec::new(alloc));
-    let err = MemSink::new(alloc, Vec::new(alloc));
+    let out = output(alloc, Vec::new(alloc), false);
+    let err = output(alloc, Vec::new(alloc), false);
     does(alloc, files, Outputs { out, err }, &command)
 }
 
 // Does the commands before that of the row.
-fn does_first(alloc: Global, files: &mut MemFiles, row: &Row) -> Result<(), Unlike> {
+fn does_first(alloc: Global, files: &mut RowFiles, row: &Row) -> Result<(), Unlike> {
     for step in row.items("first")? {
         does_step(alloc, files, step)?;
     }
@@ -119,32 +131,39 @@ fn does_first(alloc: Global, files: &mut MemFiles, row: &Row) -> Result<(), Unli
 
 fn command_of<'a>(row: &Row<'a>) -> Result<Command<'a>, Unlike> {
     Ok(Command {
-        words: row.string("words", "")?,
+        words: if row.flag("bare")? {
+            None
+        } else {
+            Some(row.string("words", "")?)
+        },
         status: status_of(row.said("status"))?,
         out: row.said("out"),
         err: row.said("err"),
-        any_err: row.any_err()?,
+        any_err: row.flag("any_err")?,
     })
 }
 
 // Does the command of the row.
-fn does_own(alloc: Global, files: &mut MemFiles, row: &Row) -> Result<(), Unlike> {
+fn does_own(alloc: Global, files: &mut RowFiles, row: &Row) -> Result<(), Unlike> {
     let command = command_of(row)?;
-    let out = MemSink::new(alloc, failing(alloc, row, "out")?);
-    let err = MemSink::new(alloc, failing(alloc, row, "err")?);
+    let out = output(alloc, failing(alloc, row, "out")?, is_scant(row, "out")?);
+    let err = output(alloc, failing(alloc, row, "err")?, is_scant(row, "err")?);
     does(alloc, files, Outputs { out, err }, &command)
 }
 
 // The row holds over these files.
-fn holds(alloc: Global, files: &mut MemFiles, row: &Row) -> Result<(), Unlike> {
+fn holds(alloc: Global, files: &mut RowFiles, row: &Row) -> Result<(), Unlike> {
     does_first(alloc, files, row)?;
     does_own(alloc, files, row)?;
-    are_left(alloc, files, row)?;
-    is_as_said(alloc, files, row)
+    are_left(alloc, &files.files, row)?;
+    is_as_said(alloc, &files.files, row)
 }
 
 /// The row holds.
 pub fn check(alloc: Global, row: &Row) -> Result<(), Unlike> {
-    let mut files = files_before(alloc, row)?;
+    let mut files = RowFiles {
+        files: files_before(alloc, row)?,
+        scant: is_scant(row, "files")?,
+    };
     holds(alloc, &mut files, row)
 }

@@ -4,7 +4,7 @@ use crate::keys::PART;
 use crate::row::{Row, table_of};
 use crate::text::text_of;
 use crate::unlike::{Unlike, is_number, is_same, part_unlike};
-use crate::value::{count, names, registers};
+use crate::value::{count, names, numbered};
 use io_core::MemFiles;
 use std::alloc::{AllocError, Global};
 use std::mem;
@@ -67,8 +67,9 @@ fn is_counted(alloc: Global, files: &MemFiles, said: &Value) -> Result<(), Unlik
     is_number(alloc, word, wanted, count_of(&words, word.as_bytes()))
 }
 
+// The greatest register of a file lies between two numbers.
 fn has_registers(alloc: Global, files: &MemFiles, said: &Value) -> Result<(), Unlike> {
-    let Some((file, least, most)) = registers(said) else {
+    let Some((file, least, most)) = numbered(said) else {
         return Err(Unlike::Form);
     };
     let content = held(alloc, files, file)?;

@@ -19,14 +19,32 @@ fn add_calls(failing: &mut Vec<(u64, u64)>, calls: &[Value]) -> Result<(), Unlik
     Ok(())
 }
 
+// What is said of the calls that fail, of the files or of an output.
+fn said_of<'a>(row: &Row<'a>, what: &str) -> Result<Option<&'a Value>, Unlike> {
+    match row.fails()? {
+        Some(fails) => Ok(fails.get(what)),
+        None => Ok(None),
+    }
+}
+
+// Whether memory is what the calls want.
+fn is_memory(said: &Value) -> bool {
+    said.as_str() == Some("memory")
+}
+
+/// Whether the files, or an output, find no memory.
+pub fn is_scant(row: &Row, what: &str) -> Result<bool, Unlike> {
+    match said_of(row, what)? {
+        Some(said) => Ok(is_memory(said)),
+        None => Ok(false),
+    }
+}
+
 // The list of calls that fail, of the files or of an output.
 fn calls_of<'a>(row: &Row<'a>, what: &str) -> Result<&'a [Value], Unlike> {
-    let Some(fails) = row.fails()? else {
-        return Ok(&[]);
-    };
-    match fails.get(what) {
-        Some(calls) => list(calls).ok_or(Unlike::Form),
-        None => Ok(&[]),
+    match said_of(row, what)? {
+        Some(said) if !is_memory(said) => list(said).ok_or(Unlike::Form),
+        _ => Ok(&[]),
     }
 }
 

@@ -5,6 +5,7 @@ use toml::Table;
 pub const ROW: &[&str] = &[
     "any",
     "any_err",
+    "bare",
     "counts",
     "err",
     "fails",

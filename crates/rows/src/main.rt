@@ -11,6 +11,7 @@ mod files;
 mod keys;
 mod row;
 mod row_file;
+mod scant;
 mod text;
 mod unlike;
 mod value;

@@ -68,9 +68,9 @@ impl<'a> Row<'a> {
         }
     }
 
-    /// The error output holds something, whatever it is.
-    pub fn any_err(&self) -> Result<bool, Unlike> {
-        match self.said("any_err") {
+    /// Whether the row says so.
+    pub fn flag(&self, key: &str) -> Result<bool, Unlike> {
+        match self.said(key) {
             Some(value) => read(value.as_bool()),
             None => Ok(false),
         }

@@ -1,6 +1,6 @@
 // Texts of a row file.
 use crate::unlike::Unlike;
-use crate::value::{byte, list, repeated};
+use crate::value::{byte, list, numbered, repeated};
 use std::alloc::{AllocError, Global};
 use toml::Value;
 
@@ -21,13 +21,42 @@ fn add_byte(bytes: &mut Vec<u8>, value: &Value) -> Result<(), Unlike> {
     }
 }
 
-// A string, once or so many times, or one byte.
+fn add_number(bytes: &mut Vec<u8>, number: u64) -> Result<(), Unlike> {
+    let digits = format!(in *bytes.allocator(); "{number}")?;
+    Ok(bytes.extend_from_slice(digits.as_bytes())?)
+}
+
+// A string, with the one number where `%` stands, and the other one where `@` stands.
+fn add_filled(bytes: &mut Vec<u8>, text: &str, up: u64, down: u64) -> Result<(), Unlike> {
+    for byte in text.as_bytes() {
+        match *byte {
+            b'%' => add_number(bytes, up)?,
+            b'@' => add_number(bytes, down)?,
+            other => bytes.push(other)?,
+        }
+    }
+    Ok(())
+}
+
+// A string for each number from the first to the last, which stands for `%`; for `@` they stand from the last down.
+fn add_numbered(bytes: &mut Vec<u8>, text: &str, first: u64, last: u64) -> Result<(), Unlike> {
+    let sum = first.saturating_add(last);
+    for number in first..last.saturating_add(1) {
+        add_filled(bytes, text, number, sum.saturating_sub(number))?;
+    }
+    Ok(())
+}
+
+// A string, once or so many times or for each of some numbers, or one byte.
 fn add_piece(bytes: &mut Vec<u8>, piece: &Value) -> Result<(), Unlike> {
     if let Some(text) = piece.as_str() {
         return add_times(bytes, text, 1);
     }
-    match repeated(piece) {
-        Some((text, times)) => add_times(bytes, text, times),
+    if let Some((text, times)) = repeated(piece) {
+        return add_times(bytes, text, times);
+    }
+    match numbered(piece) {
+        Some((text, first, last)) => add_numbered(bytes, text, first, last),
         None => add_byte(bytes, piece),
     }
 }

@@ -65,8 +65,8 @@ pub fn count(value: &Value) -> Option<(&str, &str, u64)> {
     ))
 }
 
-/// A file, and the least and the greatest number that its greatest register may have.
-pub fn registers(value: &Value) -> Option<(&str, u64, u64)> {
+/// A string and two numbers.
+pub fn numbered(value: &Value) -> Option<(&str, u64, u64)> {
     let items = list_of(value, 3)?;
     Some((
         string_at(items, 0)?,

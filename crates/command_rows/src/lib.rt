@@ -1,5 +1,0 @@
-//! Worked examples of files and sinks. It holds tests alone.
-#![tactic(auto)]
-
-#[cfg(test)]
-mod tests;

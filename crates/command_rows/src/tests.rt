@@ -1,3 +1,0 @@
-// Files and outputs.
-mod files;
-mod system;

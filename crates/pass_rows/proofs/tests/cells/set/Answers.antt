@@ -1,8 +1,0 @@
-use Rattle.pass_rows.proofs.Cells.{later}
-use Rattle.pass_rows.proofs.tests.cells.set.Goals as goal
-
-pub returns : goal.returns
-returns c =
-    later (later (later (later (later (later (later (later (later c.in_ok-add.ensures c.in_ok-add-2.ensures)
-    c.in_ok-add-3.ensures) c.in_ok-add-4.ensures) c.in_ok-add-5.ensures) c.in_ok-add-6.ensures)
-    c.in_ok-add-7.ensures) c.in_ok-add-8.ensures) c.in_ok-add-9.ensures) c.in_ok-add-10.ensures

@@ -1,5 +1,6 @@
-// Shift and put of types of the inner calculi, which no pass calls: what becomes of the variable inside one or two `some`s or a `ref`. A
-// shift by 2 from the cut 1 sets two names between the first and the others, and a put takes the first name away.
+// Shift and put of types of the inner calculi, which no pass calls: what becomes of the variable inside one or two
+// `some`s or a `ref`. A shift by 2 from the cut 1 sets two names between the first and the others, and a put takes the
+// first name away.
 use a_terms::AType;
 use idx_core::{OutOfMemory, Scoped};
 use k_terms::KType;

@@ -10,7 +10,7 @@ TOP = Path(__file__).resolve().parent.parent
 VIM = TOP / "editors" / "vim"
 VSCODE = TOP / "editors" / "vscode"
 DATA = TOP / "crates" / "rows" / "data"
-LEXERS = {"source": "f_lexer", "tal": "t_lexer"}
+LEXERS = {"source": "f_lexer", "tal": "t_text"}
 # What Vim is asked: the place and the first line of each fault that it finds.
 ASKED = "for i in getqflist() | echo i.lnum . ' ' . i.col . ' ' . split(i.text, '\\n')[0] | endfor"
 

@@ -4,22 +4,22 @@ use Rattle.std.proofs.Common.{append_assoc, length, take, arith, get_or, Vec, Gl
 use Rattle.std.proofs.lemmas.List.{take_more, take_all, append-nil}
 use Rattle.h_terms.specs.H as pure
 use Rattle.a_terms.specs.Tree as a
-use Rattle.a_law.specs.Allocate.{alloc_all, alloc_block, alloc_t, atypes, arg_levels, arg_depth, data_all, data_block}
-use Rattle.a_law.specs.Allocate.{data_t, n_all, n_block}
+use Rattle.a_laws.specs.Allocate.{alloc_all, alloc_block, alloc_t, atypes, arg_levels, arg_depth, data_all, data_block}
+use Rattle.a_laws.specs.Allocate.{data_t, n_all, n_block}
 use Rattle.h_terms.specs.Nodes.{h_block, h_blocks, h_tree, HRow, HRows}
 use Rattle.a_terms.specs.NodeTrees.{a_block, a_blocks, a_data, a_tree}
 use Rattle.a_terms.specs.Arity.{ARow, ARows}
 use Rattle.a_terms.specs.Typing.{types_of}
 use Rattle.c_terms.specs.Read.{ctys}
 use Rattle.a_terms.specs.Read.{atrees}
-use Rattle.term_core.specs.declared.types.CoreType.{CoreType as CType}
+use Rattle.calc_core.specs.declared.types.CoreType.{CoreType as CType}
 use Rattle.a_terms.specs.declared.types.AType.{AType}
 use Rattle.h_terms.specs.declared.node.HNode.{HNode}
 use Rattle.a_terms.specs.declared.nodes.ANode.{ANode}
 use Rattle.h_terms.specs.declared.node.HBlock.{HBlock}
 use Rattle.a_terms.specs.declared.nodes.ABlock.{ABlock}
 use Rattle.a_terms.specs.declared.nodes.AData.{AData}
-use Rattle.a_law.proofs.Consts.{len_all}
+use Rattle.a_laws.proofs.Consts.{len_all}
 use Rattle.a_terms.proofs.Lists.{length_data}
 
 pub record BlocksMade (ks : pure.HBlks) (xs : List HBlock) (ys : List ABlock) (tuples : List AData) : Type 0 where

@@ -9,8 +9,8 @@ use Rattle.a_terms.specs.NodeTrees.{a_blocks, a_data, a_prog, a_tree}
 use Rattle.a_terms.specs.declared.nodes.ABlock.{ABlock}
 use Rattle.a_terms.specs.declared.nodes.AData.{AData}
 use Rattle.a_terms.specs.declared.nodes.ANode.{ANode}
-use Rattle.a_law.specs.Allocate.{alloc_all, alloc_prog, alloc_main, alloc_t, data_all, data_t, n_all}
-use Rattle.a_law.specs.Statements.{AllocFits}
+use Rattle.a_laws.specs.Allocate.{alloc_all, alloc_prog, alloc_main, alloc_t, data_all, data_t, n_all}
+use Rattle.a_laws.specs.Statements.{AllocFits}
 
 at_main : (p : AProg) (t u : ATm) → t ≡ u → AFits 70368744177664 1604 p t → AFits 70368744177664 1604 p u
 at_main p t u same h = subst (AFits 70368744177664 1604 p) same h

@@ -1,7 +1,7 @@
 -- Types that are made one by one.
 use Rattle.std.proofs.Common.{◌≡◌, ℕ, List, [], ◌∷◌, refl, ap, ap₂, ◌∙◌, sym, Bool, true, ◌++◌, ◌<◌}
 use Rattle.std.proofs.Common.{length, take, get_or, ◌+◌}
-use Rattle.term_core.specs.declared.types.CoreType.{CoreType as CType}
+use Rattle.calc_core.specs.declared.types.CoreType.{CoreType as CType}
 use Rattle.c_terms.specs.Read.{ctree, ctys}
 use Rattle.idx_core.specs.Over.{At}
 use Rattle.a_terms.specs.ReadLaws.{took, asnoc, fsnoc, atrees_snoc, afields_snoc}
@@ -9,7 +9,7 @@ use Rattle.a_terms.specs.Tree as a
 use Rattle.a_terms.specs.Tree.{over, over_types, over_fields}
 use Rattle.a_terms.specs.Read.{atree, atrees, afields}
 use Rattle.a_terms.specs.declared.types.AType.{AType}
-use Rattle.a_law.specs.Allocate.{atype, atypes, afull}
+use Rattle.a_laws.specs.Allocate.{atype, atypes, afull}
 
 types_snoc : (f : At a.ATy) (d : ℕ) (ts : List CType) (t : CType) →
     over_types f d (atypes (ctys (ts ++ t ∷ [])))

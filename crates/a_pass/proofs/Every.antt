@@ -17,11 +17,11 @@ use Rattle.a_terms.specs.declared.nodes.AValue.{AValue}
 use Rattle.a_terms.specs.declared.nodes.AWrap.{AWrap}
 use Rattle.a_terms.specs.declared.nodes.AWrap.TheVariants as W
 use Rattle.a_terms.specs.declared.types.AType.{AType}
-use Rattle.a_law.specs.Allocate.{Known, all_closed, closed, fields_closed, is_pack, is_some}
+use Rattle.a_laws.specs.Allocate.{Known, all_closed, closed, fields_closed, is_pack, is_some}
 use Rattle.a_pass.specs.declared.state.Seen.{Seen}
 use Rattle.a_pass.specs.Scope.{all_constants, constant_in, is_bare}
 use Rattle.a_terms.proofs.Lists.{wrapped_snoc as wrapped_push}
-use Rattle.a_law.proofs.Data.{closed_in}
+use Rattle.a_laws.proofs.Data.{closed_in}
 
 abbrev pub every : {T : Type 0} → (T → Bool) → List T → Bool
 every f [] = true

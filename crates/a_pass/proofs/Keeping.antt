@@ -4,10 +4,10 @@ use Rattle.std.proofs.Common.{◌∙◌}
 use Rattle.std.proofs.Common.{arith, subst}
 use Rattle.c_terms.specs.C.{TCTuple}
 use Rattle.c_terms.specs.Read.{ctree, ctys}
-use Rattle.term_core.specs.declared.types.CoreType.{CoreType as CType}
+use Rattle.calc_core.specs.declared.types.CoreType.{CoreType as CType}
 use Rattle.a_terms.specs.Tree as a
 use Rattle.a_terms.specs.Typing.{field_of}
-use Rattle.a_law.specs.Allocate.{atype}
+use Rattle.a_laws.specs.Allocate.{atype}
 use Rattle.a_pass.specs.declared.state.Name.{Name}
 use Rattle.a_pass.specs.Scope.{Under}
 

@@ -8,9 +8,9 @@ use Rattle.h_terms.specs.Typing.{HProgramGood}
 use Rattle.a_terms.specs.Bound.{AFits}
 use Rattle.a_terms.specs.Meaning as A
 use Rattle.a_terms.specs.Tree.{ATm, AProg}
-use Rattle.a_law.specs.Allocate.{alloc_prog, alloc_main}
-use Rattle.a_law.specs.Stands.{Stands, AllocStands}
-use Rattle.a_law.specs.Statements.{AllocFits, AllocKept, ends}
+use Rattle.a_laws.specs.Allocate.{alloc_prog, alloc_main}
+use Rattle.a_laws.specs.Stands.{Stands, AllocStands}
+use Rattle.a_laws.specs.Statements.{AllocFits, AllocKept, ends}
 
 pub typed : HWithinIsTyped → (ks : HBlks) (t : HTm) → HBound ks t → HProgramGood ks t
 typed within ks t h = within 17592186044416 1604 17592186044416 ks t h.0

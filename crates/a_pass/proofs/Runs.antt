@@ -11,7 +11,7 @@ use Rattle.h_terms.specs.declared.node.HPart.{HPart}
 use Rattle.a_terms.specs.declared.nodes.AValue.{AValue}
 use Rattle.a_terms.specs.declared.nodes.AData.{AData}
 use Rattle.a_terms.specs.declared.nodes.ANode.{ANode}
-use Rattle.a_law.specs.Allocate.{Known}
+use Rattle.a_laws.specs.Allocate.{Known}
 use Rattle.a_pass.specs.Scope.{value_at}
 use Rattle.a_pass.specs.Emits.{Made, Reads}
 use Rattle.a_pass.proofs.Emitting.{emits_none}

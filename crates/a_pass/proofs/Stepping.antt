@@ -2,13 +2,13 @@
 use Rattle.std.proofs.Common.{◌≡◌, ◌≤◌, ℕ, suc, List, [], ◌∷◌, ◌++◌, refl, sym, ap, ap₂, ◌∙◌, subst, length, map, take}
 use Rattle.std.proofs.Common.{arith, Vec, Global, Option, Some, None, true}
 use Rattle.std.proofs.lemmas.List.{take_all, length-append, append-nil}
-use Rattle.term_core.specs.Ends.{lift}
+use Rattle.calc_core.specs.Ends.{lift}
 use Rattle.h_terms.specs.H.{HVal, HDecl, HName, HProj, HArith, HUnpack, HCell, HGet, HSet, HTm, HLet, HCall, HHalt}
 use Rattle.h_terms.specs.H.{HBlks}
 use Rattle.a_terms.specs.Tree as a
-use Rattle.a_law.specs.Allocate.{Known, alloc_t, data_d, data_t, data_v, pre_d, pre_v, pre_vs, dcl, d_const, d_types}
-use Rattle.a_law.specs.Allocate.{d_next, n_d, n_t, n_v, val, vals as the_vals, v_next, vs_next, v_type, atypes}
-use Rattle.term_core.specs.declared.types.CoreType.{CoreType as CType}
+use Rattle.a_laws.specs.Allocate.{Known, alloc_t, data_d, data_t, data_v, pre_d, pre_v, pre_vs, dcl, d_const, d_types}
+use Rattle.a_laws.specs.Allocate.{d_next, n_d, n_t, n_v, val, vals as the_vals, v_next, vs_next, v_type, atypes}
+use Rattle.calc_core.specs.declared.types.CoreType.{CoreType as CType}
 use Rattle.a_terms.specs.declared.types.AType.{AType}
 use Rattle.c_terms.specs.Read.{ctys}
 use Rattle.a_terms.specs.Read.{atrees}

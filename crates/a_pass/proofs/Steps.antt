@@ -7,10 +7,10 @@ use Rattle.std.proofs.lemmas.List.{take-map, drop-map, length-append, take-appen
 use Rattle.h_terms.specs.H.{HVal, HVar, HInt, HLabel, HTuple, HApply, HPack, HBlks}
 use Rattle.a_terms.specs.Meaning.{pick}
 use Rattle.a_terms.specs.Tree as a
-use Rattle.a_law.specs.Allocate.{Known, all_closed, are_const, atype, atypes, closed, const_of, data_v, data_vs}
-use Rattle.a_law.specs.Allocate.{datum_of, fill, final, is_const, is_label, is_pack, is_some, level_of, n_v, n_vs}
-use Rattle.a_law.specs.Allocate.{named, one_more, or_zero, packs, pre_v, pre_vs, v_next, v_type, v_types, val, vals}
-use Rattle.a_law.specs.Allocate.{var_of, vs_next}
+use Rattle.a_laws.specs.Allocate.{Known, all_closed, are_const, atype, atypes, closed, const_of, data_v, data_vs}
+use Rattle.a_laws.specs.Allocate.{datum_of, fill, final, is_const, is_label, is_pack, is_some, level_of, n_v, n_vs}
+use Rattle.a_laws.specs.Allocate.{named, one_more, or_zero, packs, pre_v, pre_vs, v_next, v_type, v_types, val, vals}
+use Rattle.a_laws.specs.Allocate.{var_of, vs_next}
 use Rattle.h_terms.specs.Nodes.{tied, at_last, tupled, more}
 use Rattle.h_terms.specs.declared.node.HPart.{HPart}
 use Rattle.c_terms.specs.C.{CTy, CTys}

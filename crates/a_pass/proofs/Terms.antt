@@ -2,13 +2,13 @@
 use Rattle.std.proofs.Common.{◌≡◌, ◌≤◌, ℕ, suc, ◌+◌, ◌-◌, List, [], ◌∷◌, ◌++◌, refl, sym, ap, ap₂, ◌∙◌, subst}
 use Rattle.std.proofs.Common.{append_assoc, length, map, take, arith, option_map}
 use Rattle.std.proofs.lemmas.List.{take_all, take-take, take-append-le, length-append}
-use Rattle.term_core.specs.Ends.{lift}
+use Rattle.calc_core.specs.Ends.{lift}
 use Rattle.a_terms.specs.Tree.{ashift}
 use Rattle.a_terms.specs.TypeLaws.{shift_more, shift_none}
 use Rattle.h_terms.specs.H.{HVal, HDecl, HTm, HLet, HIf, HBlks}
 use Rattle.a_terms.specs.Tree as a
-use Rattle.a_law.specs.Allocate.{Known, alloc_t, data_d, data_t, data_v, known_of, n_d, n_t, n_v, pre_d, pre_v, dcl}
-use Rattle.a_law.specs.Allocate.{d_const, d_types, d_next, val, v_next}
+use Rattle.a_laws.specs.Allocate.{Known, alloc_t, data_d, data_t, data_v, known_of, n_d, n_t, n_v, pre_d, pre_v, dcl}
+use Rattle.a_laws.specs.Allocate.{d_const, d_types, d_next, val, v_next}
 use Rattle.h_terms.specs.Row.{top, others}
 use Rattle.h_terms.specs.Nodes.{no_term}
 use Rattle.a_terms.specs.NodeTrees.{a_build, a_value, a_values, a_onto, a_let}

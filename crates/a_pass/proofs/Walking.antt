@@ -4,12 +4,12 @@ use Rattle.std.proofs.Common.{take, drop, arith, get_or, add-one, None, option_m
 use Rattle.std.proofs.lemmas.List.{append-nil, length-append, length-take-le, take_more, take_all}
 use Rattle.std.proofs.lemmas.List.{nil_from_length as nothing}
 use Rattle.std.proofs.Math.Seq.{drop-cons}
-use Rattle.term_core.specs.Ends.{lift}
+use Rattle.calc_core.specs.Ends.{lift}
 use Rattle.a_terms.specs.Typing.{types_of}
 use Rattle.h_terms.specs.H.{HBlks, HTm}
 use Rattle.a_terms.specs.Tree as a
-use Rattle.a_law.specs.Allocate.{Known, alloc_t, arg_levels, arg_depth, atype, atypes, data_t, plain}
-use Rattle.term_core.specs.declared.types.CoreType.{CoreType as CType}
+use Rattle.a_laws.specs.Allocate.{Known, alloc_t, arg_levels, arg_depth, atype, atypes, data_t, plain}
+use Rattle.calc_core.specs.declared.types.CoreType.{CoreType as CType}
 use Rattle.c_terms.specs.Read.{ctree, ctys}
 use Rattle.h_terms.specs.Row.{top}
 use Rattle.h_terms.specs.Nodes.{HRow, HArity, h_terms, h_tree, h_build, h_kids, values}

@@ -1,6 +1,6 @@
 -- What a walk adds to the nodes.
 use Rattle.std.specs.Prelude.{◌≡◌, ◌≤◌, ℕ, suc, List, [], ◌∷◌, ◌++◌, map, option_map, length, Option}
-use Rattle.term_core.specs.Ends.{lift}
+use Rattle.calc_core.specs.Ends.{lift}
 use Rattle.h_terms.specs.H.{HBlks, HVal, HTm}
 use Rattle.h_terms.specs.Nodes.{tied, h_build, h_kids, HArity}
 use Rattle.h_terms.specs.declared.node.HForm.{HForm}
@@ -11,7 +11,7 @@ use Rattle.a_terms.specs.declared.nodes.AForm.{AForm}
 use Rattle.a_terms.specs.declared.nodes.AValue.{AValue}
 use Rattle.a_terms.specs.declared.nodes.AData.{AData}
 use Rattle.a_terms.specs.declared.nodes.ANode.{ANode}
-use Rattle.a_law.specs.Allocate.{Known, data_vs, n_vs, v_type, vals, vs_next, pre_vs}
+use Rattle.a_laws.specs.Allocate.{Known, data_vs, n_vs, v_type, vals, vs_next, pre_vs}
 use Rattle.a_pass.specs.declared.state.Name.{Name}
 use Rattle.a_pass.specs.declared.state.Place.{Place}
 use Rattle.a_pass.specs.declared.state.Seen.{Seen}

@@ -13,9 +13,10 @@ use Rattle.a_terms.specs.NodeTrees.{a_value, wrapped}
 use Rattle.a_terms.specs.declared.nodes.ABase.{ABase}
 use Rattle.a_terms.specs.declared.nodes.ABase.TheVariants.{Var, Int, Label, Data}
 use Rattle.a_terms.specs.declared.nodes.AValue.{AValue}
-use Rattle.a_law.specs.Allocate.{Known, all_closed, alloc_t, atype, closed, const_of, h_code, is_pack, data_t, is_const}
-use Rattle.a_law.specs.Allocate.{is_some, n_t}
-use Rattle.a_law.specs.Allocate.{n_v, named, or_zero}
+use Rattle.a_laws.specs.Allocate.{Known, all_closed, alloc_t, atype, closed, const_of, h_code, is_pack, data_t}
+use Rattle.a_laws.specs.Allocate.{is_const}
+use Rattle.a_laws.specs.Allocate.{is_some, n_t}
+use Rattle.a_laws.specs.Allocate.{n_v, named, or_zero}
 use Rattle.a_pass.specs.declared.state.Kept.{Kept}
 use Rattle.a_pass.specs.declared.state.Kept.TheVariants as K
 use Rattle.a_pass.specs.declared.state.Name.{Name}

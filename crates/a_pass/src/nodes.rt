@@ -8,7 +8,7 @@ ghost use Rattle.a_terms.specs.Tree as a;
 ghost use Rattle.a_terms.specs.Read.{atree};
 ghost use Rattle.a_terms.specs.NodeTrees.{a_value};
 ghost use Rattle.a_pass.specs.Scope.{Under, constant_in, knowns, type_in, typed, value_at};
-ghost use Rattle.a_law.specs.Allocate.{Known};
+ghost use Rattle.a_laws.specs.Allocate.{Known};
 ghost use Rattle.a_pass.specs.Emits.{Emits, Declares, Ends, Stepped, Steps};
 
 use crate::constants::constant_value;

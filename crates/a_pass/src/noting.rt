@@ -6,7 +6,7 @@ ghost use Rattle.c_terms.specs.Read.{ctree, ctys};
 ghost use Rattle.a_terms.specs.Tree.{ashift, ATuple, MoreAFields, NoAFields};
 ghost use Rattle.a_terms.specs.Read.{atree};
 ghost use Rattle.a_terms.specs.Typing.{or_int, field_of as the_field_of, body_of as the_body_of};
-ghost use Rattle.a_law.specs.Allocate.{atype};
+ghost use Rattle.a_laws.specs.Allocate.{atype};
 ghost use Rattle.a_pass.specs.Scope.{kept, scope, typed, type_of, Stands, Under};
 
 use crate::scope::{name_at, own};

@@ -7,7 +7,7 @@ ghost use Rattle.a_terms.specs.Tree as a;
 ghost use Rattle.a_terms.specs.Read.{atree, atrees};
 ghost use Rattle.a_terms.specs.Typing.{aapply, aset, or_int};
 ghost use Rattle.a_terms.specs.NodeTrees as tree;
-ghost use Rattle.a_law.specs.Allocate.{Known, atype, atypes};
+ghost use Rattle.a_laws.specs.Allocate.{Known, atype, atypes};
 ghost use Rattle.a_terms.specs.declared.nodes.AData.{AData};
 ghost use Rattle.a_terms.specs.declared.nodes.ANode.{ANode};
 ghost use Rattle.a_pass.specs.Scope.{value_at, constant_in, knowns, of_apply, of_pack, scope, type_in, type_of};

@@ -9,9 +9,9 @@ ghost use Rattle.a_terms.specs.Arity.{ARow, ARows};
 ghost use Rattle.a_terms.specs.Program.{program_in, main_in};
 ghost use Rattle.a_terms.specs.Bound.{AFits};
 ghost use Rattle.a_terms.specs.Meaning as A;
-ghost use Rattle.a_law.specs.Stands.{Stands};
-ghost use Rattle.a_law.specs.Statements.{ends};
-ghost use Rattle.a_law.specs.Allocate.{alloc_all, alloc_block, alloc_prog, alloc_main, data_all, data_block};
+ghost use Rattle.a_laws.specs.Stands.{Stands};
+ghost use Rattle.a_laws.specs.Statements.{ends};
+ghost use Rattle.a_laws.specs.Allocate.{alloc_all, alloc_block, alloc_prog, alloc_main, data_all, data_block};
 
 use crate::term::{body, main_term};
 use crate::types::a_types;
@@ -66,7 +66,7 @@ fn allocated(alloc: Global, program: &HProgram) -> Result<AProgram, OutOfMemory>
     ensures program { IfOk result (λ r. program_in r ≡ alloc_prog (h.blocks_in program.now) (h.main_in program.now)) }
     ensures main { IfOk result (λ r. main_in r ≡ alloc_main (h.blocks_in program.now) (h.main_in program.now)) }
 {
-    a_law::bounds_are_kept();
+    a_laws::bounds_are_kept();
     let given = program.blocks();
     let mut tuples = Vec::new(alloc);
     let blocks = all_blocks(alloc, given, &mut tuples)?;
@@ -93,9 +93,9 @@ pub fn allocate(alloc: Global, program: &HProgram) -> Result<AProgram, OutOfMemo
         (λ r. ∥ ((n : ℕ) → A.meaning (program_in r) (main_in r) n ≡
         ends [] (hrun n (h.blocks_in program.now) (h.main_in program.now))) ∥₁) }
 {
-    a_law::allocation_stands_for_its_program();
-    a_law::bounds_are_kept();
-    a_law::meaning_is_kept();
+    a_laws::allocation_stands_for_its_program();
+    a_laws::bounds_are_kept();
+    a_laws::meaning_is_kept();
     h_terms::laws::h_within_is_typed_law();
     let made = allocated(alloc, program)?;
     Ok(made)

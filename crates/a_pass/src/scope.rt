@@ -8,7 +8,7 @@ ghost use Rattle.a_terms.specs.NodeTrees as tree;
 ghost use Rattle.a_terms.specs.NodeTrees.{a_value};
 ghost use Rattle.a_terms.specs.Typing.{or_int};
 ghost use Rattle.a_terms.specs.Tree.{ashift};
-ghost use Rattle.a_law.specs.Allocate.{Known, var_of, h_code, level_of, named};
+ghost use Rattle.a_laws.specs.Allocate.{Known, var_of, h_code, level_of, named};
 ghost use Rattle.a_pass.specs.Scope.{value_at, base_at, constant_in, knowns, known_name, scope, type_in, type_of};
 ghost use Rattle.a_pass.specs.Scope.{all_of, full_of, kept, typed, Under};
 

@@ -5,7 +5,7 @@ ghost use Rattle.h_terms.specs.Nodes.{h_blocks, h_tree, HRow};
 ghost use Rattle.a_terms.specs.Typing.{types_of};
 ghost use Rattle.a_terms.specs.NodeTrees.{a_data, a_tree};
 ghost use Rattle.a_terms.specs.Arity.{ARow};
-ghost use Rattle.a_law.specs.Allocate.{alloc_t, arg_levels, arg_depth, atypes, data_t, n_t};
+ghost use Rattle.a_laws.specs.Allocate.{alloc_t, arg_levels, arg_depth, atypes, data_t, n_t};
 ghost use Rattle.a_pass.specs.Scope.{knowns, scope, Under};
 
 use crate::nodes::step;

@@ -4,12 +4,11 @@ ghost use Rattle.idx_core.specs.Over.{shifted};
 ghost use Rattle.c_terms.specs.Read.{ctree, ctys};
 ghost use Rattle.a_terms.specs.Tree.{AVar, over, over_types, over_fields};
 ghost use Rattle.a_terms.specs.Read.{atree, atrees, afields};
-ghost use Rattle.a_law.specs.Allocate.{atype, atypes, afull};
+ghost use Rattle.a_laws.specs.Allocate.{atype, atypes, afull};
 
 use a_terms::AType;
-use a_terms::walks::sum;
 use c_terms::CType;
-use idx_core::OutOfMemory;
+use idx_core::{OutOfMemory, sum};
 use std::alloc::Global;
 
 fn moved(by: u64, d: u64, i: u64) -> Result<AType, OutOfMemory>

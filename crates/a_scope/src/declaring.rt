@@ -14,9 +14,8 @@ use crate::scope::{Entry, noted_as, noted_lent, noted_now, placed, sharing};
 use crate::sharing::{entry_of, filled_then};
 use crate::value::{first, packed, type_of_value};
 use a_terms::parts::{filled_of, known};
-use a_terms::walks::sum;
 use a_terms::{AForm, AProgram, AValue};
-use idx_core::OutOfMemory;
+use idx_core::{OutOfMemory, sum};
 use std::alloc::Global;
 
 // A variable for a value that is none: the shape of a package is lent.

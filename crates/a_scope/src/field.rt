@@ -13,9 +13,8 @@ use crate::scope::{Entry, noted_as, noted_now};
 use crate::sharing::entry_of;
 use crate::value::type_of_value;
 use a_terms::parts::{body_of, field_of};
-use a_terms::walks::sum;
 use a_terms::{AProgram, AType, AValue};
-use idx_core::OutOfMemory;
+use idx_core::{OutOfMemory, sum};
 use std::alloc::Global;
 
 // A variable for field i of a type that was made, under `by` more names.

@@ -6,7 +6,7 @@ use Rattle.idx_core.specs.declared.arith.Op.TheVariants.{Add}
 use Rattle.a_terms.specs.Tree.{ATy, AInt, AVar, ATuple, AExists, NoATys, MoreATys, NoAFields, MoreAFields, Var, Num}
 use Rattle.a_terms.specs.Tree.{Lab, Data, Pack, Proj, Arith, Unpack, Malloc, Init, ATm, Let, Call, Halt, AProg}
 use Rattle.a_terms.specs.Meaning.{Halted, Spent, Wrong, meaning}
-use Rattle.a_terms.specs.Typing.{Term-ok, declared, afield_flag}
+use Rattle.a_terms.specs.Typing.{TypedTerm, declared, afield_flag}
 
 -- no blocks and no data
 abbrev alone : AProg
@@ -42,7 +42,7 @@ cell_halts : meaning alone cell 0 ≡ Halted (pos 9) []
 cell_halts = refl
 
 -- its typing: an initialisation asks for no flag
-cell_is_typed : Term-ok alone 0 [] cell
+cell_is_typed : TypedTerm alone 0 [] cell
 cell_is_typed = (
   (tt, tt),
   (
@@ -106,7 +106,7 @@ abbrev flag_in : ATy → ℕ → Bool
 flag_in (ATuple fs) i = afield_flag fs i
 flag_in t i = false
 
-early_not_typed : Term-ok alone 0 [] early → ⊥
+early_not_typed : TypedTerm alone 0 [] early → ⊥
 early_not_typed (below, ((fs, j, t, has, is, type, flag), rest)) =
     clash (sym flag ∙ ap (λ s. flag_in s j) (sym (some_is has.is)) ∙ unset j)
   where

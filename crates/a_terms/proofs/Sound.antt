@@ -10,9 +10,10 @@ use Rattle.a_terms.specs.Tree.{Malloc, Init, ATm, Let, Call, If0, Halt, ABlk, AC
 use Rattle.a_terms.specs.Tree.{aput_types, ABelow, ABelow-types}
 use Rattle.a_terms.specs.Meaning.{datum, start_heap, AWord, ZInt, ZTuple, ZLabel, AHeap, Result, Halted, Spent, Wrong}
 use Rattle.a_terms.specs.Meaning.{Gives, value, values, decl, empties, pick, term, push_all, calls, NeverWrong}
-use Rattle.a_terms.specs.Typing.{data_fields, Data-ok, Tuples-ok, aapply, afield_type, afield_flag, afilled, aunset}
-use Rattle.a_terms.specs.Typing.{type_of, Fine, Has, or_int, body_of, declared, more_vars, Decl-ok, All-have, Term-ok}
-use Rattle.a_terms.specs.Typing.{types_of, Blocks-ok, Program-ok}
+use Rattle.a_terms.specs.Typing.{data_fields, TypedData, TypedTuples, aapply, afield_type, afield_flag, afilled, aunset}
+use Rattle.a_terms.specs.Typing.{type_of, Fine, Has, or_int, body_of, declared, more_vars, TypedDecl, All-have}
+use Rattle.a_terms.specs.Typing.{TypedTerm}
+use Rattle.a_terms.specs.Typing.{types_of, TypedBlocks, TypedProgram}
 use Rattle.a_terms.specs.TypeLaws.{below_more, below_put, split_code, split_data, split_applied, Args-below}
 use Rattle.a_terms.specs.TypeLaws.{args_below, field_is, filled_is}
 use Rattle.a_terms.proofs.Closing.{close, close_types, close_fields, snoc, both, close_int, close_tuple, close_code}
@@ -447,7 +448,7 @@ module _ (p : AProg) where
         let t = heap_at H H h n.0 n.1 hh n.3 in
         (n.0, n.1, t.0, r.1 ∙ ap Some n.2, n.3, n.4, t.1, t.2)
 
-    decl_sound : (x : ADecl) → Decl-ok p k g x → Declared x k g env h
+    decl_sound : (x : ADecl) → TypedDecl p k g x → Declared x k g env h
     decl_sound (Value v) a =
         let r = val v a.0 a.1 in
         let s : decl (Value v) env h ≡ Gives r.0 h = rw r.1 refl in
@@ -607,7 +608,7 @@ module _ (p : AProg) where
 
   term_sound : Args-below p → (c : ℕ) → Call-sound c →
       (e : ATm) (H : List AFields) (k : ℕ) (g : List ATy) (ts : ATys) → ABelow-types 0 ts → top 0 ts ≡ k →
-      (env : List AWord) → Env-has H ts env g → (h : AHeap) → Heap-has H H h → (log : List ℕ) → Term-ok p k g e →
+      (env : List AWord) → Env-has H ts env g → (h : AHeap) → Heap-has H H h → (log : List ℕ) → TypedTerm p k g e →
       Right (term (calls p.blocks c) e env h log)
   term_sound ok c ih (Let x e) H k g ts closed many env eh h hh log t =
       let d = decl_sound ok H k g ts closed many env eh h hh x t.0 in
@@ -646,17 +647,17 @@ module _ (p : AProg) where
       let x = subst (Words-have H (w ∷ ws)) (close_more 0 ts u us) a in
       env_push H ts us ws (w ∷ env) (u ∷ g) x.1 (x.0, e)
 
-  block_ok : (some : List ABlk) → Blocks-ok p some → (l : ℕ) (b : ABlk) → slice_get some l ≡ Some b →
-      Term-ok p b.owes (types_of b.args []) b.body
+  block_ok : (some : List ABlk) → TypedBlocks p some → (l : ℕ) (b : ABlk) → slice_get some l ≡ Some b →
+      TypedTerm p b.owes (types_of b.args []) b.body
   block_ok [] a l b e = absurd (impossible e)
     where
       impossible : None ≡ Some b → ⊥
       impossible x = cc
   block_ok (x ∷ some) a zero b e =
-      let y : x ≡ b = cc in subst (λ z. Term-ok p z.owes (types_of z.args []) z.body) y a.0.1
+      let y : x ≡ b = cc in subst (λ z. TypedTerm p z.owes (types_of z.args []) z.body) y a.0.1
   block_ok (x ∷ some) a (suc l) b e = block_ok some a.1 l b e
 
-  calls_sound : Args-below p → Blocks-ok p p.blocks → (c : ℕ) → Call-sound c
+  calls_sound : Args-below p → TypedBlocks p p.blocks → (c : ℕ) → Call-sound c
   calls_sound ok all zero l ws h log H b ts us there closed app words hh =
       let r = apply_all ts b.owes b.args us closed app in
       let w2 = subst (Words-have H ws) (sym r.1) words in
@@ -681,17 +682,17 @@ module _ (p : AProg) (ok : Args-below p) where
   grows_same : (H : List AFields) → Grows p H H
   grows_same H a gs e = (gs, e, fewer_same gs)
 
-  tuple_first : (x : AConsts) → Data-ok p x → Tuple-has p First (data_fields x) (datum x)
+  tuple_first : (x : AConsts) → TypedData p x → Tuple-has p First (data_fields x) (datum x)
   tuple_first [] a = tt
   tuple_first (c ∷ cs) a =
       let r = value_has p ok First 0 [] NoATys tt refl [] tt (grows_same First) c.value c.kind a.0.0.fine a.0.0.is in
       (subst (Slot p First c.kind true) (sym r.1) r.2, tuple_first cs a.1)
 
-  heap_first : (xs : List AConsts) → Tuples-ok p xs → Heap-has p First (first_fields xs) (start_heap xs)
+  heap_first : (xs : List AConsts) → TypedTuples p xs → Heap-has p First (first_fields xs) (start_heap xs)
   heap_first [] a = grows_same First
   heap_first (x ∷ xs) a = (tuple_first x a.0, heap_first xs a.1)
 
-pub never_wrong : (p : AProg) (main : ATm) → Program-ok p main → NeverWrong p main
+pub never_wrong : (p : AProg) (main : ATm) → TypedProgram p main → NeverWrong p main
 never_wrong p main q c log e =
     let ok = args_below p q.blocks q.tuples in
     let r = term_sound p ok c (calls_sound p ok q.blocks c) main (first_fields p.tuples) 0 [] NoATys tt refl [] tt

@@ -1,7 +1,7 @@
 -- Which nodes are terms.
 use Rattle.std.specs.Prelude.{◌≡◌, ℕ, zero, suc, List, [], ◌∷◌}
 use Rattle.std.proofs.Props.{props}
-use Rattle.term_core.specs.Ends.{lift}
+use Rattle.calc_core.specs.Ends.{lift}
 use Rattle.a_terms.specs.Tree as a
 use Rattle.a_terms.specs.Row.{IsOne, IsTwo, IsSome, IsNone}
 use Rattle.a_terms.specs.NodeTrees.{a_values}

@@ -1,7 +1,7 @@
 -- Bounds on a program.
 use Rattle.std.specs.Prelude.{ℕ, suc, ◌+◌, ◌≤◌, List, [], ◌∷◌, length}
 use Rattle.a_terms.specs.Tree.{ATm, Let, Call, If0, Halt, ABlk, AProg, arity}
-use Rattle.a_terms.specs.Typing.{Program-ok}
+use Rattle.a_terms.specs.Typing.{TypedProgram}
 use Rattle.a_terms.specs.Each.{ProgramEach, AWithin}
 use Rattle.a_terms.specs.Sizes.{Fits-in}
 
@@ -34,7 +34,7 @@ ASmall m p main = AAllRegs m p.blocks × ARegs m 0 main
 -- above n; and at most n blocks and choices
 abbrev pub AFits : (n r : ℕ) → AProg → ATm → Type 0
 AFits n r p main =
-    Program-ok p main × ProgramEach (AWithin n r n) p main × ASmall n p main
+    TypedProgram p main × ProgramEach (AWithin n r n) p main × ASmall n p main
     × (length p.blocks + (thirds main + all_thirds p.blocks) ≤ n)
 
 -- the bound of programs: what the assembly program is made of is in range by it

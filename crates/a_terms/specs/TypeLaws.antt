@@ -11,8 +11,9 @@ use Rattle.a_terms.specs.Tree.{Proj, Arith, Unpack, Malloc, Init, ashift, ashift
 use Rattle.a_terms.specs.Tree.{ABelow-types, ABelow-fields, arity}
 use Rattle.a_terms.specs.TreeLaws.{a_part, a_each, a_over, a_types_over, a_types_each, a_fields_over, a_fields_each}
 use Rattle.a_terms.specs.Typing.{aapply, afield_type, afilled, aunset, code_type, data_fields, data_type, applied}
-use Rattle.a_terms.specs.Typing.{type_of, Fine, Has, or_int, field_of, body_of, filled_of, declared, more_vars, Decl-ok}
-use Rattle.a_terms.specs.Typing.{types_of, Blocks-ok, Data-ok, Tuples-ok}
+use Rattle.a_terms.specs.Typing.{type_of, Fine, Has, or_int, field_of, body_of, filled_of, declared, more_vars}
+use Rattle.a_terms.specs.Typing.{TypedDecl}
+use Rattle.a_terms.specs.Typing.{types_of, TypedBlocks, TypedData, TypedTuples}
 
 pub below_more : (t : ATy) (k m : ℕ) → k ≤ m → ABelow k t → ABelow m t
 below_more t k m le b =
@@ -157,7 +158,7 @@ pub filled_is : (i j : ℕ) (fs : AFields) (o : Option ATy) → o ≡ Some (ATup
 filled_is i j fs o e n = ap (filled_of i) e ∙ ap (λ m. filled_of m (Some (ATuple fs))) n
 
 pub declared_below : (p : AProg) → Args-below p → (k : ℕ) (g : List ATy) → All-below k g → (x : ADecl) →
-    Decl-ok p k g x → All-below (more_vars x k) (declared p g x)
+    TypedDecl p k g x → All-below (more_vars x k) (declared p g x)
 declared_below p ok k g a (Value v) d = (subst (ABelow k) (sym (ap or_int d.1.is)) (has_below p ok k g a v d.0 d.1), a)
 declared_below p ok k g a (Proj i v) d =
     let b = has_below p ok k g a v (ATuple d.0) d.3 in (
@@ -183,23 +184,23 @@ length_declared p g (Unpack v) = ap suc (length_maps (ashift 1 0) g)
 length_declared p g (Malloc ts) = refl
 length_declared p g (Init v i w) = refl
 
-blocks_below : (p : AProg) (bs : List ABlk) → Blocks-ok p bs → (l : ℕ) (b : ABlk) → slice_get bs l ≡ Some b →
+blocks_below : (p : AProg) (bs : List ABlk) → TypedBlocks p bs → (l : ℕ) (b : ABlk) → slice_get bs l ≡ Some b →
     ABelow-types b.owes b.args
 blocks_below p [] a l b e = cc
 blocks_below p (x ∷ bs) a zero b e = let y : x ≡ b = cc in subst (λ z. ABelow-types z.owes z.args) y a.0.0
 blocks_below p (x ∷ bs) a (suc l) b e = blocks_below p bs a.1 l b e
 
-pub data_below : (p : AProg) (x : AConsts) → Data-ok p x → ABelow-fields 0 (data_fields x)
+pub data_below : (p : AProg) (x : AConsts) → TypedData p x → ABelow-fields 0 (data_fields x)
 data_below p [] a = tt
 data_below p (c ∷ cs) a = (a.0.1, data_below p cs a.1)
 
-pub data_at : (p : AProg) (xs : List AConsts) → Tuples-ok p xs → (n : ℕ) (x : AConsts) → slice_get xs n ≡ Some x →
-    Data-ok p x
+pub data_at : (p : AProg) (xs : List AConsts) → TypedTuples p xs → (n : ℕ) (x : AConsts) → slice_get xs n ≡ Some x →
+    TypedData p x
 data_at p [] a n x e = cc
-data_at p (y ∷ xs) a zero x e = let z : y ≡ x = cc in subst (Data-ok p) z a.0
+data_at p (y ∷ xs) a zero x e = let z : y ≡ x = cc in subst (TypedData p) z a.0
 data_at p (y ∷ xs) a (suc n) x e = data_at p xs a.1 n x e
 
-pub args_below : (p : AProg) → Blocks-ok p p.blocks → Tuples-ok p p.tuples → Args-below p
+pub args_below : (p : AProg) → TypedBlocks p p.blocks → TypedTuples p p.tuples → Args-below p
 args_below p a d =
     record { args = blocks_below p p.blocks a; data_in = λ n x e. data_below p x (data_at p p.tuples d n x e) }
 

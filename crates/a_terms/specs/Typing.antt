@@ -127,15 +127,15 @@ more_vars (Unpack v) k = suc k
 more_vars (Malloc ts) k = k
 more_vars (Init v i w) k = k
 
-abbrev pub Decl-ok : AProg → ℕ → List ATy → ADecl → Type 0
-Decl-ok p k g (Value v) = (t : ATy) × Has p k g v t
-Decl-ok p k g (Proj i v) =
+abbrev pub TypedDecl : AProg → ℕ → List ATy → ADecl → Type 0
+TypedDecl p k g (Value v) = (t : ATy) × Has p k g v t
+TypedDecl p k g (Proj i v) =
     (fs : AFields) × (j : ℕ) × (t : ATy) × Has p k g v (ATuple fs) × (i ≡ suc j) × (afield_type fs j ≡ Some t)
     × (afield_flag fs j ≡ true)
-Decl-ok p k g (Arith o v w) = Has p k g v AInt × Has p k g w AInt
-Decl-ok p k g (Unpack v) = (t : ATy) × Has p k g v (AExists t)
-Decl-ok p k g (Malloc ts) = ABelow-types k ts
-Decl-ok p k g (Init v i w) =
+TypedDecl p k g (Arith o v w) = Has p k g v AInt × Has p k g w AInt
+TypedDecl p k g (Unpack v) = (t : ATy) × Has p k g v (AExists t)
+TypedDecl p k g (Malloc ts) = ABelow-types k ts
+TypedDecl p k g (Init v i w) =
     (fs : AFields) × (j : ℕ) × (t : ATy) × Has p k g v (ATuple fs) × Has p k g w t × (i ≡ suc j)
     × (afield_type fs j ≡ Some t)
 
@@ -145,22 +145,23 @@ All-have p k g [] (MoreATys t ts) = ⊥
 All-have p k g (v ∷ vs) NoATys = ⊥
 All-have p k g (v ∷ vs) (MoreATys t ts) = Has p k g v t × All-have p k g vs ts
 
-abbrev pub Term-ok : AProg → ℕ → List ATy → ATm → Type 0
-Term-ok p k g (Let x e) = Decl-ok p k g x × Term-ok p (more_vars x k) (declared p g x) e
-Term-ok p k g (Call v ts vs) =
+abbrev pub TypedTerm : AProg → ℕ → List ATy → ATm → Type 0
+TypedTerm p k g (Let x e) = TypedDecl p k g x × TypedTerm p (more_vars x k) (declared p g x) e
+TypedTerm p k g (Call v ts vs) =
     (s : ATy) × (us : ATys) × Has p k g v s × ABelow-types k ts × (aapply s ts ≡ Some (ACode 0 us))
     × All-have p k g vs us
-Term-ok p k g (If0 v a b) = Has p k g v AInt × Term-ok p k g a × Term-ok p k g b
-Term-ok p k g (Halt v) = Has p k g v AInt
+TypedTerm p k g (If0 v a b) = Has p k g v AInt × TypedTerm p k g a × TypedTerm p k g b
+TypedTerm p k g (Halt v) = Has p k g v AInt
 
 abbrev pub types_of : ATys → List ATy → List ATy
 types_of NoATys g = g
 types_of (MoreATys t ts) g = types_of ts (t ∷ g)
 
 -- blocks under the types that they owe and their arguments
-abbrev pub Blocks-ok : AProg → List ABlk → Type 0
-Blocks-ok p [] = Unit {0}
-Blocks-ok p (b ∷ bs) = (ABelow-types b.owes b.args × Term-ok p b.owes (types_of b.args []) b.body) × Blocks-ok p bs
+abbrev pub TypedBlocks : AProg → List ABlk → Type 0
+TypedBlocks p [] = Unit {0}
+TypedBlocks p (b ∷ bs) = (ABelow-types b.owes b.args × TypedTerm p b.owes (types_of b.args []) b.body) × TypedBlocks p
+    bs
 
 -- no pack in it
 abbrev pub Unpacked : AVal → Type 0
@@ -181,18 +182,18 @@ Flat (Apply v ts) = Flat v
 Flat (Pack h v s) = Unpacked v
 
 -- a data tuple's values are typed where neither variables nor type variables are in scope
-abbrev pub Const-ok : AProg → AConst → Type 0
-Const-ok p c = Has p 0 [] c.value c.kind × ABelow 0 c.kind × Flat c.value
+abbrev pub TypedConst : AProg → AConst → Type 0
+TypedConst p c = Has p 0 [] c.value c.kind × ABelow 0 c.kind × Flat c.value
 
-abbrev pub Data-ok : AProg → AConsts → Type 0
-Data-ok p [] = Unit {0}
-Data-ok p (c ∷ cs) = Const-ok p c × Data-ok p cs
+abbrev pub TypedData : AProg → AConsts → Type 0
+TypedData p [] = Unit {0}
+TypedData p (c ∷ cs) = TypedConst p c × TypedData p cs
 
-abbrev pub Tuples-ok : AProg → List AConsts → Type 0
-Tuples-ok p [] = Unit {0}
-Tuples-ok p (x ∷ xs) = Data-ok p x × Tuples-ok p xs
+abbrev pub TypedTuples : AProg → List AConsts → Type 0
+TypedTuples p [] = Unit {0}
+TypedTuples p (x ∷ xs) = TypedData p x × TypedTuples p xs
 
-pub record Program-ok (p : AProg) (main : ATm) : Type 0 where
-  pub blocks : Blocks-ok p p.blocks
-  pub tuples : Tuples-ok p p.tuples
-  pub main_ok : Term-ok p 0 [] main
+pub record TypedProgram (p : AProg) (main : ATm) : Type 0 where
+  pub blocks : TypedBlocks p p.blocks
+  pub tuples : TypedTuples p p.tuples
+  pub main_ok : TypedTerm p 0 [] main

@@ -10,13 +10,14 @@ use Rattle.t_types.specs.Fits.{lookup}
 use Rattle.t_types.specs.WellFormed.{max_names}
 use Rattle.t_terms.specs.Tree.{TBase, Reg, Int, Label, Data, TValue, Plain, Pack, TInstr, Arith, Bnz, Ld, Malloc, Mov}
 use Rattle.t_terms.specs.Tree.{St, Unpack, TEnd, Jmp, Halt, TSeq, Then, Ends, TBlock, TData, TProg, names_after}
-use Rattle.t_rules.specs.Registers.{inst_file}
-use Rattle.t_rules.specs.Rules.{label_type, data_fields, data_type}
-use Rattle.spill_law.specs.Spill.{ins, or_int, base_type, applied_type, type_of, type_in, field_type, filled_type}
-use Rattle.spill_law.specs.Spill.{hidden_type, next, FewNames, FewNamesFile, values_of, ValuesFew, SeqFew, BlocksFew}
-use Rattle.spill_law.specs.Spill.{TypesFew}
-use Rattle.spill_law.proofs.Files.{ins_less, ins_same, ins_more, CaseOf, case_of}
-use Rattle.spill_law.proofs.Kept.{AllIn}
+use Rattle.t_terms.specs.Registers.{inst_file}
+use Rattle.t_terms.specs.Labels.{label_type, data_fields, data_type}
+use Rattle.t_spill_rules.specs.Spill.{ins, or_int, base_type, applied_type, type_of, type_in, field_type, filled_type}
+use Rattle.t_spill_rules.specs.Spill.{hidden_type, next, FewNames, FewNamesFile, values_of, ValuesFew, SeqFew}
+use Rattle.t_spill_rules.specs.Spill.{BlocksFew}
+use Rattle.t_spill_rules.specs.Spill.{TypesFew}
+use Rattle.t_spill_laws.proofs.Files.{ins_less, ins_same, ins_more, CaseOf, case_of}
+use Rattle.t_spill_laws.proofs.Kept.{AllIn}
 use Rattle.idx_core.specs.declared.span.Span.{Span}
 use Rattle.t_terms.specs.declared.instr.Instr.{Instr}
 use Rattle.t_terms.specs.Read.{body}

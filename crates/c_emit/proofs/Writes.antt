@@ -2,7 +2,7 @@
 use Rattle.std.proofs.Common.{◌≡◌, ℕ, suc, ◌+◌, ◌-◌, ◌<◌, List, [], ◌∷◌, ◌++◌, length, drop, refl, ap, ◌∙◌, sym, arith}
 use Rattle.std.proofs.Common.{get_or, zero, map}
 use Rattle.std.specs.Prelude.{Bool, true, false}
-use Rattle.term_core.specs.Ends.{after_one, lift}
+use Rattle.calc_core.specs.Ends.{after_one, lift}
 use Rattle.k_terms.specs.K.{KTys, kcount}
 use Rattle.k_terms.specs.Stream as N
 use Rattle.k_terms.specs.Read.{knode}
@@ -11,8 +11,8 @@ use Rattle.c_terms.specs.C.{CTy, CTys}
 use Rattle.c_terms.specs.Stream as S
 use Rattle.c_terms.specs.Read.{cnode, written}
 use Rattle.c_terms.specs.declared.node.CNode.{CNode}
-use Rattle.c_walk.specs.Emit as E
-use Rattle.term_core.proofs.Lifts.{lift_add}
+use Rattle.c_rules.specs.Emit as E
+use Rattle.calc_core.proofs.Lifts.{lift_add}
 
 pub written_push : (xs : List CNode) (x : CNode) (rest : List S.CNd) →
     written (xs ++ x ∷ []) rest ≡ written xs (cnode x ∷ rest)

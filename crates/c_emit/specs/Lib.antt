@@ -1,2 +1,4 @@
+pub mod Names
+pub mod Swept
 pub mod Read
 pub mod Walked

@@ -1,7 +1,7 @@
 -- The plain forms of what the walk is told.
 use Rattle.std.specs.Prelude.{List, [], ◌∷◌}
 use Rattle.c_terms.specs.Read.{ctree, ctys}
-use Rattle.c_walk.specs.Emit as E
+use Rattle.c_rules.specs.Emit as E
 use Rattle.c_emit.specs.declared.parts.Info.{Info}
 use Rattle.c_emit.specs.declared.parts.Frame.{Frame}
 use Rattle.c_emit.specs.declared.parts.Note.{Note}

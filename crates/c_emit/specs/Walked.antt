@@ -3,7 +3,7 @@ use Rattle.std.specs.Prelude.{List}
 use Rattle.k_terms.specs.Stream.{KNd}
 use Rattle.c_terms.specs.Stream.{CNd}
 use Rattle.c_terms.specs.Read.{written}
-use Rattle.c_walk.specs.Emit as E
+use Rattle.c_rules.specs.Emit as E
 use Rattle.c_emit.specs.declared.state.Walk.{Walk}
 use Rattle.c_emit.specs.Read.{frame, frames_of, infos_of, notes_of}
 

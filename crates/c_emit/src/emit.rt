@@ -4,7 +4,7 @@ ghost use Rattle.k_terms.specs.K.{KTy, KTys, kcount};
 ghost use Rattle.k_terms.specs.Stream.{KNd, NCode, NProj, NArith, NCall, NPack, NEnd};
 ghost use Rattle.k_terms.specs.Read.{knode};
 ghost use Rattle.c_terms.specs.Read.{written};
-ghost use Rattle.c_walk.specs.Emit as E;
+ghost use Rattle.c_rules.specs.Emit as E;
 ghost use Rattle.c_emit.specs.Read.{frame, infos_of, notes_of};
 ghost use Rattle.c_emit.specs.Walked.{walked};
 

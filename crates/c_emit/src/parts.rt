@@ -1,6 +1,6 @@
 // What the last walk is told, and where it stands.
+use c_rules::Levels;
 use c_terms::CType;
-use c_walk::Levels;
 
 /// What is known of a code before it is met: its free variables, whether its own name is used, and the types of the
 /// closed code and of its closure, outside it and, where its own name is used, inside it.

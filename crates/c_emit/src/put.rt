@@ -1,15 +1,14 @@
 // What is written for one node.
 ghost use Rattle.std.specs.Prelude.{◌≡◌, ℕ, ◌∷◌, List, IfOk, OnOk};
 ghost use Rattle.c_terms.specs.Stream as S;
-ghost use Rattle.term_core.specs.Ends.{after_one};
+ghost use Rattle.calc_core.specs.Ends.{after_one};
 ghost use Rattle.c_terms.specs.Read.{cnode, ctree, ctys, written};
-ghost use Rattle.c_walk.specs.Emit as E;
+ghost use Rattle.c_rules.specs.Emit as E;
 ghost use Rattle.c_emit.specs.Read.{frame, info};
 
 use crate::parts::{Frame, Info};
 use c_terms::{CNode, CType};
-use c_walk::sum;
-use idx_core::OutOfMemory;
+use idx_core::{OutOfMemory, sum};
 
 /// One more node.
 pub fn put(out: &mut Vec<CNode>, node: CNode) -> Result<(), OutOfMemory>

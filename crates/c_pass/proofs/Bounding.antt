@@ -4,8 +4,8 @@ use Rattle.std.proofs.Common.{get_or, drop, take, arith, Bool}
 use Rattle.c_terms.specs.C as C
 use Rattle.c_emit.specs.declared.parts.Note.{Note}
 use Rattle.c_emit.specs.Read.{note}
-use Rattle.c_walk.specs.Know as W
-use Rattle.c_walk.specs.Emit as E
+use Rattle.c_rules.specs.Know as W
+use Rattle.c_rules.specs.Emit as E
 use Rattle.c_emit.specs.declared.parts.Info.{Info}
 use Rattle.c_emit.specs.Read.{info}
 use Rattle.c_pass.specs.declared.state.Bound.{Bound}

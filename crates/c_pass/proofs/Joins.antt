@@ -1,7 +1,7 @@
 -- Lists that are made one by one.
 use Rattle.std.proofs.Common.{◌≡◌, List, [], ◌∷◌, ◌++◌, refl, ap}
-use Rattle.c_walk.specs.Know as W
-use Rattle.c_walk.specs.Emit as E
+use Rattle.c_rules.specs.Know as W
+use Rattle.c_rules.specs.Emit as E
 use Rattle.c_emit.specs.declared.parts.Info.{Info}
 use Rattle.c_emit.specs.declared.parts.Note.{Note}
 use Rattle.c_emit.specs.Read.{info, note, infos_of, notes_of}

@@ -2,15 +2,15 @@
 use Rattle.std.proofs.Common.{◌≡◌, ℕ}
 use Rattle.std.proofs.Math.Logic.{∥∥₁_elim}
 use Rattle.std.proofs.Props.{props}
-use Rattle.term_core.specs.Ends.{End, Result}
+use Rattle.calc_core.specs.Ends.{End, Result}
 use Rattle.k_terms.specs.K.{KTm}
 use Rattle.k_terms.specs.Bound.{KBound}
 use Rattle.k_terms.specs.Laws.{WithinIsTyped}
 use Rattle.k_terms.specs.Meaning.{krun}
 use Rattle.c_terms.specs.Meaning.{crun}
-use Rattle.c_law.specs.Close.{close_of}
-use Rattle.c_law.specs.Free.{IsClosed}
-use Rattle.c_law.specs.Laws.{MeaningKept, TypedIsClosed}
+use Rattle.c_rules.specs.Close.{close_of}
+use Rattle.c_rules.specs.Free.{IsClosed}
+use Rattle.c_laws.specs.Laws.{MeaningKept, TypedIsClosed}
 
 end_set : IsSet End
 end_set = hlevel props

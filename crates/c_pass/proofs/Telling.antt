@@ -1,10 +1,10 @@
 -- The last walk looks at the types of a code's closure inside it only where the code's own name is used.
 use Rattle.std.proofs.Common.{◌≡◌, ◌+◌, ℕ, Bool, true, false, List, [], ◌∷◌, length, refl, ap, ◌∙◌}
-use Rattle.term_core.specs.Ends.{lift}
+use Rattle.calc_core.specs.Ends.{lift}
 use Rattle.k_terms.specs.K.{kcount}
 use Rattle.k_terms.specs.Stream as N
 use Rattle.c_terms.specs.Stream as S
-use Rattle.c_walk.specs.Emit as E
+use Rattle.c_rules.specs.Emit as E
 use Rattle.c_pass.specs.Read.{all_told, told, told_by}
 
 own_same : (b : Bool) (i : E.Info) (l : ℕ) (rest : List S.CNd) →

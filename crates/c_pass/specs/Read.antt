@@ -1,19 +1,19 @@
 -- The plain state of the walk that finds out types.
 use Rattle.std.specs.Prelude.{◌≡◌, ℕ, List, [], ◌∷◌, Bool, true, false, cond, ◌++◌, suc}
-use Rattle.term_core.specs.Ends.{lift}
+use Rattle.calc_core.specs.Ends.{lift}
 use Rattle.k_terms.specs.K.{KTy, KTys, TKCode}
 use Rattle.k_terms.specs.Stream.{KNd}
 use Rattle.k_terms.specs.Read.{ktree}
 use Rattle.c_terms.specs.C.{TCInt, NoCTys}
-use Rattle.c_law.specs.Close as L
-use Rattle.c_walk.specs.Sweep.{known_below}
-use Rattle.c_walk.specs.Emit as E
-use Rattle.c_walk.specs.Know as W
+use Rattle.c_rules.specs.Close as L
+use Rattle.c_rules.specs.Sweep.{known_below}
+use Rattle.c_rules.specs.Emit as E
+use Rattle.c_rules.specs.Know as W
 use Rattle.c_emit.specs.declared.parts.Info.{Info}
 use Rattle.c_emit.specs.declared.parts.Note.{Note}
 use Rattle.c_emit.specs.Read.{info, note}
-use Rattle.c_free.specs.declared.names.Side.{Side}
-use Rattle.c_free.specs.Names.{side}
+use Rattle.c_emit.specs.declared.names.Side.{Side}
+use Rattle.c_emit.specs.Names.{side}
 use Rattle.c_pass.specs.declared.state.Clue.{Clue}
 use Rattle.c_pass.specs.declared.state.Bound.{Bound}
 use Rattle.c_pass.specs.declared.state.Knowledge.{Knowledge}

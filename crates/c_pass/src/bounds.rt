@@ -1,16 +1,15 @@
 // The types of variables, by their levels.
 ghost use Rattle.std.specs.Prelude.{◌≡◌, ◌++◌, OnOk};
 ghost use Rattle.k_terms.specs.Read.{ktree, ktys};
-ghost use Rattle.c_walk.specs.Know as W;
+ghost use Rattle.c_rules.specs.Know as W;
 ghost use Rattle.c_pass.specs.Read.{bounds, levels_of};
 
 use crate::state::Bound;
-use c_free::type_levels::type_levels;
-use c_walk::sum;
-use idx_core::OutOfMemory;
+use c_emit::type_levels::type_levels;
+use calc_core::copy;
+use idx_core::{OutOfMemory, sum};
 use k_terms::KType;
 use std::alloc::Global;
-use term_core::copy;
 
 // The levels of the type variables of one variable's type.
 fn levels_at(xs: &[Bound], l: u64, out: &mut Vec<u64>) -> Result<(), OutOfMemory>

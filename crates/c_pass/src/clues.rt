@@ -1,12 +1,12 @@
 // What both walks from the last node have found.
 ghost use Rattle.std.specs.Prelude.{◌≡◌, IfOk};
-ghost use Rattle.c_walk.specs.TSweep as T;
-ghost use Rattle.c_free.specs.Swept.{founds, lists};
+ghost use Rattle.c_rules.specs.TSweep as T;
+ghost use Rattle.c_emit.specs.Swept.{founds, lists};
 ghost use Rattle.c_pass.specs.Read.{clues_of};
 
 use crate::state::Clue;
-use c_free::Found;
-use c_walk::Levels;
+use c_emit::Found;
+use c_rules::Levels;
 use idx_core::OutOfMemory;
 use std::alloc::Global;
 use std::collections::VecDeque;

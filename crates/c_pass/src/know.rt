@@ -4,11 +4,11 @@ ghost use Rattle.k_terms.specs.K.{KTy};
 ghost use Rattle.k_terms.specs.Stream.{KNd, NEnd, NElse, NPack, NUnpack};
 ghost use Rattle.k_terms.specs.Read.{knode, ktree, ktys};
 ghost use Rattle.c_terms.specs.Read.{ctys};
-ghost use Rattle.c_law.specs.Close as L;
-ghost use Rattle.c_walk.specs.Know as W;
-ghost use Rattle.c_walk.specs.Walks.{top_side};
-ghost use Rattle.term_core.specs.Read.{joined};
-ghost use Rattle.c_free.specs.Names.{side};
+ghost use Rattle.c_rules.specs.Close as L;
+ghost use Rattle.c_rules.specs.Know as W;
+ghost use Rattle.c_laws.specs.Walks.{top_side};
+ghost use Rattle.calc_core.specs.Read.{joined};
+ghost use Rattle.c_emit.specs.Names.{side};
 ghost use Rattle.c_pass.specs.Read.{Binds, bounds, clue, clues_of, told_known};
 ghost use Rattle.c_pass.specs.Read.{total, opened_total, called_total};
 
@@ -16,17 +16,16 @@ use crate::bounds::{bind, bind_all};
 use crate::info::{info_from, side_of};
 use crate::state::{Bound, Clue, Header, Knowledge};
 use crate::translate::closed;
-use c_emit::Note;
-use c_free::close_type::close_types;
-use c_free::{Found, Renaming, Side};
+use c_emit::close_type::close_types;
+use c_emit::{Found, Note, Renaming, Side};
+use c_rules::Levels;
 use c_terms::CType;
-use c_walk::{Levels, sum};
-use idx_core::OutOfMemory;
+use calc_core::{copy, copy_all};
+use idx_core::{OutOfMemory, sum};
 use k_terms::{KNode, KType};
 use std::alloc::Global;
 use std::collections::VecDeque;
 use std::mem;
-use term_core::{copy, copy_all};
 
 // Binds a variable where `f` stands.
 fn bind_now(xs: &mut Vec<Bound>, f: &Side, level: u64, ty: KType) -> Result<(), OutOfMemory>

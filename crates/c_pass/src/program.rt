@@ -1,22 +1,22 @@
 // Closure conversion.
 ghost use Rattle.std.specs.Prelude.{◌≡◌, ◌↔◌, ◌+◌, ◌*◌, ℕ, ℤ, [], IfOk, map};
-ghost use Rattle.term_core.specs.Ends.{Halted};
+ghost use Rattle.calc_core.specs.Ends.{Halted};
 ghost use Rattle.k_terms.specs.Bound.{KFits};
-ghost use Rattle.k_terms.specs.Each.{KGoodP};
+ghost use Rattle.k_terms.specs.Each.{KTypedWith};
 ghost use Rattle.k_terms.specs.Meaning.{krun};
 ghost use Rattle.k_terms.specs.Reach.{KWithin};
 ghost use Rattle.k_terms.specs.Whole as K;
 ghost use Rattle.k_terms.specs.Read.{knode};
 ghost use Rattle.c_terms.specs.Bound.{CFits};
-ghost use Rattle.c_terms.specs.Each.{CGoodP};
+ghost use Rattle.c_terms.specs.Each.{CTypedWith};
 ghost use Rattle.c_terms.specs.Meaning.{crun};
 ghost use Rattle.c_terms.specs.Reach.{CWithin};
-ghost use Rattle.c_terms.specs.Typing.{CGood};
+ghost use Rattle.c_terms.specs.Typing.{CTyped};
 ghost use Rattle.c_terms.specs.Read.{written};
 ghost use Rattle.c_terms.specs.Term as C;
-ghost use Rattle.c_law.specs.Close.{close_of};
-ghost use Rattle.c_law.specs.Row.{IsTranslation};
-ghost use Rattle.c_walk.specs.Walks.{top_frame, walks, all_known};
+ghost use Rattle.c_rules.specs.Close.{close_of};
+ghost use Rattle.c_laws.specs.Row.{IsTranslation};
+ghost use Rattle.c_laws.specs.Walks.{top_frame, walks, all_known};
 ghost use Rattle.c_emit.specs.Read.{frame, infos_of, notes_of};
 ghost use Rattle.c_pass.specs.Read.{all_told};
 
@@ -24,13 +24,13 @@ use crate::clues::join;
 use crate::know::know;
 use crate::state::Knowledge;
 use c_emit::emit::emit;
+use c_emit::sweep::sweep;
+use c_emit::tsweep::tsweep;
 use c_emit::{Frame, Info, Note};
-use c_free::sweep::sweep;
-use c_free::tsweep::tsweep;
-use c_law::laws::{bound_law, meaning_law, scope_law, translation_law, types_law};
+use c_laws::laws::{bound_law, meaning_law, scope_law, translation_law, types_law};
+use c_laws::walk_laws::walks_law;
+use c_rules::Levels;
 use c_terms::{CNode, CProgram, CType};
-use c_walk::Levels;
-use c_walk::laws::walks_law;
 use idx_core::OutOfMemory;
 use k_terms::laws::within_is_typed_law;
 use k_terms::{KNode, KProgram};
@@ -102,10 +102,10 @@ fn translated(alloc: Global, program: &KProgram) -> Result<CProgram, OutOfMemory
 pub fn close(alloc: Global, program: &KProgram) -> Result<CProgram, OutOfMemory>
     ensures same { IfOk result (λ r. C.term_of r ≡ close_of (K.term_of program.now)) }
     ensures rules { IfOk result (λ r. IsTranslation (K.term_of program.now) (C.term_of r)) }
-    ensures types { IfOk result (λ r. ∥ CGood 0 [] (C.term_of r) ∥₁) }
+    ensures types { IfOk result (λ r. ∥ CTyped 0 [] (C.term_of r) ∥₁) }
     ensures reach { IfOk result
-        (λ r. (N R B : ℕ) → KGoodP (KWithin N R B) 0 [] (K.term_of program.now) →
-        CGoodP (CWithin (N + 1) (R + 4) (N + B + 1)) 0 [] (C.term_of r)) }
+        (λ r. (N R B : ℕ) → KTypedWith (KWithin N R B) 0 [] (K.term_of program.now) →
+        CTypedWith (CWithin (N + 1) (R + 4) (N + B + 1)) 0 [] (C.term_of r)) }
     ensures bound { IfOk result (λ r. (N R : ℕ) → KFits N R (K.term_of program.now) →
         CFits (10 * N + 1) (R + 4) (C.term_of r)) }
     ensures halts { IfOk result

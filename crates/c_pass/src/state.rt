@@ -1,7 +1,6 @@
 // The state of the walk that finds out types.
-use c_emit::{Info, Note};
-use c_free::Side;
-use c_walk::Levels;
+use c_emit::{Info, Note, Side};
+use c_rules::Levels;
 use k_terms::KType;
 use std::collections::VecDeque;
 

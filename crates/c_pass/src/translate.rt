@@ -1,18 +1,18 @@
 // Types of variables, translated.
 ghost use Rattle.std.specs.Prelude.{◌≡◌, IfOk};
-ghost use Rattle.term_core.specs.Ends.{lift};
+ghost use Rattle.calc_core.specs.Ends.{lift};
 ghost use Rattle.k_terms.specs.Read.{ktree};
 ghost use Rattle.c_terms.specs.Read.{ctree, ctys};
-ghost use Rattle.c_law.specs.Close as L;
-ghost use Rattle.c_walk.specs.Know as W;
-ghost use Rattle.term_core.specs.Read.{joined};
-ghost use Rattle.c_free.specs.Names.{side};
+ghost use Rattle.c_rules.specs.Close as L;
+ghost use Rattle.c_rules.specs.Know as W;
+ghost use Rattle.calc_core.specs.Read.{joined};
+ghost use Rattle.c_emit.specs.Names.{side};
 ghost use Rattle.c_pass.specs.Read.{bound, bounds, var_of};
 
 use crate::state::Bound;
-use c_free::close_type::close_type;
-use c_free::vars::{level_of, outer_var, side_var};
-use c_free::{Renaming, Side};
+use c_emit::close_type::close_type;
+use c_emit::vars::{level_of, outer_var, side_var};
+use c_emit::{Renaming, Side};
 use c_terms::CType;
 use idx_core::OutOfMemory;
 use k_terms::KType;

@@ -1,6 +1,6 @@
 -- The nodes of a term in scope are read back.
 use Rattle.std.proofs.Common.{◌≡◌, ℕ, suc, ◌+◌, List, [], ◌∷◌, refl, sym, ap, ap₂, ◌∙◌, arith}
-use Rattle.term_core.specs.Ends.{lift}
+use Rattle.calc_core.specs.Ends.{lift}
 use Rattle.c_terms.specs.C.{CVal, CVar, CInt, CTuple, CCode, CApply, CPack, CVals, NoCVals, MoreCVals, CName, CProj}
 use Rattle.c_terms.specs.C.{CArith, CUnpack, CCell, CGet, CSet, CTm, CLet, CCall, CIf, CHalt, ccount}
 use Rattle.c_terms.specs.Stream.{CNd, MTuple, MEnd, MApply, MPack, MName, MProj, MArith, MUnpack, MCell, MGet, MSet}
@@ -8,7 +8,7 @@ use Rattle.c_terms.specs.Stream.{MCall, MIf, MElse, MHalt, clin_v, clin_vs, clin
 use Rattle.c_terms.specs.Scope.{CScoped_v, CScoped_vs, CScoped}
 use Rattle.c_terms.specs.Decode.{Body, Open, InCode, InThen, taken, past, all, fresh, push, bind, calls, halts, other}
 use Rattle.c_terms.specs.Decode.{read_on, cdecode}
-use Rattle.term_core.proofs.Levels.{level_below}
+use Rattle.calc_core.proofs.Levels.{level_below}
 
 abbrev onto : CVals → List CVal → List CVal
 onto NoCVals ws = ws

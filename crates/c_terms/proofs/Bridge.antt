@@ -5,9 +5,9 @@ use Rattle.idx_core.specs.Over.{putted}
 use Rattle.idx_core.specs.Laws.{putted_lt, putted_eq, putted_gt, shift_zero_law}
 use Rattle.c_terms.specs.C.{CTy, TCVar}
 use Rattle.c_terms.specs.Puts.{further_one, without, var_or, cput}
-use Rattle.term_core.specs.Walks.{over, shift, put}
-use Rattle.term_core.specs.TyLaws.{types_over}
-use Rattle.term_core.proofs.Bridge.{IsPut, sub_is}
+use Rattle.calc_core.specs.Walks.{over, shift, put}
+use Rattle.calc_core.specs.TyLaws.{types_over}
+use Rattle.calc_core.proofs.Bridge.{IsPut, sub_is}
 use Rattle.c_terms.proofs.Putting.{put_sub}
 
 without_same : (n : ℕ) → without n n ≡ None

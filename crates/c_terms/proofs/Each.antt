@@ -3,11 +3,11 @@ use Rattle.std.proofs.Common.{ℕ, suc, List, [], ◌∷◌}
 use Rattle.c_terms.specs.C.{CTy, CTys, TCTuple, TCInt, TCCode, TCRef, NoCTys, MoreCTys, CVal, CVar, CInt, CTuple}
 use Rattle.c_terms.specs.C.{CCode, CApply, CPack, CVals, NoCVals, MoreCVals, CName, CProj, CArith, CUnpack, CCell}
 use Rattle.c_terms.specs.C.{CGet, CSet, CTm, CLet, CCall, CIf, CHalt}
-use Rattle.c_terms.specs.Typing.{CHas, CHave, CGood, cargs_onto, crens_scope}
-use Rattle.c_terms.specs.Each.{CProp, CAll, CHasP, CHaveP, CGoodP}
+use Rattle.c_terms.specs.Typing.{CHas, CHave, CTyped, cargs_onto, crens_scope}
+use Rattle.c_terms.specs.Each.{CProp, CAll, CHasWith, CHaveWith, CTypedWith}
 
 mutual
-  pub plain_v : (P : CProp) (v : CVal) (n : ℕ) (g : List CTy) (t : CTy) → CHasP P n g v t → CHas n g v t
+  pub plain_v : (P : CProp) (v : CVal) (n : ℕ) (g : List CTy) (t : CTy) → CHasWith P n g v t → CHas n g v t
   plain_v P (CVar i) n g t h = h.1
   plain_v P (CInt m) n g t h = h.1
   plain_v P (CTuple vs) n g t h = (h.1, h.2, plain_vs P vs n g h.1 h.3)
@@ -16,11 +16,11 @@ mutual
   plain_v P (CApply v ts) n g t h = (h.1, h.2, h.3, plain_v P v n g _ h.4, h.5)
   plain_v P (CPack hid v s) n g t h = (h.1, h.2, h.3, h.4, h.5, plain_v P v n g _ h.7)
 
-  pub plain_vs : (P : CProp) (vs : CVals) (n : ℕ) (g : List CTy) (ts : CTys) → CHaveP P n g vs ts → CHave n g vs ts
+  pub plain_vs : (P : CProp) (vs : CVals) (n : ℕ) (g : List CTy) (ts : CTys) → CHaveWith P n g vs ts → CHave n g vs ts
   plain_vs P NoCVals n g ts h = h
   plain_vs P (MoreCVals v vs) n g ts h = (h.0, h.1, h.2, plain_v P v n g h.0 h.3, plain_vs P vs n g h.1 h.4)
 
-  pub plain_t : (P : CProp) (t : CTm) (n : ℕ) (g : List CTy) → CGoodP P n g t → CGood n g t
+  pub plain_t : (P : CProp) (t : CTm) (n : ℕ) (g : List CTy) → CTypedWith P n g t → CTyped n g t
   plain_t P (CLet (CName v) t) n g h = (h.0, plain_v P v n g h.0 h.1, plain_t P t n (h.0 ∷ g) h.2)
   plain_t P (CLet (CProj i v) t) n g h = (h.0, h.1, plain_v P v n g _ h.2, h.3, plain_t P t n (h.1 ∷ g) h.5)
   plain_t P (CLet (CArith op v w) t) n g h =
@@ -43,7 +43,7 @@ any_all n NoCTys = tt
 any_all n (MoreCTys t ts) = (tt, any_all n ts)
 
 mutual
-  any_v : (v : CVal) (n : ℕ) (g : List CTy) (t : CTy) → CHas n g v t → CHasP Any n g v t
+  any_v : (v : CVal) (n : ℕ) (g : List CTy) (t : CTy) → CHas n g v t → CHasWith Any n g v t
   any_v (CVar i) n g t h = (tt, h)
   any_v (CInt m) n g t h = (tt, h)
   any_v (CTuple vs) n g t h = (tt, h.0, h.1, any_vs vs n g h.0 h.2)
@@ -52,11 +52,11 @@ mutual
   any_v (CApply v ts) n g t h = (tt, h.0, h.1, h.2, any_v v n g _ h.3, h.4, any_all n ts)
   any_v (CPack hid v s) n g t h = (tt, h.0, h.1, h.2, h.3, h.4, tt, any_v v n g _ h.5)
 
-  any_vs : (vs : CVals) (n : ℕ) (g : List CTy) (ts : CTys) → CHave n g vs ts → CHaveP Any n g vs ts
+  any_vs : (vs : CVals) (n : ℕ) (g : List CTy) (ts : CTys) → CHave n g vs ts → CHaveWith Any n g vs ts
   any_vs NoCVals n g ts h = h
   any_vs (MoreCVals v vs) n g ts h = (h.0, h.1, h.2, any_v v n g h.0 h.3, any_vs vs n g h.1 h.4)
 
-  pub any_t : (t : CTm) (n : ℕ) (g : List CTy) → CGood n g t → CGoodP Any n g t
+  pub any_t : (t : CTm) (n : ℕ) (g : List CTy) → CTyped n g t → CTypedWith Any n g t
   any_t (CLet (CName v) t) n g h = (h.0, any_v v n g h.0 h.1, any_t t n (h.0 ∷ g) h.2)
   any_t (CLet (CProj i v) t) n g h = (h.0, h.1, any_v v n g _ h.2, h.3, tt, any_t t n (h.1 ∷ g) h.4)
   any_t (CLet (CArith op v w) t) n g h = (any_v v n g TCInt h.0, any_v w n g TCInt h.1, any_t t n (TCInt ∷ g) h.2)

@@ -1,11 +1,11 @@
 -- One type at a time comes to the same as all types at once.
 use Rattle.std.proofs.Common.{◌≡◌, ℕ, zero, suc, Option, Some, None, refl, sym, ap, ◌∙◌, ap₂}
-use Rattle.term_core.specs.Ends.{lift}
-use Rattle.c_terms.specs.C.{CTy, CTys, TCInt, TCVar, TCTuple, TCCode, TCSome, TCRef, NoCTys, MoreCTys, ccount}
+use Rattle.calc_core.specs.Ends.{lift}
+use Rattle.c_terms.specs.C.{CTy, CTys, TCInt, TCVar, TCTuple, TCCode, TCExists, TCRef, NoCTys, MoreCTys, ccount}
 use Rattle.c_terms.specs.Typing.{cren, scons, cup, csub, csubs, names}
 use Rattle.c_terms.specs.Puts.{further_one, without, var_or, cput, cputs, capply}
-use Rattle.term_core.proofs.Substituting.{ren_ren, subs_same, up_same, sub_up, subs_sub, names_up, ren_none}
-use Rattle.term_core.proofs.Lifts.{lift_zero, lift_suc}
+use Rattle.calc_core.proofs.Substituting.{ren_ren, subs_same, up_same, sub_up, subs_sub, names_up, ren_none}
+use Rattle.calc_core.proofs.Lifts.{lift_zero, lift_suc}
 
 -- put is a substitution
 var_suc : (o : Option ℕ) (m : ℕ) (u : CTy) →
@@ -27,8 +27,8 @@ mutual
   put_sub (TCTuple ts) n u s f = ap TCTuple (puts_sub ts n u s f)
   put_sub (TCCode m ts) n u s f = ap (TCCode m) (puts_sub ts (lift m n) (cren (lift m) u) (cup m s) (put_up m n u s f))
   put_sub (TCRef t) n u s f = ap TCRef (put_sub t n u s f)
-  put_sub (TCSome t) n u s f =
-      ap TCSome (ap (λ x. cput (suc n) x t) (sym (one u))
+  put_sub (TCExists t) n u s f =
+      ap TCExists (ap (λ x. cput (suc n) x t) (sym (one u))
       ∙ put_sub t (suc n) (cren (lift 1) u) (cup 1 s) (put_up 1 n u s f))
     where
       one : (x : CTy) → cren (lift 1) x ≡ cren suc x

@@ -1,13 +1,13 @@
 -- The names of a typed term are in scope.
 use Rattle.std.proofs.Common.{◌≡◌, ℕ, suc, ◌+◌, List, [], ◌∷◌, length, subst, arith}
-use Rattle.term_core.specs.Ends.{lift}
+use Rattle.calc_core.specs.Ends.{lift}
 use Rattle.c_terms.specs.C.{CTy, CTys, TCInt, TCTuple, TCCode, TCRef, NoCTys, MoreCTys, CVal, CVar, CInt, CTuple}
 use Rattle.c_terms.specs.C.{CCode, CApply, CPack, CVals, NoCVals, MoreCVals, CName, CProj, CArith, CUnpack, CCell}
 use Rattle.c_terms.specs.C.{CGet, CSet, CTm, CLet, CCall, CIf, CHalt, ccount}
-use Rattle.c_terms.specs.Typing.{CHas, CHave, CGood, cargs_onto, crens_scope}
+use Rattle.c_terms.specs.Typing.{CHas, CHave, CTyped, cargs_onto, crens_scope}
 use Rattle.c_terms.specs.Scope.{CScoped_v, CScoped_vs, CScoped}
-use Rattle.term_core.proofs.Lifts.{lift_add}
-use Rattle.term_core.proofs.Scopes.{scope_length as crens_length, named_below as cat_lt}
+use Rattle.calc_core.proofs.Lifts.{lift_add}
+use Rattle.calc_core.proofs.Scopes.{scope_length as crens_length, named_below as cat_lt}
 
 pub cargs_length : (ts : CTys) (g : List CTy) → length (cargs_onto ts g) ≡ ccount ts + length g
 cargs_length NoCTys g = omega arith
@@ -29,7 +29,7 @@ mutual
   have_within NoCVals n g ts h = tt
   have_within (MoreCVals v vs) n g ts h = (has_within v n g h.0 h.3, have_within vs n g h.1 h.4)
 
-  pub good_within : (t : CTm) (n : ℕ) (g : List CTy) → CGood n g t → CScoped (length g) t
+  pub good_within : (t : CTm) (n : ℕ) (g : List CTy) → CTyped n g t → CScoped (length g) t
   good_within (CLet (CName v) t) n g h = (has_within v n g h.0 h.1, good_within t n (h.0 ∷ g) h.2)
   good_within (CLet (CProj i v) t) n g h = (has_within v n g _ h.2, good_within t n (h.1 ∷ g) h.4)
   good_within (CLet (CArith o v w) t) n g h =

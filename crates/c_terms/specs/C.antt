@@ -1,9 +1,9 @@
 -- The trees of the closed calculus.
 use Rattle.std.specs.Prelude.{ℤ, ℕ, suc}
 use Rattle.idx_core.specs.declared.arith.Op.{Op}
-pub use Rattle.term_core.specs.Types.{Ty as CTy, Tys as CTys, IntTy as TCInt, VarTy as TCVar, TupleTy as TCTuple}
-pub use Rattle.term_core.specs.Types.{CodeTy as TCCode, ExistsTy as TCSome, RefTy as TCRef, NoTys as NoCTys}
-pub use Rattle.term_core.specs.Types.{MoreTys as MoreCTys, count as ccount}
+pub use Rattle.calc_core.specs.Types.{Ty as CTy, Tys as CTys, IntTy as TCInt, VarTy as TCVar, TupleTy as TCTuple}
+pub use Rattle.calc_core.specs.Types.{CodeTy as TCCode, ExistsTy as TCExists, RefTy as TCRef, NoTys as NoCTys}
+pub use Rattle.calc_core.specs.Types.{MoreTys as MoreCTys, count as ccount}
 
 mutual
   pub data CVal : Type 0 where

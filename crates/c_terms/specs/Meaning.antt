@@ -2,8 +2,8 @@
 use Rattle.std.specs.Prelude.{ℤ, pos, ℕ, zero, suc, nat_eq, Option, Some, None}
 use Rattle.idx_core.specs.declared.arith.Op.{Op}
 use Rattle.idx_core.specs.Arith.{compute, is_zero}
-use Rattle.term_core.specs.Ends.{pick, Halted, Spent, Stuck, Result, stops, enters}
-use Rattle.term_core.specs.Ends.{if_fits}
+use Rattle.calc_core.specs.Ends.{pick, Halted, Spent, Stuck, Result, stops, enters}
+use Rattle.calc_core.specs.Ends.{if_fits}
 use Rattle.c_terms.specs.C.{CTys, CVal, CVar, CInt, CTuple, CCode, CApply, CPack, CVals, NoCVals, MoreCVals, CDecl}
 use Rattle.c_terms.specs.C.{CName, CProj, CArith, CUnpack, CCell, CGet, CSet, CTm, CLet, CCall, CIf, CHalt, ccount}
 use Rattle.c_terms.specs.C.{cv_next, cd_next, ct_next}
@@ -20,10 +20,10 @@ mutual
     NoCWords : CWords
     MoreCWords : CWord → CWords → CWords
 
-abbrev pub cat : CWords → ℕ → CWord
-cat NoCWords i = XInt (pos 0)
-cat (MoreCWords v vs) zero = v
-cat (MoreCWords v vs) (suc i) = cat vs i
+abbrev pub cword_at : CWords → ℕ → CWord
+cword_at NoCWords i = XInt (pos 0)
+cword_at (MoreCWords v vs) zero = v
+cword_at (MoreCWords v vs) (suc i) = cword_at vs i
 
 abbrev pub csize : CWords → ℕ
 csize NoCWords = 0
@@ -57,7 +57,7 @@ coperate op (XCell p) w = None
 
 abbrev mutual
   pub cv_value : ℕ → CVal → CWords → CWord
-  cv_value b (CVar i) env = cat env i
+  cv_value b (CVar i) env = cword_at env i
   cv_value b (CInt n) env = XInt n
   cv_value b (CTuple vs) env = XTuple (cvs_value b vs env)
   cv_value b (CCode owes args body) env = XCode b args body

@@ -1,7 +1,7 @@
 -- One type put for one type variable, and types put for names one after the other.
 use Rattle.std.specs.Prelude.{◌≡◌, ℕ, zero, suc, Option, Some, None}
-use Rattle.term_core.specs.Ends.{lift}
-use Rattle.c_terms.specs.C.{CTy, CTys, TCInt, TCVar, TCTuple, TCCode, TCSome, TCRef, NoCTys, MoreCTys, ccount}
+use Rattle.calc_core.specs.Ends.{lift}
+use Rattle.c_terms.specs.C.{CTy, CTys, TCInt, TCVar, TCTuple, TCCode, TCExists, TCRef, NoCTys, MoreCTys, ccount}
 use Rattle.c_terms.specs.Typing.{cren, cup, csubs, names}
 
 abbrev pub further_one : Option ℕ → Option ℕ
@@ -26,7 +26,7 @@ abbrev mutual
   cput n u (TCVar i) = var_or (without n i) u
   cput n u (TCTuple ts) = TCTuple (cputs n u ts)
   cput n u (TCCode m ts) = TCCode m (cputs (lift m n) (cren (lift m) u) ts)
-  cput n u (TCSome t) = TCSome (cput (suc n) (cren suc u) t)
+  cput n u (TCExists t) = TCExists (cput (suc n) (cren suc u) t)
   cput n u (TCRef t) = TCRef (cput n u t)
 
   pub cputs : ℕ → CTy → CTys → CTys
@@ -39,7 +39,7 @@ capply t NoCTys = Some t
 capply TCInt (MoreCTys u us) = None
 capply (TCVar i) (MoreCTys u us) = None
 capply (TCTuple ts) (MoreCTys u us) = None
-capply (TCSome t) (MoreCTys u us) = None
+capply (TCExists t) (MoreCTys u us) = None
 capply (TCRef t) (MoreCTys u us) = None
 capply (TCCode zero args) (MoreCTys u us) = None
 capply (TCCode (suc n) args) (MoreCTys u us) = capply (TCCode n (cputs n (cren (lift n) u) args)) us

@@ -1,6 +1,6 @@
 -- How deep a type's image in the assembly language nests.
 use Rattle.std.specs.Prelude.{ℕ, suc, ◌≤◌, ◌+◌, max}
-use Rattle.c_terms.specs.C.{CTy, CTys, TCInt, TCVar, TCTuple, TCCode, TCSome, TCRef, NoCTys, MoreCTys}
+use Rattle.c_terms.specs.C.{CTy, CTys, TCInt, TCVar, TCTuple, TCCode, TCExists, TCRef, NoCTys, MoreCTys}
 use Rattle.c_terms.specs.Each.{CProp}
 
 -- the greatest number of constructs open at one place of the image, each brace counted twice; a reference's image is
@@ -11,7 +11,7 @@ abbrev mutual
   creach (TCVar i) = 0
   creach (TCTuple ts) = suc (creaches ts)
   creach (TCCode n ts) = suc (suc (creaches ts))
-  creach (TCSome t) = suc (creach t)
+  creach (TCExists t) = suc (creach t)
   creach (TCRef t) = suc (creach t)
 
   pub creaches : CTys → ℕ
@@ -25,7 +25,7 @@ abbrev mutual
   cbinds (TCVar i) = 0
   cbinds (TCTuple ts) = cbinds_all ts
   cbinds (TCCode n ts) = n + cbinds_all ts
-  cbinds (TCSome t) = suc (cbinds t)
+  cbinds (TCExists t) = suc (cbinds t)
   cbinds (TCRef t) = cbinds t
 
   pub cbinds_all : CTys → ℕ

@@ -1,6 +1,6 @@
 -- The code's types and nodes as plain ones.
 use Rattle.std.specs.Prelude.{List, [], ◌∷◌}
-pub use Rattle.term_core.specs.Read.{tree as ctree, trees as ctrees, all_trees as ctys}
+pub use Rattle.calc_core.specs.Read.{tree as ctree, trees as ctrees, all_trees as ctys}
 use Rattle.c_terms.specs.Stream.{CNd, MVar, MInt, MTuple, MCode, MEnd, MApply, MPack, MName, MProj, MArith, MUnpack}
 use Rattle.c_terms.specs.Stream.{MCell, MGet, MSet, MCall, MIf, MElse, MHalt}
 use Rattle.c_terms.specs.declared.node.CNode.{CNode}

@@ -3,8 +3,8 @@
 -- arguments: the call ends where the term does.
 use Rattle.std.specs.Prelude.{ℤ, ℕ, suc, List, ◌∷◌}
 use Rattle.idx_core.specs.declared.arith.Op.{Op}
-use Rattle.term_core.specs.Ends.{lift}
-use Rattle.term_core.specs.Levels.{level_of}
+use Rattle.calc_core.specs.Ends.{lift}
+use Rattle.calc_core.specs.Levels.{level_of}
 use Rattle.c_terms.specs.C.{CTy, CTys, CVal, CVar, CInt, CTuple, CCode, CApply, CPack, CVals, NoCVals, MoreCVals, CDecl}
 use Rattle.c_terms.specs.C.{CName, CProj, CArith, CUnpack, CCell, CGet, CSet, CTm, CLet, CCall, CIf, CHalt, ccount}
 

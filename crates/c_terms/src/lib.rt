@@ -6,6 +6,6 @@ pub mod laws;
 mod node;
 mod program;
 
+pub use calc_core::CoreType as CType;
 pub use node::CNode;
 pub use program::CProgram;
-pub use term_core::CoreType as CType;

@@ -1,6 +1,6 @@
 // Closed terms as streams of nodes.
+use calc_core::CoreType as CType;
 use idx_core::Op;
-use term_core::CoreType as CType;
 
 /// A node of a closed term: operands stand before what takes them. `level` counts the names in scope, and what binds
 /// binds that level.

@@ -1,7 +1,7 @@
 -- The page on what a run of an assembly program made. All of it is our own choice.
 use Rattle.std.specs.Prelude.{ℕ, ◌+◌, ◌-◌, ◌*◌, ◌==◌, nat_lt, min, List, [], ◌∷◌, ◌++◌, take, drop}
 use Rattle.std.specs.Prelude.{sum_by, insert, if◌then◌else◌, codes, decimal}
-use Rattle.fault_page.specs.Spot.{line_number}
+use Rattle.page_core.specs.Spot.{line_number}
 use Rattle.t_terms.specs.Spanned.{SProg}
 use Rattle.cost_page.specs.Places.{number, places}
 use Rattle.cost_page.specs.declared.places.Kind.{Kind}

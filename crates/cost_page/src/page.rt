@@ -1,6 +1,6 @@
 // The page.
 ghost use Rattle.std.specs.Prelude.{◌≡◌, ◌++◌, IfOk, OnOk};
-ghost use Rattle.fault_page.specs.Spot.{line_number};
+ghost use Rattle.page_core.specs.Spot.{line_number};
 ghost use Rattle.t_terms.specs.ReadProgram.{spanned_program};
 ghost use Rattle.cost_page.specs.Page.{row, word, kind_row, kind_rows, kinds, bytes_at, name_text, place_row};
 ghost use Rattle.cost_page.specs.Page.{most_text, totals_text, page};

@@ -2,9 +2,9 @@
 use Rattle.std.proofs.Common.{◌≡◌, ◌≤◌, ◌<◌, ℕ, suc, ◌+◌, List, [], ◌∷◌, ◌++◌, map, length, slice_set, refl, ap, ap₂}
 use Rattle.std.proofs.Common.{◌∙◌, sym, subst, arith, All}
 use Rattle.std.proofs.lemmas.List.Elements.{All-nil, All-cons, All-head, All-tail, All-same}
-use Rattle.arena.specs.Stack.{Chain}
-use Rattle.arena.specs.Roots.{total}
-use Rattle.arena.proofs.Roots.{if_same}
+use Rattle.calc_core.specs.Stack.{Chain}
+use Rattle.calc_core.specs.Roots.{total}
+use Rattle.calc_core.proofs.Roots.{if_same}
 use Rattle.idx_core.specs.declared.arith.Op.{Op}
 use Rattle.idx_core.specs.declared.span.Span.{Span}
 use Rattle.f_terms.specs.Ty.{Ty, TSome, Tys, MoreTys}

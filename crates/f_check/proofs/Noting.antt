@@ -19,8 +19,8 @@ use Rattle.f_terms.specs.declared.node.FShape.TheVariants as S
 use Rattle.f_terms.specs.declared.node.FTerm.{FTerm}
 use Rattle.f_terms.proofs.Occurs.{node_of, times_self, times_root, noted_here, bare_at, low}
 use Rattle.f_terms.proofs.TypeOf.{type_passed}
-use Rattle.arena.specs.Stack.{Chain}
-use Rattle.arena.proofs.Stacks.{chain_pop}
+use Rattle.calc_core.specs.Stack.{Chain}
+use Rattle.calc_core.proofs.Stacks.{chain_pop}
 use Rattle.f_terms.specs.Limits.{nodes}
 use Rattle.f_terms.specs.Scope.{InScope, IsClosed}
 use Rattle.f_check.specs.Scopes.{Bound, bound, IsScope}

@@ -31,7 +31,7 @@ use Rattle.f_check.specs.declared.failure.Failure.{Failure}
 use Rattle.f_check.specs.declared.failure.Failure.TheVariants.{Refused}
 use Rattle.f_check.specs.Walk.{Task, context, TypeIs, FaultOf, fix_names, IsReady, AllPass, Same, Part, top, now}
 use Rattle.f_check.specs.Walk.{Holds, Offered, Enters, frame_work, left, offer_work, Goes}
-use Rattle.arena.specs.Stack.{Chain, stack_sum}
+use Rattle.calc_core.specs.Stack.{Chain, stack_sum}
 use Rattle.f_check.specs.declared.scope.Binder.{Binder}
 use Rattle.f_check.specs.declared.frame.Head.{Head}
 use Rattle.f_check.specs.declared.frame.Packing.{Packing}

@@ -1,8 +1,8 @@
 -- The steps of a checker.
 use Rattle.std.proofs.Common.{◌≡◌, ℕ, ◌+◌, ◌*◌, ◌<◌, [], ◌∷◌, ◌++◌, map, refl, ap, ◌∙◌, sym, subst, arith, inl, inr}
 use Rattle.std.proofs.Common.{Ok, Vec, Global}
-use Rattle.arena.specs.Stack.{Chain, stack_sum}
-use Rattle.arena.proofs.Stacks.{chain_push, chain_pop, chain_up, sum_push}
+use Rattle.calc_core.specs.Stack.{Chain, stack_sum}
+use Rattle.calc_core.proofs.Stacks.{chain_push, chain_pop, chain_up, sum_push}
 use Rattle.f_terms.specs.Ty.{Ty, Tys, NoTys, MoreTys, TInt, TArrow, TRef}
 use Rattle.f_terms.specs.Tm.{Tm, Spn, plain}
 use Rattle.f_terms.specs.Limits.{nodes}

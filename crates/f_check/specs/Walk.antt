@@ -1,7 +1,7 @@
 -- A checker by a stack: what its state stands for.
 use Rattle.std.specs.Prelude.{◌≡◌, ℕ, ◌+◌, ◌*◌, ◌<◌, ◌≤◌, List, [], ◌∷◌, ◌++◌, length, map, Result, Ok, Err}
 use Rattle.std.specs.List.{All}
-use Rattle.arena.specs.Stack.{Chain, stack_sum}
+use Rattle.calc_core.specs.Stack.{Chain, stack_sum}
 use Rattle.text_core.specs.Refusals.{Refusal}
 use Rattle.idx_core.specs.declared.arith.Op.{Op}
 use Rattle.idx_core.specs.declared.span.Span.{Span}

@@ -2,8 +2,8 @@
 use Rattle.std.proofs.Common.{◌≡◌, ◌<◌, ℕ, List, [], ◌∷◌, ◌++◌, map, length, get_or, refl, ap, ap₂, ◌∙◌, sym, arith}
 use Rattle.std.proofs.Common.{All}
 use Rattle.std.proofs.lemmas.List.Elements.{All-head, All-tail}
-use Rattle.arena.specs.Arena.{InOrder}
-use Rattle.arena.proofs.Nodes.{part_at, part_new, part_old}
+use Rattle.calc_core.specs.Arena.{InOrder}
+use Rattle.calc_core.proofs.Nodes.{part_at, part_new, part_old}
 use Rattle.idx_core.specs.declared.span.Span.{Span}
 use Rattle.f_grammar.specs.Raw.{RawTm, RVar, RFix, RGen, RApp, RInst, RFields, RProj, RArith, RIf0, RLet, RPack, ROpen}
 use Rattle.f_grammar.specs.Raw.{RCell, RDeref, RAssign, raw_tms}

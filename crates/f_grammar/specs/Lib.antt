@@ -5,3 +5,8 @@ pub mod Raw
 pub mod Read
 pub mod Reads
 pub mod Term
+pub mod Forest
+pub mod Frames
+pub mod ReadsTerms
+pub mod Scope
+pub mod Text

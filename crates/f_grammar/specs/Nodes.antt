@@ -1,6 +1,6 @@
 -- The children of a node of a term whose names are not resolved, and its tree over theirs.
 use Rattle.std.specs.Prelude.{ℕ, List, [], ◌∷◌, map}
-use Rattle.arena.specs.Arena.{parts}
+use Rattle.calc_core.specs.Arena.{parts}
 use Rattle.idx_core.specs.declared.span.Span.{Span}
 use Rattle.f_grammar.specs.Raw.{RawTm, RVar, RNum, RFix, RGen, RApp, RInst, RFields, RProj, RArith, RIf0, RLet}
 use Rattle.f_grammar.specs.Raw.{RPack, ROpen, RCell, RDeref, RAssign, raw_tms}

@@ -1,6 +1,6 @@
 // Types and terms before names are resolved.
 ghost use Rattle.std.specs.Prelude.{◌<◌, length};
-ghost use Rattle.arena.specs.Arena.{InOrder};
+ghost use Rattle.calc_core.specs.Arena.{InOrder};
 ghost use Rattle.f_grammar.specs.Nodes.{kids};
 
 use idx_core::{Op, Span};

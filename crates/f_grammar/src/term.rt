@@ -1,7 +1,7 @@
 // The nodes of a term, made and read.
 ghost use Rattle.std.specs.Prelude.{◌≡◌, ◌<◌, length};
 ghost use Rattle.std.specs.List.{All};
-ghost use Rattle.arena.specs.Arena.{InOrder};
+ghost use Rattle.calc_core.specs.Arena.{InOrder};
 ghost use Rattle.f_grammar.specs.Nodes.{kids, node_tree, tree_at};
 ghost use Rattle.f_grammar.specs.Term.{count, node_at, tree_of};
 

@@ -15,18 +15,18 @@ use Rattle.f_grammar.specs.Reads.{Fails}
 use Rattle.f_grammar.specs.declared.cursor.Stopped.TheVariants as stopped
 use Rattle.f_grammar.proofs.Instance.{claims}
 use Rattle.f_grammar.specs.Term.{tree_of}
-use Rattle.f_reader.specs.Reads.{Keeps, ReadsTerm}
-use Rattle.f_reader.specs.declared.part.FoundTerm.{FoundTerm}
+use Rattle.f_grammar.specs.ReadsTerms.{Keeps, ReadsTerm}
+use Rattle.f_grammar.specs.declared.part.FoundTerm.{FoundTerm}
 use Rattle.f_terms.specs.declared.fault.FFault.{FFault}
 use Rattle.f_terms.specs.declared.fault.FFault.TheVariants.{Refused}
 use Rattle.f_grammar.specs.declared.raw.RawTerm.{RawTerm}
-use Rattle.f_parser.specs.Scope.{TermOf, Use, uses, IsFirstUnbound, unbound_code}
+use Rattle.f_grammar.specs.Scope.{TermOf, Use, uses, IsFirstUnbound, unbound_code}
 use Rattle.f_parser.specs.Resolve.{StopsAt}
 use Rattle.f_parser.specs.declared.resolve.Unresolved.TheVariants.{Value, «Type»}
-use Rattle.f_parser.specs.Text.{SourceWithin, end_of, IsFault, HasTokens, HasShape, FirstFault, unexpected, cut_short}
-use Rattle.f_parser.specs.Text.{too_deep, too_large, unbound}
+use Rattle.f_grammar.specs.Text.{SourceWithin, end_of, IsFault, HasTokens, HasShape, FirstFault, unexpected, cut_short}
+use Rattle.f_grammar.specs.Text.{too_deep, too_large, unbound}
 use Rattle.f_parser.specs.Reader.{HasTree}
-use Rattle.f_parser.proofs.Closed.{same_nodes}
+use Rattle.f_grammar.proofs.Closed.{same_nodes}
 
 -- where the reading of the tokens stops
 module _ (text : List ℕ) (w : List Token) (h : HasTokens text w) (i : ℕ) where

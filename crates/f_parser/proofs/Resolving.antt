@@ -15,12 +15,12 @@ use Rattle.f_grammar.specs.Read.{type_of}
 use Rattle.f_grammar.specs.declared.raw.RawType.{RawType}
 use Rattle.f_grammar.specs.declared.raw.RawType.TheVariants as rtype
 use Rattle.f_grammar.proofs.Typing.{type_Tuple}
-use Rattle.f_parser.specs.Scope.{spelled, use_at, TypeOf, of_tuple, TypesOf, of_no_types, of_more_types, TermOf}
-use Rattle.f_parser.specs.Scope.{of_num, Use, type_uses, types_uses, uses, AllBound}
+use Rattle.f_grammar.specs.Scope.{spelled, use_at, TypeOf, of_tuple, TypesOf, of_no_types, of_more_types, TermOf}
+use Rattle.f_grammar.specs.Scope.{of_num, Use, type_uses, types_uses, uses, AllBound}
 use Rattle.f_parser.specs.Resolve.{StopsAt}
 use Rattle.f_parser.specs.declared.resolve.Unresolved.{Unresolved}
 use Rattle.f_parser.specs.declared.resolve.Unresolved.TheVariants.{Memory, Value, «Type»}
-use Rattle.f_parser.proofs.Bound.{types_bound, first_left, first_right}
+use Rattle.f_grammar.proofs.Bound.{types_bound, first_left, first_right}
 use Rattle.f_terms.proofs.Trees.{tree_Tuple as tuple_type}
 
 -- a stop in a part

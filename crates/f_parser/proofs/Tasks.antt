@@ -16,9 +16,9 @@ use Rattle.f_terms.specs.declared.stack.FStep.{FStep}
 use Rattle.f_terms.specs.declared.stack.FStep.TheVariants as form
 use Rattle.f_grammar.specs.Raw.{RawTy, RawTm, RVar, RNum, RFix, RGen, RApp, RInst, RFields, RProj, RArith, RIf0, RLet}
 use Rattle.f_grammar.specs.Raw.{RPack, ROpen, RCell, RDeref, RAssign, RawTms, NoRawTms, MoreRawTms, nodes, nodes_all}
-use Rattle.f_parser.specs.Scope.{spelled, TypeOf, TermOf, of_fix, of_gen, of_app, of_inst, of_fields, of_proj}
-use Rattle.f_parser.specs.Scope.{of_arith, of_if0, of_let, of_pack, of_open, of_cell, of_deref, of_assign, TermsOf}
-use Rattle.f_parser.specs.Scope.{of_no_terms, of_more_terms, Use, type_uses, uses, all_uses}
+use Rattle.f_grammar.specs.Scope.{spelled, TypeOf, TermOf, of_fix, of_gen, of_app, of_inst, of_fields, of_proj}
+use Rattle.f_grammar.specs.Scope.{of_arith, of_if0, of_let, of_pack, of_open, of_cell, of_deref, of_assign, TermsOf}
+use Rattle.f_grammar.specs.Scope.{of_no_terms, of_more_terms, Use, type_uses, uses, all_uses}
 use Rattle.f_parser.specs.Resolve.{StopsAt}
 use Rattle.f_parser.specs.Binding.{Todo, Bind, BindAll, NameIt, NameBoth, UseAt, PackAt, Put, todo, todos_before}
 use Rattle.f_parser.specs.Binding.{todos, Stand, stand, outer_values, outer_types, values_left, types_left, uses_left}
@@ -29,7 +29,7 @@ use Rattle.f_parser.specs.declared.task.Leaves.{Leaves}
 use Rattle.f_parser.specs.declared.task.Leaves.TheVariants.{Nothing, Function, Abstraction, Binding, Opening}
 use Rattle.f_parser.specs.declared.task.Task.{Task}
 use Rattle.f_grammar.specs.Raw.{raw_tms}
-use Rattle.f_parser.proofs.Bound.{type_bound, term_bound}
+use Rattle.f_grammar.proofs.Bound.{type_bound, term_bound}
 use Rattle.f_parser.proofs.Resolving.{stops_left, stops_right}
 
 -- a task more is the next one

@@ -12,7 +12,7 @@ use Rattle.f_grammar.specs.Raw.{RawTy, RawTm, RVar, RNum, RFix, RGen, RLet, RPac
 use Rattle.f_grammar.specs.Raw.{nodes}
 use Rattle.f_grammar.specs.Read.{type_of}
 use Rattle.f_parser.specs.Parts.{part_tree, part_trees}
-use Rattle.f_parser.specs.Scope.{spelled, TypeOf, TermOf, TermsOf, Use, type_uses, uses, all_uses}
+use Rattle.f_grammar.specs.Scope.{spelled, TypeOf, TermOf, TermsOf, Use, type_uses, uses, all_uses}
 use Rattle.f_parser.specs.Resolve.{StopsAt}
 use Rattle.f_parser.specs.declared.resolve.Unresolved.{Unresolved}
 use Rattle.f_parser.specs.declared.task.Leaves.{Leaves}

@@ -1,6 +1,6 @@
 -- Where the resolving of names stops.
 use Rattle.std.specs.Prelude.{◌≡◌, ℕ, List, true, false}
-use Rattle.f_parser.specs.Scope.{Use, IsFirstUnbound}
+use Rattle.f_grammar.specs.Scope.{Use, IsFirstUnbound}
 use Rattle.f_parser.specs.declared.resolve.Unresolved.{Unresolved}
 use Rattle.f_parser.specs.declared.resolve.Unresolved.TheVariants.{Memory, Value, «Type»}
 

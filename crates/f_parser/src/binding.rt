@@ -7,7 +7,7 @@ ghost use Rattle.f_terms.specs.ReadTerm.{spanned};
 ghost use Rattle.f_terms.specs.Stacked.{arity, stacked, trees_of};
 ghost use Rattle.f_grammar.specs.Term.{tree_of};
 ghost use Rattle.f_parser.specs.Parts.{part_tree, part_trees};
-ghost use Rattle.f_parser.specs.Scope.{TermOf, IsBinder, IsLetOrOpen, IsPack, uses};
+ghost use Rattle.f_grammar.specs.Scope.{TermOf, IsBinder, IsLetOrOpen, IsPack, uses};
 ghost use Rattle.f_parser.specs.Resolve.{StopsAt};
 ghost use Rattle.f_parser.specs.Binding.{Bind, BindAll, Put, HasParts, todo, todos};
 ghost use Rattle.f_parser.specs.Binding.{outer_values, outer_types, uses_of, Enough, stand, Steps};

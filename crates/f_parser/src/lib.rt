@@ -2,15 +2,12 @@
 #![tactic(auto)]
 
 mod binding;
-mod laws;
+mod order;
 mod part;
 mod parts;
 mod reader;
 mod resolve;
 mod task;
 
-pub use laws::{
-    closed_terms, no_fault_where_read, no_term_where_faulty, one_fault, one_term, same_nodes,
-    term_or_fault, uses_in_text_order,
-};
+pub use order::uses_in_text_order;
 pub use reader::parse;

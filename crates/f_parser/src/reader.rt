@@ -11,15 +11,14 @@ ghost use Rattle.f_grammar.specs.Raw.{RawTm, nodes, place_of};
 ghost use Rattle.f_grammar.specs.Machine.{LE};
 ghost use Rattle.f_grammar.specs.Reads.{Fails};
 ghost use Rattle.f_grammar.specs.Term.{tree_of};
-ghost use Rattle.f_reader.specs.Reads.{Keeps};
-ghost use Rattle.f_parser.specs.Text.{SourceWithin, FirstFault, IsFault, HasTokens, whole_of, end_of};
+ghost use Rattle.f_grammar.specs.ReadsTerms.{Keeps};
+ghost use Rattle.f_grammar.specs.Text.{SourceWithin, FirstFault, IsFault, HasTokens, whole_of, end_of};
 ghost use Rattle.f_parser.specs.Reader.{HasTree};
 
 use crate::binding::bind;
 use crate::resolve::Unresolved;
-use f_grammar::{RawTerm, Stopped, peek};
+use f_grammar::{Kept, RawTerm, Stopped, peek, whole_term};
 use f_lexer::{Token, tokens};
-use f_reader::{Kept, whole_term};
 use f_terms::{Code, FFault, FTerm};
 use idx_core::Span;
 use std::alloc::Global;

@@ -4,7 +4,7 @@ ghost use Rattle.idx_core.specs.Names.{Name};
 ghost use Rattle.f_terms.specs.Ty.{TArrow, TAll, TSome, TRef};
 ghost use Rattle.f_terms.specs.Read.{tree};
 ghost use Rattle.f_grammar.specs.Read.{type_of};
-ghost use Rattle.f_parser.specs.Scope.{spelled, TypeOf, type_uses};
+ghost use Rattle.f_grammar.specs.Scope.{spelled, TypeOf, type_uses};
 ghost use Rattle.f_parser.specs.Resolve.{StopsAt};
 ghost use Rattle.f_parser.specs.declared.resolve.Unresolved.TheVariants as stopped;
 

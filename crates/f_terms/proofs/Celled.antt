@@ -3,9 +3,9 @@ use Rattle.std.proofs.Common.{◌≡◌, ◌≤◌, ◌<◌, ◌⊎◌, inl, inr
 use Rattle.std.proofs.Common.{true≢false, List, [], ◌∷◌, map, length, get_or, refl, ap, ap₂, ◌∙◌, sym, arith, All}
 use Rattle.std.proofs.lemmas.Bool.{cases_eq}
 use Rattle.std.proofs.lemmas.List.Elements.{All-head, All-tail}
-use Rattle.arena.specs.Roots.{total, roots}
-use Rattle.arena.proofs.Once as once
-use Rattle.arena.proofs.Roots.{if_same, if_other}
+use Rattle.calc_core.specs.Roots.{total, roots}
+use Rattle.calc_core.proofs.Once as once
+use Rattle.calc_core.proofs.Roots.{if_same, if_other}
 use Rattle.f_terms.specs.Tm.{Tm, Spn, plain, plain_all, tms}
 use Rattle.f_terms.specs.Read.{place}
 use Rattle.f_terms.specs.Shape.{children, kids, shape_tree}

@@ -2,8 +2,8 @@
 use Rattle.std.proofs.Common.{◌≡◌, ◌<◌, ℕ, zero, suc, List, [], ◌∷◌, map, length, get_or, refl, ap, ap₂, ◌∙◌, sym}
 use Rattle.std.proofs.Common.{subst, arith, All}
 use Rattle.std.proofs.lemmas.List.Elements.{All-head, All-tail}
-use Rattle.arena.specs.Arena.{InOrder}
-use Rattle.arena.proofs.Nodes.{part_at}
+use Rattle.calc_core.specs.Arena.{InOrder}
+use Rattle.calc_core.proofs.Nodes.{part_at}
 use Rattle.f_terms.specs.Ty.{Ty}
 use Rattle.f_terms.specs.Noted.{Noted, EVar, EFix, EApp, EGen, EInst, ETuple, EProj, EArith, EIf, ELet, EPack, EOpen}
 use Rattle.f_terms.specs.Noted.{ERef, EDeref, EAssign, noteds}

@@ -3,9 +3,9 @@ use Rattle.std.proofs.Common.{◌≡◌, ◌≢◌, ◌≤◌, ◌<◌, ℕ, zer
 use Rattle.std.proofs.Common.{slice_set, refl, ap, ap₂, ◌∙◌, sym, arith, All}
 use Rattle.std.proofs.lemmas.List.{get_or-set_other, length-set}
 use Rattle.std.proofs.lemmas.List.Elements.{All-nil, All-cons, All-head, All-tail}
-use Rattle.arena.specs.Roots.{total}
-use Rattle.arena.proofs.Once as once
-use Rattle.arena.proofs.Roots.{if_same, same_total as total_eq}
+use Rattle.calc_core.specs.Roots.{total}
+use Rattle.calc_core.proofs.Once as once
+use Rattle.calc_core.proofs.Roots.{if_same, same_total as total_eq}
 use Rattle.f_terms.specs.Limits.{nodes}
 use Rattle.f_terms.specs.Tm.{Tm, Spn, plain, plain_all, tms, MFix, MApp, MGen, MInst, MTuple, MProj, MArith, MIf0}
 use Rattle.f_terms.specs.Tm.{MLet, MPack, MOpen, MRef, MDeref, MAssign, MoreTerms}

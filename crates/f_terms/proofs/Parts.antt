@@ -2,12 +2,12 @@
 use Rattle.std.proofs.Common.{◌≡◌, ◌≢◌, ℕ, ◌+◌, ◌-◌, ◌<◌, ◌⊎◌, List, [], ◌∷◌, ◌++◌, Bool, true, false, if◌then◌else◌}
 use Rattle.std.proofs.Common.{refl, ap, ◌∙◌, sym, subst, length, map, get_or, arith, All, inl, inr}
 use Rattle.std.proofs.lemmas.List.{length_push}
-use Rattle.arena.specs.Arena.{parts, InOrder}
-use Rattle.arena.proofs.Nodes.{part_at, part_new, part_old, order_new}
+use Rattle.calc_core.specs.Arena.{parts, InOrder}
+use Rattle.calc_core.proofs.Nodes.{part_at, part_new, part_old, order_new}
 use Rattle.f_terms.specs.Limits.{nodes, nodes_all}
 use Rattle.f_terms.specs.Tm.{Tm, Spn, SVar, plain, plain_all, tms}
 use Rattle.f_terms.specs.Read.{place}
-use Rattle.arena.specs.Roots.{Differ, Among, total, without_all, roots}
+use Rattle.calc_core.specs.Roots.{Differ, Among, total, without_all, roots}
 use Rattle.f_terms.specs.Shape.{children, kids, shape_tree, node_tree, tree_at, nodes_at}
 use Rattle.f_terms.specs.ReadTerm.{size_of, part, IsLoose, node_at, count}
 use Rattle.f_terms.specs.Made.{IsAdded}
@@ -18,8 +18,9 @@ use Rattle.f_terms.specs.declared.node.FShape.{FShape}
 use Rattle.f_terms.specs.declared.node.FShape.TheVariants.{Var, Int, Fix, App, Gen, Inst, Tuple, Proj, Arith, If0, Let}
 use Rattle.f_terms.specs.declared.node.FShape.TheVariants.{Pack, Open, Ref, Deref, Assign}
 use Rattle.f_terms.proofs.Shapes.{local}
-use Rattle.arena.proofs.Roots.{among_push, among_pop, among_left_all, among_was_all, of_among, roots_push, roots_low}
-use Rattle.arena.proofs.Roots.{roots_differ, counted_push, just_one, last_among}
+use Rattle.calc_core.proofs.Roots.{among_push, among_pop, among_left_all, among_was_all, of_among, roots_push}
+use Rattle.calc_core.proofs.Roots.{roots_low}
+use Rattle.calc_core.proofs.Roots.{roots_differ, counted_push, just_one, last_among}
 
 pub low : (ns : List FNode) (ks : List ℕ) → All (λ k. Among (roots kids ns) k) ks → All (λ k. k < length ns) ks
 low ns ks h i d lt = of_among (λ k. k < length ns) (roots kids ns) _ (roots_low kids ns) (h i d lt)

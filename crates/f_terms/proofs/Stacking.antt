@@ -3,8 +3,8 @@ use Rattle.std.proofs.Common.{◌≡◌, ℕ, ◌-◌, ◌<◌, inl, inr, length
 use Rattle.std.proofs.Common.{◌∙◌, sym, subst, arith, All}
 use Rattle.std.proofs.lemmas.List.{map-append, take-map, drop-map}
 use Rattle.std.proofs.lemmas.List.Elements.{All-head, All-tail}
-use Rattle.arena.specs.Roots.{Differ, Among, without_all, roots}
-use Rattle.arena.proofs.Roots.{of_among, roots_low, differ_back, all_before, among_last, without_last, roots_differ}
+use Rattle.calc_core.specs.Roots.{Differ, Among, without_all, roots}
+use Rattle.calc_core.proofs.Roots.{of_among, roots_low, differ_back, all_before, among_last, without_last, roots_differ}
 use Rattle.f_terms.specs.Tm.{Tm, Spn}
 use Rattle.f_terms.specs.Shape.{children, kids, shape_tree}
 use Rattle.f_terms.specs.ReadTerm.{size_of, part, IsLoose, loose_parts}

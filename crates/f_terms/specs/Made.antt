@@ -3,7 +3,7 @@ use Rattle.std.specs.Prelude.{◌≡◌, ◌≢◌, ℕ, ◌+◌, ◌<◌, ◌�
 use Rattle.std.specs.List.{All}
 use Rattle.f_terms.specs.Tm.{Spn}
 use Rattle.f_terms.specs.Shape.{children, shape_tree}
-use Rattle.arena.specs.Roots.{without_all}
+use Rattle.calc_core.specs.Roots.{without_all}
 use Rattle.f_terms.specs.ReadTerm.{size_of, part, loose_parts, IsLoose}
 use Rattle.f_terms.specs.declared.node.FShape.{FShape}
 use Rattle.f_terms.specs.declared.node.FParts.{FParts}

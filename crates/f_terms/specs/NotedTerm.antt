@@ -1,7 +1,7 @@
 -- The tree of a term with a table of types beside it, by the numbers of its nodes: each is the type of its node, but
 -- for that of an `open`, which is the type of the name that it binds.
 use Rattle.std.specs.Prelude.{◌≡◌, ℕ, ◌-◌, List, [], ◌∷◌, map}
-use Rattle.arena.specs.Arena.{parts}
+use Rattle.calc_core.specs.Arena.{parts}
 use Rattle.f_terms.specs.Ty.{Ty, TAll}
 use Rattle.f_terms.specs.Noted.{Noted, EVar, ENum, EFix, EApp, EGen, EInst, ETuple, EProj, EArith, EIf, ELet, EPack}
 use Rattle.f_terms.specs.Noted.{EOpen, ERef, EDeref, EAssign, noteds, bare}

@@ -1,7 +1,7 @@
 -- The trees of a term's nodes, and of parts.
 use Rattle.std.specs.Prelude.{◌-◌, ℕ, List, length, slice_index_or}
-use Rattle.arena.specs.Arena.{parts}
-use Rattle.arena.specs.Roots.{Among, roots}
+use Rattle.calc_core.specs.Arena.{parts}
+use Rattle.calc_core.specs.Roots.{Among, roots}
 use Rattle.f_terms.specs.Tm.{Tm, Term, SVar, plain}
 use Rattle.f_terms.specs.Shape.{kids, node_tree}
 use Rattle.f_terms.specs.declared.node.FShape.{FShape}

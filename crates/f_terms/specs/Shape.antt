@@ -1,6 +1,6 @@
 -- The children of a node, and its tree over theirs.
 use Rattle.std.specs.Prelude.{ℕ, List, [], ◌∷◌, map}
-use Rattle.arena.specs.Arena.{parts}
+use Rattle.calc_core.specs.Arena.{parts}
 use Rattle.f_terms.specs.Limits.{nodes}
 use Rattle.f_terms.specs.Tm.{plain, Spn, Tm, SVar, SNum, SFix, SApp, SGen, SInst, STuple, SProj, SArith, SIf0, SLet}
 use Rattle.f_terms.specs.Tm.{SPack, SOpen, SRef, SDeref, SAssign, tms}

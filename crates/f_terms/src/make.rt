@@ -5,7 +5,7 @@ ghost use Rattle.f_terms.specs.Read.{place};
 ghost use Rattle.f_terms.specs.Shape.{children};
 ghost use Rattle.f_terms.specs.ReadTerm.{size_of, part, spanned, IsLoose};
 ghost use Rattle.f_terms.specs.Made.{IsAdded, IsSame};
-ghost use Rattle.arena.specs.Roots.{Differ};
+ghost use Rattle.calc_core.specs.Roots.{Differ};
 
 use crate::node::{FNode, FParts, FShape, FTerm};
 use idx_core::{OutOfMemory, Span};

@@ -1,8 +1,8 @@
 // The nodes of a term.
 ghost use Rattle.std.specs.Prelude.{◌≡◌, ◌<◌, ◌-◌, ◌∷◌, [], length};
-ghost use Rattle.arena.specs.Arena.{InOrder};
+ghost use Rattle.calc_core.specs.Arena.{InOrder};
 ghost use Rattle.f_terms.specs.Shape.{kids, nodes_at};
-ghost use Rattle.arena.specs.Roots.{total, roots};
+ghost use Rattle.calc_core.specs.Roots.{total, roots};
 
 use crate::types::FType;
 use idx_core::{Op, Span};

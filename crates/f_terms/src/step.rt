@@ -6,7 +6,7 @@ ghost use Rattle.f_terms.specs.Read.{place};
 ghost use Rattle.f_terms.specs.Shape.{children, shape_tree};
 ghost use Rattle.f_terms.specs.ReadTerm.{spanned, IsLoose};
 ghost use Rattle.f_terms.specs.Made.{IsAdded, IsSame};
-ghost use Rattle.arena.specs.Roots.{Differ};
+ghost use Rattle.calc_core.specs.Roots.{Differ};
 ghost use Rattle.f_terms.specs.Stacked.{arity, step_tree, stacked, trees_of};
 
 use crate::node::{FParts, FShape, FTerm};

@@ -26,11 +26,11 @@ use Rattle.f_grammar.specs.Grammar.{es_one, es_more, open_T, open_U, open_Ts, op
 use Rattle.f_grammar.specs.Grammar.{open_Es}
 use Rattle.f_grammar.specs.Machine.{table, Val}
 use Rattle.f_grammar.proofs.Instance.{claims, source_exact}
-use Rattle.f_parser.specs.Scope.{TypeOf, of_int, of_name, of_tuple, of_arrow, of_all, of_some, of_ref, TypesOf}
-use Rattle.f_parser.specs.Scope.{of_no_types, of_more_types, TermOf, of_var, of_num, of_fix, of_gen, of_app, of_inst}
-use Rattle.f_parser.specs.Scope.{of_fields, of_proj, of_arith, of_if0, of_let, of_pack, of_open, of_cell, of_deref}
-use Rattle.f_parser.specs.Scope.{of_assign, TermsOf, of_no_terms, of_more_terms}
-use Rattle.f_parser.specs.Text.{Source, FewOpen}
+use Rattle.f_grammar.specs.Scope.{TypeOf, of_int, of_name, of_tuple, of_arrow, of_all, of_some, of_ref, TypesOf}
+use Rattle.f_grammar.specs.Scope.{of_no_types, of_more_types, TermOf, of_var, of_num, of_fix, of_gen, of_app, of_inst}
+use Rattle.f_grammar.specs.Scope.{of_fields, of_proj, of_arith, of_if0, of_let, of_pack, of_open, of_cell, of_deref}
+use Rattle.f_grammar.specs.Scope.{of_assign, TermsOf, of_no_terms, of_more_terms}
+use Rattle.f_grammar.specs.Text.{Source, FewOpen}
 use Rattle.f_writer.specs.declared.line.Line.{Line}
 use Rattle.f_writer.specs.declared.line.Line.TheVariants.{Expression, Sum, Product, Call, Primary}
 use Rattle.f_writer.specs.Lines.{is_loose, op_line, right_line, line_of}

@@ -28,14 +28,14 @@ use Rattle.f_grammar.specs.Grammar.{E, e_fix, e_gen, e_let, e_pack, e_open, e_as
 use Rattle.f_grammar.specs.Grammar.{s_product, M, m_star, m_call, A, a_call, a_inst, a_part, P, p_name}
 use Rattle.f_grammar.specs.Grammar.{p_plain as p_natural, p_negative as p_minus, p_paren, p_unit, p_tuple, p_proj}
 use Rattle.f_grammar.specs.Grammar.{p_if0, p_ref, p_deref, Es, es_one, es_more}
-use Rattle.f_parser.specs.Scope.{spelled, TypeOf, of_int, of_name, of_tuple, of_arrow, of_all, of_some, of_ref}
-use Rattle.f_parser.specs.Scope.{TypesOf, of_no_types, of_more_types}
-use Rattle.f_parser.specs.Scope.{TermOf, of_var, of_num, of_fix, of_gen, of_app, of_inst, of_fields, of_proj}
-use Rattle.f_parser.specs.Scope.{of_arith, of_if0, of_let, of_pack, of_open, of_cell, of_deref, of_assign, TermsOf}
-use Rattle.f_parser.specs.Scope.{of_no_terms, of_more_terms}
+use Rattle.f_grammar.specs.Scope.{spelled, TypeOf, of_int, of_name, of_tuple, of_arrow, of_all, of_some, of_ref}
+use Rattle.f_grammar.specs.Scope.{TypesOf, of_no_types, of_more_types}
+use Rattle.f_grammar.specs.Scope.{TermOf, of_var, of_num, of_fix, of_gen, of_app, of_inst, of_fields, of_proj}
+use Rattle.f_grammar.specs.Scope.{of_arith, of_if0, of_let, of_pack, of_open, of_cell, of_deref, of_assign, TermsOf}
+use Rattle.f_grammar.specs.Scope.{of_no_terms, of_more_terms}
 use Rattle.f_writer.specs.Fits.{TypeFits, Fits, AllFit}
 use Rattle.f_writer.specs.Laws.{ReadTermsCanBeWritten}
-use Rattle.f_parser.proofs.Closed.{place_below}
+use Rattle.f_grammar.proofs.Closed.{place_below}
 
 -- the numbers of tokens
 

@@ -4,7 +4,7 @@ use Rattle.std.proofs.lemmas.List.{append-nil}
 use Rattle.text_core.specs.Tokens.{Cut}
 use Rattle.f_terms.specs.Tm.{Term, Tm, plain}
 use Rattle.f_lexer.specs.Source.{source}
-use Rattle.f_parser.specs.Text.{OneTerm, Source, FewOpen}
+use Rattle.f_grammar.specs.Text.{OneTerm, Source, FewOpen}
 use Rattle.f_terms.specs.Limits.{FewNodes}
 use Rattle.f_writer.specs.declared.line.Line.TheVariants.{Expression}
 use Rattle.f_writer.specs.Fits.{CanBeWritten}

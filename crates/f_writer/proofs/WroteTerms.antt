@@ -18,9 +18,9 @@ use Rattle.f_lexer.specs.declared.token.Token.{Token}
 use Rattle.f_grammar.specs.Raw.{RawTm, raw_tms, Piece, within, var, number, func, gen, call, inst, tuple, proj}
 use Rattle.f_grammar.specs.Raw.{arith as operation, if0, let_in, pack, open_in, cell, deref, assign}
 use Rattle.f_grammar.specs.Grammar.{tok}
-use Rattle.f_parser.specs.Scope.{spelled, TermOf, of_var, of_num, of_fix, of_gen, of_app, of_inst, of_fields, of_proj}
-use Rattle.f_parser.specs.Scope.{of_arith, of_if0, of_let, of_pack, of_open, of_cell, of_deref, of_assign, TermsOf}
-use Rattle.f_parser.specs.Scope.{of_no_terms, of_more_terms}
+use Rattle.f_grammar.specs.Scope.{spelled, TermOf, of_var, of_num, of_fix, of_gen, of_app, of_inst, of_fields, of_proj}
+use Rattle.f_grammar.specs.Scope.{of_arith, of_if0, of_let, of_pack, of_open, of_cell, of_deref, of_assign, TermsOf}
+use Rattle.f_grammar.specs.Scope.{of_no_terms, of_more_terms}
 use Rattle.f_writer.specs.declared.line.Line.{Line}
 use Rattle.f_writer.specs.declared.line.Line.TheVariants.{Sum, Product, Call, Primary}
 use Rattle.f_writer.specs.Lines.{is_loose, line_of}

@@ -14,8 +14,8 @@ use Rattle.f_grammar.specs.declared.types.Quantifier.TheVariants.{All, Exists}
 use Rattle.f_grammar.specs.Raw.{RawTy, raw_tys, TyPiece, int_ty, name_ty, tuple_ty, arrow_ty, bound_ty}
 use Rattle.f_grammar.specs.Raw.{ref_ty, paren_ty}
 use Rattle.f_grammar.specs.Grammar.{tok}
-use Rattle.f_parser.specs.Scope.{spelled, TypeOf, of_int, of_name, of_tuple, of_arrow, of_all, of_some, of_ref}
-use Rattle.f_parser.specs.Scope.{TypesOf, of_no_types, of_more_types}
+use Rattle.f_grammar.specs.Scope.{spelled, TypeOf, of_int, of_name, of_tuple, of_arrow, of_all, of_some, of_ref}
+use Rattle.f_grammar.specs.Scope.{TypesOf, of_no_types, of_more_types}
 use Rattle.f_writer.specs.Fits.{TypeFits}
 use Rattle.f_writer.proofs.Lexemes.{Reserved, TypeName, Sign, Pair, Spaced, bytes, space, comma}
 use Rattle.f_writer.proofs.Lexemes.{open_paren, close_paren, inside, type_lexed, more_types_lexed}

@@ -1,7 +1,7 @@
 -- What the canonical text of a term stands for.
 use Rattle.std.specs.Prelude.{◌≡◌, ℕ, List}
 use Rattle.f_terms.specs.Tm.{Term, Tm, plain}
-use Rattle.f_parser.specs.Text.{Source, SourceWithin, FewBytes}
+use Rattle.f_grammar.specs.Text.{Source, SourceWithin, FewBytes}
 use Rattle.f_writer.specs.Fits.{CanBeWritten}
 use Rattle.f_writer.specs.Notation.{term_text}
 

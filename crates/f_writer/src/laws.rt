@@ -2,7 +2,7 @@
 ghost use Rattle.f_writer.specs.Laws.{StandsForItself, ReadTermsCanBeWritten, WrittenTwiceIsWrittenOnce};
 ghost use Rattle.f_writer.specs.Laws.{WrittenTextsAreWithin};
 
-use f_parser::one_term;
+use f_grammar::one_term;
 
 /// The text of a term that can be written stands for the term, places aside.
 pub fn texts_stand_for_their_terms()

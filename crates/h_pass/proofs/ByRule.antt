@@ -1,16 +1,17 @@
 -- Whatever is hoisted by the rule means the same.
 use Rattle.std.proofs.Common.{Bool, true, false, ◌≡◌, ◌<◌, ℕ, zero, suc, nat_eq, nat_lt, ◌∷◌, cond}
 use Rattle.std.proofs.Common.{Some, refl, sym, ap, ap₂, ◌∙◌, subst, subst₂, arith, eqb-true, ltb-true}
-use Rattle.term_core.specs.Ends.{Result, if_fits, lift}
-use Rattle.term_core.proofs.Lifts.{lift_suc, lift_zero}
+use Rattle.calc_core.specs.Ends.{Result, if_fits, lift}
+use Rattle.calc_core.proofs.Lifts.{lift_suc, lift_zero}
 use Rattle.c_terms.specs.C.{CTm, CTys, CVal, CVar, ccount, cd_next, ct_next, cv_next}
-use Rattle.c_terms.specs.Meaning.{CEnter, CWord, CWords, MoreCWords, NoCWords, XCell, XCode, XInt, XTuple, cat}
+use Rattle.c_terms.specs.Meaning.{CEnter, CWord, CWords, MoreCWords, NoCWords, XCell, XCode, XInt, XTuple, cword_at}
 use Rattle.c_terms.specs.Meaning.{cd_value}
 use Rattle.c_terms.specs.Meaning.{center, conto, copen, crun, csize, cterm, cv_value, cvs_value}
 use Rattle.h_terms.specs.H.{HApply, HArith, HBlk, HBlks, HCall, HCell, HDecl, HGet, HHalt, HIf, HInt, HLabel, HLet}
 use Rattle.h_terms.specs.H.{HName}
 use Rattle.h_terms.specs.H.{HPack, HProj, HSet, HTm, HTuple, HUnpack, HVal, HVals, HVar, MoreHVals, NoHVals, block_at}
-use Rattle.h_terms.specs.Meaning.{HEnter, HWord, HWords, MoreHWords, NoHWords, YCell, YLabel, hat, hd_value, henter}
+use Rattle.h_terms.specs.Meaning.{HEnter, HWord, HWords, MoreHWords, NoHWords, YCell, YLabel, hword_at, hd_value}
+use Rattle.h_terms.specs.Meaning.{henter}
 use Rattle.h_terms.specs.Meaning.{honto, hopen}
 use Rattle.h_terms.specs.Meaning.{hrun, hsize, hterm, hv_value, hvs_value, with_block}
 use Rattle.h_pass.proofs.Clean.{Clean_d, Clean_t, Clean_v, Clean_vs}
@@ -45,7 +46,7 @@ module _ (ks : HBlks) where
   -- an environment under d variables
   abbrev EnvOwn : Own → CWords → Type 0
   EnvOwn Nobody ws = Unit {0}
-  EnvOwn (Code l) ws = IsWord (cat ws 0) (YLabel l)
+  EnvOwn (Code l) ws = IsWord (cword_at ws 0) (YLabel l)
 
   abbrev EnvOk : Own → ℕ → CWords → HWords → Type 0
   EnvOk own zero ws ys = EnvOwn own ws
@@ -53,14 +54,15 @@ module _ (ks : HBlks) where
   EnvOk own (suc d) (MoreCWords w ws) NoHWords = ⊥
   EnvOk own (suc d) (MoreCWords w ws) (MoreHWords y ys) = IsWord w y × EnvOk own d ws ys
 
-  near : (own : Own) (d i : ℕ) (ws : CWords) (ys : HWords) → i < d → EnvOk own d ws ys → IsWord (cat ws i) (hat ys i)
+  near : (own : Own) (d i : ℕ) (ws : CWords) (ys : HWords) → i < d → EnvOk own d ws ys → IsWord (cword_at ws i)
+      (hword_at ys i)
   near own zero i ws ys lt h = absurd (omega (arith, lt))
   near own (suc d) i NoCWords ys lt h = absurd h
   near own (suc d) i (MoreCWords w ws) NoHWords lt h = absurd h
   near own (suc d) zero (MoreCWords w ws) (MoreHWords y ys) lt h = h.0
   near own (suc d) (suc i) (MoreCWords w ws) (MoreHWords y ys) lt h = near own d i ws ys (omega (arith, lt)) h.1
 
-  itself : (l d : ℕ) (ws : CWords) (ys : HWords) → EnvOk (Code l) d ws ys → IsWord (cat ws d) (YLabel l)
+  itself : (l d : ℕ) (ws : CWords) (ys : HWords) → EnvOk (Code l) d ws ys → IsWord (cword_at ws d) (YLabel l)
   itself l zero ws ys h = h
   itself l (suc d) NoCWords ys h = absurd h
   itself l (suc d) (MoreCWords w ws) NoHWords h = absurd h
@@ -68,7 +70,7 @@ module _ (ks : HBlks) where
 
   var_is : (own : Own) (d i b : ℕ) (ws : CWords) (ys : HWords) (x : Bool) → nat_lt i d ≡ x →
       Clean_v (cond x (CVar i) missing) → EnvOk own d ws ys →
-      IsWord (cv_value b (cond x (CVar i) missing) ws) (hat ys i)
+      IsWord (cv_value b (cond x (CVar i) missing) ws) (hword_at ys i)
   var_is own d i b ws ys true e c h = near own d i ws ys (ltb-true i d e) h
   var_is own d i b ws ys false e c h = absurd c.0
 
@@ -96,7 +98,7 @@ module _ (ks : HBlks) where
       Holds (from ks 0) b (codes_v (if_own x (CVar d) (from ks (suc j) l))) → EnvOk (Code j) d ws ys →
       IsWord (cv_value b (if_own x (CVar d) (from ks (suc j) l)) ws) (YLabel l)
   own_is j d l b ws ys true e c k h =
-      subst (λ m. IsWord (cat ws d) (YLabel m)) (eqb-true j l e) (itself j d ws ys h)
+      subst (λ m. IsWord (cword_at ws d) (YLabel m)) (eqb-true j l e) (itself j d ws ys h)
   own_is j d l b ws ys false e c k h = label_is (suc j) l b ws (label ks (suc j) l) c k
 
   mutual

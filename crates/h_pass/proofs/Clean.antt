@@ -3,7 +3,7 @@ use Rattle.std.proofs.Common.{ℕ, suc, List, [], ◌∷◌, subst}
 use Rattle.c_terms.specs.C.{CApply, CArith, CCall, CCell, CCode, CDecl, CGet, CHalt, CIf, CInt, CLet, CName, CPack}
 use Rattle.c_terms.specs.C.{CProj, CSet, CTm, CTuple, CTy, CTys, CUnpack, CVal, CVals, CVar, MoreCVals}
 use Rattle.c_terms.specs.C.{NoCVals, TCCode}
-use Rattle.c_terms.specs.Typing.{CGood, CHas, CHave, CIns, cargs_onto}
+use Rattle.c_terms.specs.Typing.{CTyped, CHas, CHave, CIns, cargs_onto}
 
 abbrev NotNumber : CVal → Type 0
 NotNumber (CInt n) = ⊥
@@ -64,7 +64,7 @@ mutual
   clean_vs n g NoCVals ts h = tt
   clean_vs n g (MoreCVals v vs) ts h = (clean_v n g v h.0 h.3, clean_vs n g vs h.1 h.4)
 
-  pub clean_t : (n : ℕ) (g : List CTy) (t : CTm) → CGood n g t → Clean_t t
+  pub clean_t : (n : ℕ) (g : List CTy) (t : CTm) → CTyped n g t → Clean_t t
   clean_t n g (CLet (CName v) t) h = (clean_v n g v _ h.1, clean_t n _ t h.2)
   clean_t n g (CLet (CProj i v) t) h = (clean_v n g v _ h.2, clean_t n _ t h.4)
   clean_t n g (CLet (CArith op v w) t) h = ((clean_v n g v _ h.0, clean_v n g w _ h.1), clean_t n _ t h.2)
@@ -78,5 +78,5 @@ mutual
 
 -- a code is typed by itself
 abbrev pub IsTypedCode : CVal → Type 0
-IsTypedCode (CCode owes args body) = CIns owes args × CGood owes (cargs_onto args (TCCode owes args ∷ [])) body
+IsTypedCode (CCode owes args body) = CIns owes args × CTyped owes (cargs_onto args (TCCode owes args ∷ [])) body
 IsTypedCode v = ⊥

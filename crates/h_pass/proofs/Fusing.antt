@@ -4,9 +4,9 @@ use Rattle.std.proofs.Common.{◌++◌, Option, Some, None, refl, sym, ap, ap₂
 use Rattle.std.proofs.Common.{drop, arith}
 use Rattle.std.proofs.lemmas.List.{length-append, append-nil}
 use Rattle.std.proofs.lemmas.Bool.{lt-ltb}
-use Rattle.term_core.proofs.Levels.{level_below}
-use Rattle.term_core.specs.Ends.{lift}
-use Rattle.term_core.specs.Levels.{level_of}
+use Rattle.calc_core.proofs.Levels.{level_below}
+use Rattle.calc_core.specs.Ends.{lift}
+use Rattle.calc_core.specs.Levels.{level_of}
 use Rattle.c_terms.specs.C.{CApply, CArith, CCall, CCell, CCode, CDecl, CGet, CHalt, CIf, CInt, CLet, CName, CPack}
 use Rattle.c_terms.specs.C.{CProj, CSet, CTm, CTuple, CTys, CUnpack, CVal, CVals, CVar, MoreCVals, NoCVals, ccount}
 use Rattle.c_terms.specs.C.{cd_next, ct_next, cv_next, cvs_next}
@@ -24,7 +24,7 @@ use Rattle.h_pass.specs.Hoist.{hoist_vs, spot, spot_value}
 use Rattle.h_pass.specs.Stream.{Around, Found, both, call_of, call_ok, code_found, end_found, found_in, hoisted}
 use Rattle.h_pass.specs.Stream.{name_at, whole}
 use Rattle.h_pass.specs.Walk.{Ends}
-use Rattle.term_core.proofs.Lifts.{lift_add}
+use Rattle.calc_core.proofs.Lifts.{lift_add}
 use Rattle.idx_core.proofs.Lists.{taken_all as take_left}
 use Rattle.h_terms.proofs.Parts.{at_last_push}
 

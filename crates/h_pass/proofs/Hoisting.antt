@@ -2,13 +2,13 @@
 use Rattle.std.proofs.Common.{Bool, true, false, pos, ◌≡◌, ℕ, zero, suc, ◌+◌, nat_eq, [], ◌∷◌, ◌++◌, length}
 use Rattle.std.proofs.Common.{Some, refl, sym, ap, ◌∙◌, subst, subst₂, arith, append_assoc, length-append}
 use Rattle.std.proofs.Common.{eqb-true}
-use Rattle.term_core.proofs.Lifts.{lift_suc, lift_zero}
-use Rattle.term_core.specs.Ends.{Result, enters, if_fits, lift}
+use Rattle.calc_core.proofs.Lifts.{lift_suc, lift_zero}
+use Rattle.calc_core.specs.Ends.{Result, enters, if_fits, lift}
 use Rattle.c_terms.specs.C.{CApply, CArith, CCall, CCell, CCode, CDecl, CGet, CHalt, CIf, CInt, CLet, CName, CPack}
 use Rattle.c_terms.specs.C.{CProj, CSet, CTm, CTuple, CTys, CUnpack, CVal, CVals, CVar, MoreCVals, NoCVals, ccount}
 use Rattle.c_terms.specs.C.{cd_next, ct_next, cv_next, cvs_next}
 use Rattle.c_terms.specs.Meaning.{CEnter, CWord, CWords, MoreCWords, NoCWords, XCell, XCode}
-use Rattle.c_terms.specs.Meaning.{XInt, XTuple, cat, cd_value, center}
+use Rattle.c_terms.specs.Meaning.{XInt, XTuple, cword_at, cd_value, center}
 use Rattle.c_terms.specs.Meaning.{conto, copen, crun, csize, cterm}
 use Rattle.c_terms.specs.Meaning.{cv_value, cvs_value}
 use Rattle.h_terms.specs.H.{HBlk, HBlks, block_at}
@@ -21,7 +21,7 @@ use Rattle.h_pass.proofs.Words.{halt_stands, more_stands, project_stands, set_st
 use Rattle.h_pass.specs.Hoist.{Code, Lost, Near, Nobody, Own, Self, Spot, block_of, blocks_d, blocks_of, blocks_t}
 use Rattle.h_pass.specs.Hoist.{blocks_v, blocks_vs, deeper, hoist_d, hoist_t, hoist_v, hoist_vs, main_of, spot}
 use Rattle.h_pass.specs.Hoist.{spot_value}
-use Rattle.term_core.proofs.Ends.{fits_step}
+use Rattle.calc_core.proofs.Ends.{fits_step}
 
 -- the program has the blocks of a tree whose codes are numbered from b on
 abbrev mutual
@@ -194,18 +194,19 @@ deeper_value (Self l) y ys = refl
 deeper_value Lost y ys = refl
 
 var_stands : (ks : HBlks) (own : Own) (d i : ℕ) (ws : CWords) (ys : HWords) → EnvOk ks own d ws ys →
-    Stands (IsBlock ks) (cat ws i) (hv_value (spot_value (spot own d i)) ys)
+    Stands (IsBlock ks) (cword_at ws i) (hv_value (spot_value (spot own d i)) ys)
 var_stands ks Nobody zero i NoCWords ys h = refl
 var_stands ks Nobody zero i (MoreCWords w ws) ys h = absurd h
 var_stands ks (Code l) zero i NoCWords ys h = absurd h
 var_stands ks (Code l) zero zero (MoreCWords w ws) ys h = h.0
 var_stands ks (Code l) zero (suc i) (MoreCWords w ws) ys h =
-    subst (λ z. Stands (IsBlock ks) (cat z i) (YInt (pos 0))) (sym h.1) refl
+    subst (λ z. Stands (IsBlock ks) (cword_at z i) (YInt (pos 0))) (sym h.1) refl
 var_stands ks own (suc d) i NoCWords ys h = absurd h
 var_stands ks own (suc d) i (MoreCWords w ws) NoHWords h = absurd h
 var_stands ks own (suc d) zero (MoreCWords w ws) (MoreHWords y ys) h = h.0
 var_stands ks own (suc d) (suc i) (MoreCWords w ws) (MoreHWords y ys) h =
-    subst (Stands (IsBlock ks) (cat ws i)) (sym (deeper_value (spot own d i) y ys)) (var_stands ks own d i ws ys h.1)
+    subst (Stands (IsBlock ks) (cword_at ws i)) (sym (deeper_value (spot own d i) y ys))
+    (var_stands ks own d i ws ys h.1)
 
 mutual
   stands_v : (v : CVal) (ks : HBlks) (own : Own) (d b : ℕ) (ws : CWords) (ys : HWords) → HoldsV ks b v →

@@ -1,13 +1,13 @@
 -- Programs that are the hoisted form of nothing typed: a label without a block, and a variable out of scope.
 use Rattle.std.proofs.Common.{pos, [], ◌∷◌, subst, sym}
 use Rattle.c_terms.specs.C.{CTm, MoreCTys, NoCTys, TCInt}
-use Rattle.c_terms.specs.Typing.{CGood}
+use Rattle.c_terms.specs.Typing.{CTyped}
 use Rattle.h_terms.specs.H.{HBlks, HCall, HHalt, HInt, HLabel, HTm, HVar, MoreHVals, NoHVals}
 use Rattle.h_pass.proofs.Clean.{Clean_t, clean_t}
 use Rattle.h_pass.specs.Back.{IsHoisted}
 
 -- halt L5, where there is no block
-no_block : (closed : CTm) → IsHoisted [] (HHalt (HLabel 5)) closed → CGood 0 [] closed → ⊥
+no_block : (closed : CTm) → IsHoisted [] (HHalt (HLabel 5)) closed → CTyped 0 [] closed → ⊥
 no_block closed is good = (subst Clean_t (sym is.1) (clean_t 0 [] closed good)).0
 
 -- in a block of one argument variable 1 is none, and not the block itself
@@ -18,5 +18,5 @@ itself =
 abbrev starts : HTm
 starts = HCall (HLabel 0) NoCTys (MoreHVals (HInt (pos 1)) NoHVals)
 
-not_itself : (closed : CTm) → IsHoisted itself starts closed → CGood 0 [] closed → ⊥
+not_itself : (closed : CTm) → IsHoisted itself starts closed → CTyped 0 [] closed → ⊥
 not_itself closed is good = (subst Clean_t (sym is.1) (clean_t 0 [] closed good)).0.0.0

@@ -3,7 +3,7 @@ use Rattle.std.proofs.Common.{◌≡◌, ◌<◌, ◌≤◌, ◌⊎◌, inl, inr
 use Rattle.std.proofs.Common.{subst, append_assoc, length, ◌+◌, arith, eq-eqb, cond, lt-ltb}
 use Rattle.std.proofs.lemmas.List.{length-append, append-nil}
 use Rattle.std.proofs.lemmas.Bool.{ne_eqb}
-use Rattle.term_core.specs.Ends.{lift}
+use Rattle.calc_core.specs.Ends.{lift}
 use Rattle.c_terms.specs.C.{CApply, CArith, CCall, CCell, CCode, CDecl, CGet, CHalt, CIf, CInt, CLet, CName, CPack}
 use Rattle.c_terms.specs.C.{CProj, CSet, CTm, CTuple, CUnpack, CVal, CVals, CVar, MoreCVals, NoCVals, ccount, cd_next}
 use Rattle.c_terms.specs.C.{ct_next, cv_next, cvs_next}
@@ -14,7 +14,7 @@ use Rattle.h_pass.specs.Back.{IsHoisted, back_d, back_t, back_v, back_vs, code_a
 use Rattle.h_pass.specs.Back.{codes_vs, if_own, missing, name_or}
 use Rattle.h_pass.specs.Hoist.{Code, Nobody, Own, blocks_d, blocks_of, blocks_t, blocks_v, blocks_vs, hoist_d, hoist_t}
 use Rattle.h_pass.specs.Hoist.{hoist_v, hoist_vs, main_of, spot, spot_value}
-use Rattle.term_core.proofs.Lifts.{lift_add}
+use Rattle.calc_core.proofs.Lifts.{lift_add}
 
 -- the numbers of codes
 mutual

@@ -1,7 +1,7 @@
 -- Worked rows.
 use Rattle.std.proofs.Common.{◌≡◌, refl, pos, [], ◌∷◌}
 use Rattle.std.specs.Int.{int_wrap}
-use Rattle.term_core.specs.Ends.{Halted, Spent}
+use Rattle.calc_core.specs.Ends.{Halted, Spent}
 use Rattle.h_terms.specs.H.{HLabel, HVar}
 use Rattle.h_terms.specs.Meaning.{hrun}
 use Rattle.h_pass.specs.Back.{codes, put_back}

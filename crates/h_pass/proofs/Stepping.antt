@@ -6,7 +6,7 @@ use Rattle.std.proofs.lemmas.List.{length-append, append-nil}
 use Rattle.std.proofs.lemmas.Result.{on_ok_weaker}
 use Rattle.std.proofs.lemmas.Bool.{ltb-true}
 use Rattle.c_terms.specs.Stream as S
-use Rattle.term_core.specs.declared.types.CoreType.{CoreType as CType}
+use Rattle.calc_core.specs.declared.types.CoreType.{CoreType as CType}
 use Rattle.c_terms.specs.declared.node.CNode.{CNode}
 use Rattle.h_terms.specs.declared.node.HPart.{HPart}
 use Rattle.h_terms.specs.declared.node.HForm.{HForm}
@@ -15,10 +15,10 @@ use Rattle.h_terms.specs.declared.node.HNode.{HNode}
 use Rattle.h_terms.specs.declared.node.HBlock.{HBlock}
 use Rattle.h_pass.specs.declared.state.Open.{Open}
 use Rattle.h_pass.specs.declared.state.Walk.{Walk}
-use Rattle.term_core.specs.Ends.{lift}
+use Rattle.calc_core.specs.Ends.{lift}
 use Rattle.c_terms.specs.C.{CTys, ccount}
 use Rattle.c_terms.specs.Read.{ctys, written}
-use Rattle.term_core.specs.Walks.{put}
+use Rattle.calc_core.specs.Walks.{put}
 use Rattle.h_terms.specs.H.{HBlk, HBlks, HLabel, HTm, HVal}
 use Rattle.h_terms.specs.Nodes.{HArity, HRow, HRows, h_block, h_blocks, h_build, h_kids, h_terms, h_tree}
 use Rattle.h_terms.specs.Nodes.{no_term, reads, values}
@@ -30,8 +30,8 @@ use Rattle.h_pass.specs.Stream.{Around, Found, both, code_found, found_in, has_r
 use Rattle.h_pass.specs.Stream.{is_two, nothing, out_found}
 use Rattle.h_pass.specs.Walk.{Begun, Declares, Ends, Goes, IsPart, Labelled, Makes, Stands, Steps, Walked, arity}
 use Rattle.h_pass.specs.Walk.{around, body_with, built, closes, fill_own, filled, h_onto, one_name, own_of, waiting}
-use Rattle.term_core.proofs.Lifts.{lift_add}
-use Rattle.term_core.proofs.Trees.{count_length as count_is}
+use Rattle.calc_core.proofs.Lifts.{lift_add}
+use Rattle.calc_core.proofs.Trees.{count_length as count_is}
 
 -- blocks
 pub fill_blocks : (bs : List HBlock) (l : ℕ) (k : HBlock) (body : Vec HNode Global) → l < length bs →

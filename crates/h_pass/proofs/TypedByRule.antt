@@ -1,16 +1,16 @@
 -- Whatever is hoisted by the rule is typed.
 use Rattle.std.proofs.Common.{Bool, true, false, ◌≡◌, ◌<◌, ℕ, zero, suc, nat_eq, nat_lt, List, [], ◌∷◌, ◌++◌, cond, pos}
 use Rattle.std.proofs.Common.{Some, refl, sym, ap, ◌∙◌, subst, arith, eqb-true, ltb-true}
-use Rattle.term_core.specs.Ends.{lift}
-use Rattle.term_core.proofs.Lifts.{lift_zero}
+use Rattle.calc_core.specs.Ends.{lift}
+use Rattle.calc_core.proofs.Lifts.{lift_zero}
 use Rattle.c_terms.specs.C.{CApply, CArith, CCall, CCell, CCode, CGet, CHalt, CIf, CInt, CLet, CName, CPack}
 use Rattle.c_terms.specs.C.{CProj, CSet, CTm, CTuple, CTy, CTys, CUnpack, CVal, CVals, CVar, MoreCVals, NoCVals, TCCode}
 use Rattle.c_terms.specs.C.{TCInt, ccount}
 use Rattle.c_terms.specs.Meaning.{crun}
-use Rattle.c_terms.specs.Typing.{CAt, CGood, CHas, CHave, CIns, cargs_onto, crens_scope}
+use Rattle.c_terms.specs.Typing.{CAt, CTyped, CHas, CHave, CIns, cargs_onto, crens_scope}
 use Rattle.h_terms.specs.H.{HApply, HArith, HBlk, HBlks, HCall, HCell, HGet, HHalt, HIf, HInt, HLabel, HLet, HName}
 use Rattle.h_terms.specs.H.{HPack, HProj, HSet, HTm, HTuple, HUnpack, HVal, HVals, HVar, MoreHVals, NoHVals, block_at}
-use Rattle.h_terms.specs.Typing.{AllGood, HGood, HHas, HHave}
+use Rattle.h_terms.specs.Typing.{AllGood, HTyped, HHas, HHave}
 use Rattle.h_pass.proofs.ByRule.{means_the_same}
 use Rattle.h_pass.proofs.Clean.{IsTypedCode, clean_t, not_number}
 use Rattle.h_pass.proofs.Labels.{IsBlock, IsMissing, Label, from, label, rest, rest_first, seen}
@@ -44,7 +44,7 @@ mutual
   codes_typed_vs n g (MoreCVals v vs) ts h =
       both (codes_v v) (codes_vs vs) (codes_typed_v n g v h.0 h.3) (codes_typed_vs n g vs h.1 h.4)
 
-  codes_typed_t : (n : ℕ) (g : List CTy) (t : CTm) → CGood n g t → Typed (codes_t t)
+  codes_typed_t : (n : ℕ) (g : List CTy) (t : CTm) → CTyped n g t → Typed (codes_t t)
   codes_typed_t n g (CLet (CName v) t) h =
       both (codes_v v) (codes_t t) (codes_typed_v n g v _ h.1) (codes_typed_t n _ t h.2)
   codes_typed_t n g (CLet (CProj i v) t) h =
@@ -123,7 +123,7 @@ module _ (ks : HBlks) where
         (h.0, h.1, h.2, has v own d n cg hg h.0 s h.3, have vs own d n cg hg h.1 s h.4)
 
   good : (t : HTm) (own : Own) (d n : ℕ) (cg hg : List CTy) → ScopeT ks own d cg hg →
-      CGood n cg (back_t own d (seen ks own) t) → HGood ks n hg t
+      CTyped n cg (back_t own d (seen ks own) t) → HTyped ks n hg t
   good (HLet (HName v) t) own d n cg hg s h = (
     h.0,
     has v own d n cg hg h.0 s h.1,
@@ -164,8 +164,8 @@ module _ (ks : HBlks) where
   good (HHalt v) own d n cg hg s h = has v own d n cg hg _ s h
 
   block_good : (b : ℕ) (k : HBlk) → block_at ks b ≡ Some k → CIns k.owes k.args →
-      CGood k.owes (cargs_onto k.args (TCCode k.owes k.args ∷ []))
-      (back_t (Code b) (ccount k.args) (from ks (suc b)) k.body) → HGood ks k.owes (cargs_onto k.args []) k.body
+      CTyped k.owes (cargs_onto k.args (TCCode k.owes k.args ∷ []))
+      (back_t (Code b) (ccount k.args) (from ks (suc b)) k.body) → HTyped ks k.owes (cargs_onto k.args []) k.body
   block_good b k at ins h =
       good k.body (Code b) (ccount k.args) k.owes (cargs_onto k.args (TCCode k.owes k.args ∷ []))
       (cargs_onto k.args [])
@@ -183,7 +183,7 @@ module _ (ks : HBlks) where
 
 pub hoisted_means : HoistedMeansTheSame
 hoisted_means ks t closed typed is =
-    let main : CGood 0 [] (back_t Nobody 0 (from ks 0) t) = subst (CGood 0 []) (sym is.1) typed in (
+    let main : CTyped 0 [] (back_t Nobody 0 (from ks 0) t) = subst (CTyped 0 []) (sym is.1) typed in (
       (
         all_good ks 0 ks refl (subst Typed (sym is.0) (codes_typed_t 0 [] closed typed)),
         good ks t Nobody 0 0 [] [] refl main,

@@ -1,13 +1,13 @@
 -- Hoisting keeps typing, with each property of types.
 use Rattle.std.proofs.Common.{◌≡◌, ◌<◌, ℕ, zero, suc, List, [], ◌∷◌, ◌++◌, Some, refl, sym, ap, ◌∙◌, subst, ap₂, arith}
-use Rattle.term_core.specs.Ends.{lift, under}
-use Rattle.term_core.proofs.Lifts.{lift_suc, lift_zero}
+use Rattle.calc_core.specs.Ends.{lift, under}
+use Rattle.calc_core.proofs.Lifts.{lift_suc, lift_zero}
 use Rattle.c_terms.specs.C.{CApply, CArith, CCall, CCell, CCode, CGet, CHalt, CIf, CInt, CLet, CName, CPack, CProj}
 use Rattle.c_terms.specs.C.{CSet, CTm, CTuple, CTy, CTys, CUnpack, CVal, CVals, CVar, MoreCTys, MoreCVals, NoCTys}
-use Rattle.c_terms.specs.C.{NoCVals, TCCode, TCInt, TCRef, TCSome, TCTuple, TCVar, ccount, ct_next, cv_next}
-use Rattle.c_terms.specs.Each.{CGoodP, CHasP, CHaveP, CProp}
+use Rattle.c_terms.specs.C.{NoCVals, TCCode, TCInt, TCRef, TCExists, TCTuple, TCVar, ccount, ct_next, cv_next}
+use Rattle.c_terms.specs.Each.{CTypedWith, CHasWith, CHaveWith, CProp}
 use Rattle.c_terms.specs.Typing.{CAt, CIn, CIns, cargs_onto, cren, crens, crens_scope}
-use Rattle.h_terms.specs.Each.{AllGoodP, HGoodP, HHasP, HHaveP, HProgramP}
+use Rattle.h_terms.specs.Each.{AllTypedWith, HTypedWith, HHasWith, HHaveWith, HProgramWith}
 use Rattle.h_terms.specs.H.{HBlk, HBlks, block_at}
 use Rattle.h_pass.proofs.Hoisting.{HoldsT, HoldsV, HoldsVs, has_all, holds_t}
 use Rattle.h_pass.specs.Hoist.{Code, Lost, Near, Nobody, Own, Self, Spot, block_of, blocks_of, blocks_t, blocks_v}
@@ -26,7 +26,7 @@ mutual
   ren_same (TCTuple ts) r n f h = ap TCTuple (rens_same ts r n f h)
   ren_same (TCCode m ts) r n f h = ap (TCCode m) (rens_same ts (under m r) (lift m n) (under_same m r n f) h)
   ren_same (TCRef t) r n f h = ap TCRef (ren_same t r n f h)
-  ren_same (TCSome t) r n f h = ap TCSome (ren_same t (under 1 r) (suc n) (under_same 1 r n f) h)
+  ren_same (TCExists t) r n f h = ap TCExists (ren_same t (under 1 r) (suc n) (under_same 1 r n f) h)
 
   rens_same : (ts : CTys) (r : ℕ → ℕ) (n : ℕ) → ((i : ℕ) → i < n → r i ≡ i) → CIns n ts → crens r ts ≡ ts
   rens_same NoCTys r n f h = refl
@@ -66,14 +66,14 @@ scope_onto ks own d (MoreCTys t ts) cg hg s =
     (scope_onto ks own (suc d) ts (t ∷ cg) (t ∷ hg) (refl, s))
 
 module _ (P : CProp) where
-  deeper_has : (s : Spot) (ks : HBlks) (n : ℕ) (h t : CTy) (hg : List CTy) → HHasP P ks n hg (spot_value s) t →
-      HHasP P ks n (h ∷ hg) (spot_value (deeper s)) t
+  deeper_has : (s : Spot) (ks : HBlks) (n : ℕ) (h t : CTy) (hg : List CTy) → HHasWith P ks n hg (spot_value s) t →
+      HHasWith P ks n (h ∷ hg) (spot_value (deeper s)) t
   deeper_has (Near i) ks n h t hg p = p
   deeper_has (Self l) ks n h t hg p = p
   deeper_has Lost ks n h t hg p = p
 
   var_has : (ks : HBlks) (own : Own) (d i n : ℕ) (cg hg : List CTy) (t : CTy) → ScopeT ks own d cg hg → P n t →
-      CAt cg i t → HHasP P ks n hg (spot_value (spot own d i)) t
+      CAt cg i t → HHasWith P ks n hg (spot_value (spot own d i)) t
   var_has ks Nobody zero i n cg hg t s q h = absurd (subst (λ g. CAt g i t) s h)
   var_has ks (Code l) zero zero n cg hg t s q h = (q, s.0, s.1, subst (λ g. CAt g 0 t) s.3 h)
   var_has ks (Code l) zero (suc i) n cg hg t s q h = absurd (subst (λ g. CAt g (suc i) t) s.3 h)
@@ -85,7 +85,7 @@ module _ (P : CProp) where
 
   mutual
     hhas_v : (v : CVal) (ks : HBlks) (own : Own) (d b n : ℕ) (cg hg : List CTy) (t : CTy) → HoldsV ks b v →
-        ScopeT ks own d cg hg → CHasP P n cg v t → HHasP P ks n hg (hoist_v own d b v) t
+        ScopeT ks own d cg hg → CHasWith P n cg v t → HHasWith P ks n hg (hoist_v own d b v) t
     hhas_v (CVar i) ks own d b n cg hg t k s h = var_has ks own d i n cg hg t s h.0 h.1
     hhas_v (CInt m) ks own d b n cg hg t k s h = h
     hhas_v (CTuple vs) ks own d b n cg hg t k s h = (h.0, h.1, h.2, hhave_vs vs ks own d b n cg hg h.1 k s h.3)
@@ -96,7 +96,7 @@ module _ (P : CProp) where
         (h.0, h.1, h.2, h.3, h.4, h.5, h.6, hhas_v v ks own d b n cg hg _ k s h.7)
 
     hhave_vs : (vs : CVals) (ks : HBlks) (own : Own) (d b n : ℕ) (cg hg : List CTy) (ts : CTys) → HoldsVs ks b vs →
-        ScopeT ks own d cg hg → CHaveP P n cg vs ts → HHaveP P ks n hg (hoist_vs own d b vs) ts
+        ScopeT ks own d cg hg → CHaveWith P n cg vs ts → HHaveWith P ks n hg (hoist_vs own d b vs) ts
     hhave_vs NoCVals ks own d b n cg hg ts k s h = h
     hhave_vs (MoreCVals v vs) ks own d b n cg hg ts k s h = (
       h.0,
@@ -107,7 +107,7 @@ module _ (P : CProp) where
     )
 
   hgood_t : (t : CTm) (ks : HBlks) (own : Own) (d b n : ℕ) (cg hg : List CTy) → HoldsT ks b t → ScopeT ks own d cg hg →
-      CGoodP P n cg t → HGoodP P ks n hg (hoist_t own d b t)
+      CTypedWith P n cg t → HTypedWith P ks n hg (hoist_t own d b t)
   hgood_t (CLet (CName v) t) ks own d b n cg hg k s h = (
     h.0,
     hhas_v v ks own d b n cg hg h.0 k.0 s h.1,
@@ -163,13 +163,13 @@ module _ (P : CProp) where
   hgood_t (CHalt v) ks own d b n cg hg k s h = hhas_v v ks own d b n cg hg TCInt k s h
 
   -- the blocks
-  all_append : (ks xs ys : HBlks) → AllGoodP P ks xs → AllGoodP P ks ys → AllGoodP P ks (xs ++ ys)
+  all_append : (ks xs ys : HBlks) → AllTypedWith P ks xs → AllTypedWith P ks ys → AllTypedWith P ks (xs ++ ys)
   all_append ks [] ys h q = q
   all_append ks (x ∷ xs) ys h q = (h.0, all_append ks xs ys h.1 q)
 
   mutual
-    good_v : (v : CVal) (ks : HBlks) (b n : ℕ) (cg : List CTy) (t : CTy) → HoldsV ks b v → CHasP P n cg v t →
-        AllGoodP P ks (blocks_v b v)
+    good_v : (v : CVal) (ks : HBlks) (b n : ℕ) (cg : List CTy) (t : CTy) → HoldsV ks b v → CHasWith P n cg v t →
+        AllTypedWith P ks (blocks_v b v)
     good_v (CVar i) ks b n cg t k h = tt
     good_v (CInt m) ks b n cg t k h = tt
     good_v (CTuple vs) ks b n cg t k h = good_vs vs ks b n cg h.1 k h.3
@@ -189,14 +189,15 @@ module _ (P : CProp) where
     good_v (CApply v ts) ks b n cg t k h = good_v v ks b n cg _ k h.4
     good_v (CPack hid v shape) ks b n cg t k h = good_v v ks b n cg _ k h.7
 
-    good_vs : (vs : CVals) (ks : HBlks) (b n : ℕ) (cg : List CTy) (ts : CTys) → HoldsVs ks b vs → CHaveP P n cg vs ts →
-        AllGoodP P ks (blocks_vs b vs)
+    good_vs : (vs : CVals) (ks : HBlks) (b n : ℕ) (cg : List CTy) (ts : CTys) → HoldsVs ks b vs → CHaveWith P n cg vs ts
+        →
+        AllTypedWith P ks (blocks_vs b vs)
     good_vs NoCVals ks b n cg ts k h = tt
     good_vs (MoreCVals v vs) ks b n cg ts k h =
         all_append ks (blocks_v b v) _ (good_v v ks b n cg h.0 k.0 h.3) (good_vs vs ks (cv_next b v) n cg h.1 k.1 h.4)
 
-    good_t : (t : CTm) (ks : HBlks) (b n : ℕ) (cg : List CTy) → HoldsT ks b t → CGoodP P n cg t →
-        AllGoodP P ks (blocks_t b t)
+    good_t : (t : CTm) (ks : HBlks) (b n : ℕ) (cg : List CTy) → HoldsT ks b t → CTypedWith P n cg t →
+        AllTypedWith P ks (blocks_t b t)
     good_t (CLet (CName v) t) ks b n cg k h =
         all_append ks (blocks_v b v) _ (good_v v ks b n cg h.0 k.0 h.1)
         (good_t t ks (cv_next b v) n (h.0 ∷ cg) k.1 h.2)
@@ -228,7 +229,7 @@ module _ (P : CProp) where
         (good_t u ks (ct_next (cv_next b v) t) n cg k.2 h.2))
     good_t (CHalt v) ks b n cg k h = good_v v ks b n cg TCInt k h
 
-pub hoist_each : (P : CProp) (t : CTm) → CGoodP P 0 [] t → HProgramP P (blocks_of t) (main_of t)
+pub hoist_each : (P : CProp) (t : CTm) → CTypedWith P 0 [] t → HProgramWith P (blocks_of t) (main_of t)
 hoist_each P t h =
     let ks = blocks_of t in
     let holds = holds_t t ks 0 (has_all [] (blocks_t 0 t)) in

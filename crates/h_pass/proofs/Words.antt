@@ -3,7 +3,7 @@ use Rattle.std.proofs.Common.{Bool, true, false, ◌≡◌, ℕ, zero, suc, Opti
 use Rattle.std.proofs.Common.{subst₂}
 use Rattle.idx_core.specs.declared.arith.Op.{Op}
 use Rattle.idx_core.specs.Arith.{is_zero}
-use Rattle.term_core.specs.Ends.{Result, pick}
+use Rattle.calc_core.specs.Ends.{Result, pick}
 use Rattle.c_terms.specs.C.{CTm, CTys}
 use Rattle.c_terms.specs.Meaning.{CFails, CGives, CMade, CWord, CWords, MoreCWords, NoCWords, XCell, XCode}
 use Rattle.c_terms.specs.Meaning.{XInt, XTuple, cat_zero, cfield, cget, cgiven, chalt_with}

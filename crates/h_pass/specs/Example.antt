@@ -3,7 +3,8 @@ use Rattle.std.specs.Prelude.{◌≡◌, pos, List, [], ◌∷◌, ◌++◌}
 use Rattle.c_terms.specs.declared.node.CNode.{CNode}
 use Rattle.idx_core.specs.declared.arith.Op.TheVariants.{Sub}
 use Rattle.c_terms.specs.C.{CArith, CCall, CCell, CCode, CGet, CHalt, CIf, CInt, CLet, CName, CPack, CProj, CTm, CTuple}
-use Rattle.c_terms.specs.C.{CTy, CTys, CUnpack, CVal, CVar, MoreCTys, MoreCVals, NoCTys, NoCVals, TCCode, TCInt, TCSome}
+use Rattle.c_terms.specs.C.{CTy, CTys, CUnpack, CVal, CVar, MoreCTys, MoreCVals, NoCTys, NoCVals, TCCode, TCInt}
+use Rattle.c_terms.specs.C.{TCExists}
 use Rattle.c_terms.specs.C.{TCTuple, TCVar}
 use Rattle.c_terms.specs.Read.{written}
 use Rattle.c_terms.specs.Stream.{CNd}
@@ -30,7 +31,7 @@ count_down =
 
 -- a code and its argument, whose type is hidden
 abbrev pub hidden_pair : CTy
-hidden_pair = TCSome (TCTuple (MoreCTys (TCCode 0 (MoreCTys (TCVar 0) NoCTys)) (MoreCTys (TCVar 0) NoCTys)))
+hidden_pair = TCExists (TCTuple (MoreCTys (TCCode 0 (MoreCTys (TCVar 0) NoCTys)) (MoreCTys (TCVar 0) NoCTys)))
 
 abbrev pub call_it : CTm
 call_it =

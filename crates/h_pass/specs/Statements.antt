@@ -1,17 +1,17 @@
 -- What hoisting keeps.
 use Rattle.std.specs.Prelude.{◌≡◌, ◌≢◌, ℕ, List, [], map}
-use Rattle.term_core.specs.Ends.{End, Result, Stuck}
+use Rattle.calc_core.specs.Ends.{End, Result, Stuck}
 use Rattle.c_terms.specs.Bound.{CBound, CFits}
 use Rattle.c_terms.specs.C.{CTm, CVal}
-use Rattle.c_terms.specs.Each.{CGoodP}
+use Rattle.c_terms.specs.Each.{CTypedWith}
 use Rattle.c_terms.specs.Meaning.{crun}
 use Rattle.c_terms.specs.Reach.{CWithin}
 use Rattle.c_terms.specs.Scope.{CScoped}
 use Rattle.c_terms.specs.Size.{CSmall}
 use Rattle.c_terms.specs.Stream.{clin_t}
-use Rattle.c_terms.specs.Typing.{CGood}
+use Rattle.c_terms.specs.Typing.{CTyped}
 use Rattle.h_terms.specs.Bound.{HFits}
-use Rattle.h_terms.specs.Each.{HProgramP}
+use Rattle.h_terms.specs.Each.{HProgramWith}
 use Rattle.h_terms.specs.H.{HBlks, HTm}
 use Rattle.h_terms.specs.Meaning.{hrun}
 use Rattle.h_terms.specs.Typing.{HProgramGood}
@@ -21,7 +21,7 @@ use Rattle.h_pass.specs.Stream.{hoisted, whole}
 
 -- the hoisted form is a translation of the closed term
 abbrev pub HoistIsBack : Type 0
-HoistIsBack = (t : CTm) → CGood 0 [] t → IsHoisted (blocks_of t) (main_of t) t
+HoistIsBack = (t : CTm) → CTyped 0 [] t → IsHoisted (blocks_of t) (main_of t) t
 
 -- how a run ends, and the codes that it enters, one after the other
 pub record CodesRun : Type 0 where
@@ -36,7 +36,7 @@ by_codes ks r = record { end = r.end; entered = map (code_at 0 (codes 0 ks)) r.e
 -- that does, and enters the same codes. Of two blocks with one code the rule leaves open which is entered
 abbrev pub HoistedMeansTheSame : Type 0
 HoistedMeansTheSame =
-    (ks : HBlks) (t : HTm) (closed : CTm) → CGood 0 [] closed → IsHoisted ks t closed →
+    (ks : HBlks) (t : HTm) (closed : CTm) → CTyped 0 [] closed → IsHoisted ks t closed →
     HProgramGood ks t × ((n : ℕ) → by_codes ks (hrun n ks t) ≡ by_codes ks (crun n closed))
 
 -- within any number of calls it ends as the closed term does, and the blocks entered have the numbers of the codes
@@ -46,16 +46,16 @@ HoistKept = (t : CTm) (n : ℕ) → hrun n (blocks_of t) (main_of t) ≡ crun n 
 
 -- a typed term becomes a typed program
 abbrev pub HoistTypesKept : Type 0
-HoistTypesKept = (t : CTm) → CGood 0 [] t → HProgramGood (blocks_of t) (main_of t)
+HoistTypesKept = (t : CTm) → CTyped 0 [] t → HProgramGood (blocks_of t) (main_of t)
 
 -- a typed closed term is never stuck, since its hoisted program is not
 abbrev pub ClosedNeverStuck : Type 0
-ClosedNeverStuck = (t : CTm) → CGood 0 [] t → (n : ℕ) → (crun n t).end ≢ Stuck
+ClosedNeverStuck = (t : CTm) → CTyped 0 [] t → (n : ℕ) → (crun n t).end ≢ Stuck
 
 -- hoisting adds nothing to the reach of types, nor to the names in scope and bound
 abbrev pub HoistReach : Type 0
-HoistReach = (N R B : ℕ) (t : CTm) → CGoodP (CWithin N R B) 0 [] t →
-    HProgramP (CWithin N R B) (blocks_of t) (main_of t)
+HoistReach = (N R B : ℕ) (t : CTm) → CTypedWith (CWithin N R B) 0 [] t →
+    HProgramWith (CWithin N R B) (blocks_of t) (main_of t)
 
 -- a term within bounds becomes a program within the same bounds
 abbrev pub HoistFits : Type 0

@@ -2,7 +2,7 @@
 use Rattle.std.specs.Prelude.{◌≡◌, ◌<◌, ℕ, zero, suc, Bool, true, List, [], ◌∷◌, ◌++◌, Option, Some, None, length}
 use Rattle.std.proofs.Common.{Vec, Global}
 use Rattle.c_terms.specs.Stream as S
-use Rattle.term_core.specs.declared.types.CoreType.{CoreType as CType}
+use Rattle.calc_core.specs.declared.types.CoreType.{CoreType as CType}
 use Rattle.h_terms.specs.declared.node.HNode.{HNode}
 use Rattle.h_terms.specs.declared.node.HBlock.{HBlock}
 use Rattle.h_pass.specs.declared.state.Open.{Open}

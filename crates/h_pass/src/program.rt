@@ -2,12 +2,12 @@
 ghost use Rattle.std.specs.Prelude.{◌≡◌, ℕ, List, [], IfOk};
 ghost use Rattle.c_terms.specs.Bound.{CFits};
 ghost use Rattle.c_terms.specs.Meaning.{crun};
-ghost use Rattle.c_terms.specs.Each.{CGoodP};
+ghost use Rattle.c_terms.specs.Each.{CTypedWith};
 ghost use Rattle.c_terms.specs.Reach.{CWithin};
 ghost use Rattle.c_terms.specs.Stream as S;
 ghost use Rattle.c_terms.specs.Term.{term_of};
 ghost use Rattle.h_terms.specs.Meaning.{hrun};
-ghost use Rattle.h_terms.specs.Each.{HProgramP};
+ghost use Rattle.h_terms.specs.Each.{HProgramWith};
 ghost use Rattle.h_terms.specs.Bound.{HBound, HFits};
 ghost use Rattle.h_terms.specs.Nodes.{h_blocks, h_tree, HRow, HRows};
 ghost use Rattle.h_terms.specs.Program.{blocks_in, main_in};
@@ -34,7 +34,7 @@ pub fn hoist(alloc: Global, program: CProgram) -> Result<HProgram, OutOfMemory>
     ensures back { IfOk result (λ r. IsHoisted (blocks_in r) (main_in r) (term_of program)) }
     ensures meaning { IfOk result (λ r. (n : ℕ) → hrun n (blocks_in r) (main_in r) ≡ crun n (term_of program)) }
     ensures reach { IfOk result (λ r. (N R B : ℕ) →
-        CGoodP (CWithin N R B) 0 [] (term_of program) → HProgramP (CWithin N R B) (blocks_in r) (main_in r)) }
+        CTypedWith (CWithin N R B) 0 [] (term_of program) → HProgramWith (CWithin N R B) (blocks_in r) (main_in r)) }
     ensures bound { IfOk result (λ r. (N R : ℕ) →
         CFits N R (term_of program) → HFits N R (blocks_in r) (main_in r)) }
 {

@@ -2,7 +2,7 @@
 use Rattle.std.proofs.Common.{◌≡◌, refl, pos, List, [], ◌∷◌}
 use Rattle.h_terms.specs.declared.node.HPart.TheVariants as P
 use Rattle.h_terms.specs.declared.node.HForm.TheVariants as F
-use Rattle.term_core.specs.Ends.{Halted, Spent, Stuck}
+use Rattle.calc_core.specs.Ends.{Halted, Spent, Stuck}
 use Rattle.c_terms.specs.C.{MoreCTys, NoCTys, TCInt}
 use Rattle.h_terms.specs.H.{HBlks, HCall, HCell, HGet, HHalt, HIf, HInt, HLabel, HLet, HName, HSet, HTm, HTuple, HVal}
 use Rattle.h_terms.specs.H.{HVar, MoreHVals, NoHVals}

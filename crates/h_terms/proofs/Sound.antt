@@ -3,19 +3,19 @@ use Rattle.std.proofs.Common.{◌≡◌, ℤ, ℕ, zero, suc, Bool, true, false,
 use Rattle.std.proofs.Common.{refl, sym, ap, ◌∙◌, subst, subst₂, eq-eqb}
 use Rattle.idx_core.specs.declared.arith.Op.{Op}
 use Rattle.idx_core.specs.Arith.{is_zero}
-use Rattle.term_core.specs.Ends.{End, Halted, Result, Spent, Stuck, if_fits, lift, pick}
-use Rattle.term_core.proofs.Substituting.{names_sub, names_up, scons_sub, sub_ren, sub_sub, sub_up, subs_sub}
+use Rattle.calc_core.specs.Ends.{End, Halted, Result, Spent, Stuck, if_fits, lift, pick}
+use Rattle.calc_core.proofs.Substituting.{names_sub, names_up, scons_sub, sub_ren, sub_sub, sub_up, subs_sub}
 use Rattle.c_terms.proofs.Putting.{cup_cup}
-use Rattle.c_terms.specs.C.{CTy, CTys, MoreCTys, NoCTys, TCCode, TCInt, TCRef, TCSome, TCTuple, TCVar, ccount}
+use Rattle.c_terms.specs.C.{CTy, CTys, MoreCTys, NoCTys, TCCode, TCInt, TCRef, TCExists, TCTuple, TCVar, ccount}
 use Rattle.c_terms.specs.Typing.{CAt, CField, cargs_onto, cren, crens_scope, csub, csubs, cup, names, scons}
 use Rattle.h_terms.specs.H.{HApply, HArith, HBlk, HBlks, HCall, HCell, HGet, HHalt, HIf, HInt, HLabel, HLet, HName}
 use Rattle.h_terms.specs.H.{HPack, HProj, HSet, HTm, HTuple, HUnpack, HVal, HVals, HVar, MoreHVals, NoHVals, block_at}
 use Rattle.h_terms.specs.Meaning.{HEnter, HFails, HGives, HMade, HWord, HWords, MoreHWords, NoHWords, YCell, YInt}
-use Rattle.h_terms.specs.Meaning.{YLabel, YTuple, hat, hat_zero, henter, hfield, hget, hgiven, hhalt_with, hheld}
+use Rattle.h_terms.specs.Meaning.{YLabel, YTuple, hword_at, hat_zero, henter, hfield, hget, hgiven, hhalt_with, hheld}
 use Rattle.h_terms.specs.Meaning.{hhold, hone_more, honto, hopen, hoperate, hproject, hrun, hset, hsize, hterm}
 use Rattle.h_terms.specs.Meaning.{hv_value, hvs_value, hwith_value, with_block}
-use Rattle.h_terms.specs.Typing.{AllGood, HGood, HHas, HHave}
-use Rattle.term_core.proofs.Opening.{Opens, opens_plain, opens_some}
+use Rattle.h_terms.specs.Typing.{AllGood, HTyped, HHas, HHave}
+use Rattle.calc_core.proofs.Opening.{Opens, opens_plain, opens_some}
 
 abbrev pub Fine : End → Type 0
 Fine (Halted i) = Unit {0}
@@ -70,13 +70,14 @@ module _ (ks : HBlks) where
   stored_more (MoreHWords v st) S Z g m h = (h.0, h.1, h.2, has_more v S Z h.0 m h.3, stored_more st S Z h.1 m h.4)
 
   -- packs are not seen
-  packed : (v : HWord) (S : List CTy) (t h : CTy) → YHas S v (csub (scons h TCVar) t) → YHas S v (TCSome t)
+  packed : (v : HWord) (S : List CTy) (t h : CTy) → YHas S v (csub (scons h TCVar) t) → YHas S v (TCExists t)
   packed (YInt n) S t h q = (suc q.0, (t, h, refl, q.1))
   packed (YTuple vs) S t h q = (q.0, (suc q.1.0, (t, h, refl, q.1.1)), q.2)
   packed (YLabel l) S t h q = (q.0, q.1, q.2, q.3, (suc q.4.0, (t, h, refl, q.4.1)))
   packed (YCell p) S t h q = (q.0, (suc q.1.0, (t, h, refl, q.1.1)), q.2)
 
-  unpacked : (v : HWord) (S : List CTy) (t : CTy) → YHas S v (TCSome t) → (h : CTy) × YHas S v (csub (scons h TCVar) t)
+  unpacked : (v : HWord) (S : List CTy) (t : CTy) → YHas S v (TCExists t) → (h : CTy) × YHas S v
+      (csub (scons h TCVar) t)
   unpacked (YInt n) S t q = opens_some t TCInt refl q
   unpacked (YTuple vs) S t q = let o = opens_some t (TCTuple q.0) refl q.1 in (o.0, (q.0, o.1, q.2))
   unpacked (YLabel l) S t q =
@@ -84,7 +85,7 @@ module _ (ks : HBlks) where
   unpacked (YCell p) S t q = let o = opens_some t (TCRef q.0) refl q.1 in (o.0, (q.0, o.1, q.2))
 
   env_at : (env : HWords) (S : List CTy) (s : ℕ → CTy) (g : List CTy) (i : ℕ) (t : CTy) → YEnv S env s g → CAt g i t →
-      YHas S (hat env i) (csub s t)
+      YHas S (hword_at env i) (csub s t)
   env_at NoHWords S s g i t h a = absurd (subst (λ k. CAt k i t) h a)
   env_at (MoreHWords v env) S s g zero t h a = subst (λ x. YHas S v (csub s x)) (sym (subst (λ k. CAt k 0 t) h.2 a)) h.3
   env_at (MoreHWords v env) S s g (suc i) t h a = env_at env S s h.1 i t h.4 (subst (λ k. CAt k (suc i) t) h.2 a)
@@ -292,19 +293,20 @@ module _ (ks : HBlks) where
 
   abbrev SafeEnter : HEnter → Type 0
   SafeEnter he = (l : ℕ) (body : HTm) (n : ℕ) (env st : HWords) (S : List CTy) (s : ℕ → CTy) (g : List CTy) →
-      HGood ks n g body → YEnv S env s g → Stored S st S → Fine (he l body env st).end
+      HTyped ks n g body → YEnv S env s g → Stored S st S → Fine (he l body env st).end
 
   fits_fine : (k : Bool) (r : Result) → k ≡ true → Fine r.end → Fine (if_fits k r).end
   fits_fine true r e f = f
   fits_fine false r e f = absurd cc
 
   good_at : (xs : HBlks) (l : ℕ) (k : HBlk) → AllGood ks xs → block_at xs l ≡ Some k →
-      HGood ks k.owes (cargs_onto k.args []) k.body
+      HTyped ks k.owes (cargs_onto k.args []) k.body
   good_at [] l k a e = absurd (none e)
     where
       none : None ≡ Some k → ⊥
       none q = cc
-  good_at (x ∷ xs) zero k a e = let q : x ≡ k = cc in subst (λ z. HGood ks z.owes (cargs_onto z.args []) z.body) q a.0.1
+  good_at (x ∷ xs) zero k a e = let q : x ≡ k = cc in subst (λ z. HTyped ks z.owes (cargs_onto z.args []) z.body) q
+      a.0.1
   good_at (x ∷ xs) (suc l) k a e = good_at xs l k a.1 e
 
   module _ (good : AllGood ks ks) where
@@ -342,7 +344,7 @@ module _ (ks : HBlks) where
         int_only {P = Fine (hhalt_with v).end} v S h (λ n e. subst (λ x. Fine (hhalt_with x).end) (sym e) tt)
 
     sound_t : (he : HEnter) → SafeEnter he →
-        (t : HTm) (n : ℕ) (env st : HWords) (S : List CTy) (s : ℕ → CTy) (g : List CTy) → HGood ks n g t →
+        (t : HTm) (n : ℕ) (env st : HWords) (S : List CTy) (s : ℕ → CTy) (g : List CTy) → HTyped ks n g t →
         YEnv S env s g → Stored S st S → Fine (hterm ks he t env st).end
     sound_t he f (HLet (HName v) t) n env st S s g h e w =
         sound_t he f t n (MoreHWords (hv_value v env) env) st S s (h.0 ∷ g) h.2
@@ -359,7 +361,7 @@ module _ (ks : HBlks) where
         (λ y st2 Z m k w2. sound_t he f t n (MoreHWords y env) st2 Z s (TCInt ∷ g) h.2
         (TCInt, g, refl, k, env_more env S Z s g m e) w2)
     sound_t he f (HLet (HUnpack v) t) n env st S s g h e w =
-        let o = unpacked (hv_value v env) S (csub (cup 1 s) h.0) (sound_v v n env S s g (TCSome h.0) h.1 e) in
+        let o = unpacked (hv_value v env) S (csub (cup 1 s) h.0) (sound_v v n env S s g (TCExists h.0) h.1 e) in
         let s2 = scons o.0 s in
         sound_t he f t (suc n) (MoreHWords (hv_value v env) env) st S s2 (h.0 ∷ crens_scope suc g) h.2 (
           h.0,
@@ -400,5 +402,5 @@ module _ (ks : HBlks) where
     safe zero l body m env st S s g h e w = tt
     safe (suc n) l body m env st S s g h e w = sound_t (henter ks n) (safe n) body m env st S s g h e w
 
-    pub h_never_stuck : (t : HTm) → HGood ks 0 [] t → (n : ℕ) → Fine (hrun n ks t).end
+    pub h_never_stuck : (t : HTm) → HTyped ks 0 [] t → (n : ℕ) → Fine (hrun n ks t).end
     h_never_stuck t h n = sound_t (henter ks n) (safe n) t 0 NoHWords NoHWords [] TCVar [] h refl refl

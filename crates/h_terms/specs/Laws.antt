@@ -1,9 +1,9 @@
 -- Laws of hoisted programs.
 use Rattle.std.specs.Prelude.{◌≢◌, ◌↔◌, ◌≤◌, ℕ}
-use Rattle.term_core.specs.Ends.{Stuck}
+use Rattle.calc_core.specs.Ends.{Stuck}
 use Rattle.c_terms.specs.Reach.{CWithin}
 use Rattle.h_terms.specs.Bound.{HFits}
-use Rattle.h_terms.specs.Each.{HProgramP}
+use Rattle.h_terms.specs.Each.{HProgramWith}
 use Rattle.h_terms.specs.H.{HBlks, HTm}
 use Rattle.h_terms.specs.Meaning.{hrun}
 use Rattle.h_terms.specs.Typing.{HProgramGood}
@@ -14,11 +14,11 @@ HNeverStuck = (ks : HBlks) (t : HTm) → HProgramGood ks t → (n : ℕ) → (hr
 
 -- typing is typing with the property that every type has
 abbrev pub HTypedIsAny : Type 0
-HTypedIsAny = (ks : HBlks) (t : HTm) → HProgramGood ks t ↔ HProgramP (λ n u. Unit {0}) ks t
+HTypedIsAny = (ks : HBlks) (t : HTm) → HProgramGood ks t ↔ HProgramWith (λ n u. Unit {0}) ks t
 
 -- a program whose types are within bounds is typed
 abbrev pub HWithinIsTyped : Type 0
-HWithinIsTyped = (N R B : ℕ) (ks : HBlks) (t : HTm) → HProgramP (CWithin N R B) ks t → HProgramGood ks t
+HWithinIsTyped = (N R B : ℕ) (ks : HBlks) (t : HTm) → HProgramWith (CWithin N R B) ks t → HProgramGood ks t
 
 -- a program within bounds is within any larger ones
 abbrev pub HFitsMore : Type 0

@@ -2,7 +2,7 @@
 use Rattle.std.specs.Prelude.{ℤ, pos, ℕ, zero, suc, nat_eq, Option, Some, None}
 use Rattle.idx_core.specs.declared.arith.Op.{Op}
 use Rattle.idx_core.specs.Arith.{compute, is_zero}
-use Rattle.term_core.specs.Ends.{Halted, Result, Spent, Stuck, enters, if_fits, pick, stops}
+use Rattle.calc_core.specs.Ends.{Halted, Result, Spent, Stuck, enters, if_fits, pick, stops}
 use Rattle.c_terms.specs.C.{ccount}
 use Rattle.h_terms.specs.H.{HApply, HArith, HBlk, HBlks, HCall, HCell, HDecl, HGet, HHalt, HIf, HInt, HLabel, HLet}
 use Rattle.h_terms.specs.H.{HName, HPack, HProj, HSet, HTm, HTuple, HUnpack, HVal, HVals, HVar, MoreHVals, NoHVals}
@@ -21,10 +21,10 @@ mutual
     MoreHWords : HWord → HWords → HWords
 
 -- the value of a variable
-abbrev pub hat : HWords → ℕ → HWord
-hat NoHWords i = YInt (pos 0)
-hat (MoreHWords v vs) zero = v
-hat (MoreHWords v vs) (suc i) = hat vs i
+abbrev pub hword_at : HWords → ℕ → HWord
+hword_at NoHWords i = YInt (pos 0)
+hword_at (MoreHWords v vs) zero = v
+hword_at (MoreHWords v vs) (suc i) = hword_at vs i
 
 -- how many values there are
 abbrev pub hsize : HWords → ℕ
@@ -62,7 +62,7 @@ hoperate op (YCell p) w = None
 
 abbrev mutual
   pub hv_value : HVal → HWords → HWord
-  hv_value (HVar i) env = hat env i
+  hv_value (HVar i) env = hword_at env i
   hv_value (HInt n) env = YInt n
   hv_value (HLabel l) env = YLabel l
   hv_value (HTuple vs) env = YTuple (hvs_value vs env)

@@ -7,7 +7,7 @@ use Rattle.h_terms.specs.declared.node.HForm.{HForm}
 use Rattle.h_terms.specs.declared.node.HForm.TheVariants.{Name, Proj, Arith, Unpack, Cell, Get, Set, Call, If0, Halt}
 use Rattle.h_terms.specs.declared.node.HNode.{HNode}
 use Rattle.h_terms.specs.declared.node.HBlock.{HBlock}
-use Rattle.term_core.specs.Ends.{lift}
+use Rattle.calc_core.specs.Ends.{lift}
 use Rattle.c_terms.specs.Read.{ctree, ctys}
 use Rattle.h_terms.specs.H.{HApply, HArith, HBlk, HCall, HCell, HGet, HHalt, HIf, HInt, HLabel, HLet, HName, HPack}
 use Rattle.h_terms.specs.H.{HProj, HSet, HTm, HTuple, HUnpack, HVal, HVals, HVar, MoreHVals, NoHVals}

@@ -5,7 +5,7 @@ use Rattle.h_terms.specs.declared.node.HForm.{HForm}
 use Rattle.h_terms.specs.declared.node.HForm.TheVariants as H
 use Rattle.h_terms.specs.declared.node.HNode.{HNode}
 use Rattle.h_terms.specs.declared.node.HBlock.{HBlock}
-use Rattle.term_core.specs.Ends.{lift}
+use Rattle.calc_core.specs.Ends.{lift}
 use Rattle.h_terms.specs.H.{HVal}
 use Rattle.h_terms.specs.Nodes.{HArity, HRow, HRows, h_kids, values}
 use Rattle.h_terms.specs.Row.{IsOne, IsSome, IsTwo}

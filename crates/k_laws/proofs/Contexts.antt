@@ -2,10 +2,10 @@
 use Rattle.f_terms.specs.Typing.{raised, ty_at, HasType}
 use Rattle.std.proofs.Common.{◌≡◌, ℕ, zero, suc, ◌+◌, ◌<◌, ◌≤◌, ◌⊎◌, inl, inr, List, [], ◌∷◌, Some, refl, sym, ap, ◌∙◌}
 use Rattle.std.proofs.Common.{subst, arith}
-use Rattle.term_core.specs.Ends.{lift}
+use Rattle.calc_core.specs.Ends.{lift}
 use Rattle.k_terms.specs.K.{KTy, TKInt, KTm, kren, krens_scope}
 use Rattle.k_terms.specs.Typing.{KAt}
-use Rattle.term_core.proofs.Substituting.{ren_ren, ren_none}
+use Rattle.calc_core.proofs.Substituting.{ren_ren, ren_none}
 use Rattle.f_terms.specs.Ty.{Ty, Tys, NoTys, MoreTys, shift}
 use Rattle.f_terms.specs.Tm.{Term, MVar, MNum, MFix, MApp, MGen, MInst, MTuple, MProj, MArith, MIf0, MLet, MPack}
 use Rattle.f_terms.specs.Tm.{MOpen, MRef, MDeref, MAssign}
@@ -15,7 +15,7 @@ use Rattle.k_laws.specs.Cps.{taking, kat, Atom, Level, Literal}
 use Rattle.k_laws.specs.Translates.{AnyRest, atom_of, cps}
 use Rattle.k_laws.proofs.KTypes.{LevelsIn, lift_lift, deeper, raised_at}
 use Rattle.f_terms.specs.OneType.{some_is}
-use Rattle.term_core.proofs.Lifts.{lift_le}
+use Rattle.calc_core.proofs.Lifts.{lift_le}
 
 abbrev pub glength : List KTy → ℕ
 glength [] = 0

@@ -3,8 +3,8 @@ use Rattle.std.proofs.Common.{ℤ, ◌≡◌, ℕ, zero, suc, ◌+◌, ◌<◌, 
 use Rattle.std.proofs.Common.{⊎_elim}
 use Rattle.std.specs.Prelude.{◌==◌}
 use Rattle.std.proofs.lemmas.Bool.{cases_lt, cases_eq, eq-eqb, ne_eqb}
-use Rattle.term_core.specs.Ends.{enters}
-use Rattle.term_core.specs.Ends as B
+use Rattle.calc_core.specs.Ends.{enters}
+use Rattle.calc_core.specs.Ends as B
 use Rattle.k_terms.specs.K.{KTy, NoKTys, MoreKTys, KVal, KVar, KInt, KTuple, KCode, KVals, NoKVals, MoreKVals, KDecl}
 use Rattle.k_terms.specs.K.{KName, KProj, KArith, KPack, KUnpack, KCell, KGet, KSet, KTm, KLet, KCall, KIf, KHalt}
 use Rattle.k_terms.specs.K.{kv_next, kvs_next, kd_next, kt_next}

@@ -8,14 +8,14 @@ use Rattle.f_terms.specs.Ty.{Ty, TInt, TVar, TArrow, TAll, TTuple, TSome, TRef, 
 use Rattle.f_terms.specs.Ty.{shift, put, Below}
 use Rattle.f_terms.specs.TyLaws.{types_part, types_over, shift_none}
 use Rattle.f_terms.specs.Typing.{ty_at, field_ty}
-use Rattle.term_core.specs.Ends.{lift, under}
-use Rattle.k_terms.specs.K.{KTy, TKVar, TKTuple, TKCode, TKSome, TKRef, NoKTys, MoreKTys, kren, krens, krens_scope}
+use Rattle.calc_core.specs.Ends.{lift, under}
+use Rattle.k_terms.specs.K.{KTy, TKVar, TKTuple, TKCode, TKExists, TKRef, NoKTys, MoreKTys, kren, krens, krens_scope}
 use Rattle.k_terms.specs.Typing.{kscons, kup, ksub, ksubs, knames, KIn, KIns, KField}
-use Rattle.term_core.proofs.Substituting.{ren_none}
+use Rattle.calc_core.proofs.Substituting.{ren_none}
 use Rattle.k_laws.specs.Cps.{kty, all_kty, taking, type_level, spot, kat}
 use Rattle.k_laws.proofs.Below.{Belows, none_is}
 use Rattle.f_terms.specs.OneType.{some_is}
-use Rattle.term_core.proofs.Lifts.{lift_add as lift_plus}
+use Rattle.calc_core.proofs.Lifts.{lift_add as lift_plus}
 
 abbrev arrow : KTy → KTy → KTy
 arrow a b = TKCode 0 (MoreKTys a (MoreKTys (taking b) NoKTys))
@@ -40,7 +40,7 @@ mutual
       ap for_all (ren_kty t (n + 1) (under 0 (under 1 q)) (under 1 r) (under 1 p) (under_on n q r p f) b.1)
   ren_kty (TTuple ts) n q r p f b = ap TKTuple (ren_ktys ts n q r p f b)
   ren_kty (TSome t) n q r p f b =
-      ap TKSome (ren_kty t (n + 1) (under 1 q) (under 1 r) (under 1 p) (under_on n q r p f) b.1)
+      ap TKExists (ren_kty t (n + 1) (under 1 q) (under 1 r) (under 1 p) (under_on n q r p f) b.1)
   ren_kty (TRef t) n q r p f b = ap TKRef (ren_kty t n q r p f b)
 
   ren_ktys : (ts : Tys) (n : ℕ) (q r p : ℕ → ℕ) → ((i : ℕ) → i < n → q (r i) ≡ p i) → Belows n ts →
@@ -59,7 +59,7 @@ mutual
   same_kty (TArrow x y) n r p f b = ap₂ arrow (same_kty x n r p f b.0) (same_kty y n r p f b.1)
   same_kty (TAll t) n r p f b = ap for_all (same_kty t (n + 1) (under 1 r) (under 1 p) (under_same n r p f) b.1)
   same_kty (TTuple ts) n r p f b = ap TKTuple (same_ktys ts n r p f b)
-  same_kty (TSome t) n r p f b = ap TKSome (same_kty t (n + 1) (under 1 r) (under 1 p) (under_same n r p f) b.1)
+  same_kty (TSome t) n r p f b = ap TKExists (same_kty t (n + 1) (under 1 r) (under 1 p) (under_same n r p f) b.1)
   same_kty (TRef t) n r p f b = ap TKRef (same_kty t n r p f b)
 
   same_ktys : (ts : Tys) (n : ℕ) (r p : ℕ → ℕ) → ((i : ℕ) → i < n → r i ≡ p i) → Belows n ts →
@@ -90,7 +90,7 @@ mutual
   shift_kty (TArrow a b) r p d f = ap₂ arrow (shift_kty a r p d f) (shift_kty b r p d f)
   shift_kty (TAll t) r p d f = ap for_all (shift_kty t (under 1 r) (under 1 p) (d + 1) (under_one r p d f))
   shift_kty (TTuple ts) r p d f = ap TKTuple (shift_ktys ts r p d f)
-  shift_kty (TSome t) r p d f = ap TKSome (shift_kty t (under 1 r) (under 1 p) (d + 1) (under_one r p d f))
+  shift_kty (TSome t) r p d f = ap TKExists (shift_kty t (under 1 r) (under 1 p) (d + 1) (under_one r p d f))
   shift_kty (TRef t) r p d f = ap TKRef (shift_kty t r p d f)
 
   shift_ktys : (ts : Tys) (r p : ℕ → ℕ) (d : ℕ) → ((i : ℕ) → kty r (shifted TVar 1 d i) ≡ TKVar (p i)) →
@@ -117,7 +117,7 @@ mutual
   ren_all (TArrow x y) q r p f = ap₂ arrow (ren_all x (under 0 q) r p f) (ren_all y (under 0 (under 0 q)) r p f)
   ren_all (TAll t) q r p f = ap for_all (ren_all t (under 0 (under 1 q)) (under 1 r) (under 1 p) (under_all q r p f))
   ren_all (TTuple ts) q r p f = ap TKTuple (rens_all ts q r p f)
-  ren_all (TSome t) q r p f = ap TKSome (ren_all t (under 1 q) (under 1 r) (under 1 p) (under_all q r p f))
+  ren_all (TSome t) q r p f = ap TKExists (ren_all t (under 1 q) (under 1 r) (under 1 p) (under_all q r p f))
   ren_all (TRef t) q r p f = ap TKRef (ren_all t q r p f)
 
   rens_all : (ts : Tys) (q r p : ℕ → ℕ) → ((i : ℕ) → q (r i) ≡ p i) → krens q (all_kty r ts) ≡ all_kty p ts
@@ -161,7 +161,8 @@ mutual
   put_kty (TAll t) s z r p d f =
       ap for_all (put_kty t s (kup 0 (kup 1 z)) (under 1 r) (under 1 p) (d + 1) (put_up s z r p d f))
   put_kty (TTuple ts) s z r p d f = ap TKTuple (put_ktys ts s z r p d f)
-  put_kty (TSome t) s z r p d f = ap TKSome (put_kty t s (kup 1 z) (under 1 r) (under 1 p) (d + 1) (put_up s z r p d f))
+  put_kty (TSome t) s z r p d f = ap TKExists (put_kty t s (kup 1 z) (under 1 r) (under 1 p) (d + 1)
+      (put_up s z r p d f))
   put_kty (TRef t) s z r p d f = ap TKRef (put_kty t s z r p d f)
 
   put_ktys : (ts : Tys) (s : Ty) (z : ℕ → KTy) (r p : ℕ → ℕ) (d : ℕ) →

@@ -1,6 +1,6 @@
 -- How the whole evaluation ends, the run of its translation ends.
 use Rattle.std.proofs.Common.{ℤ, ◌≡◌, ℕ, ◌+◌, ◌≤◌, inl, inr, [], refl, sym, ap, ◌∙◌, subst, arith, ⊎_elim}
-use Rattle.term_core.specs.Ends as B
+use Rattle.calc_core.specs.Ends as B
 use Rattle.k_terms.specs.K.{KVal, KTm, KHalt}
 use Rattle.k_terms.specs.Meaning.{KWords, NoWords, kv_value, krun}
 use Rattle.f_terms.specs.Ty.{TInt, NoTys}

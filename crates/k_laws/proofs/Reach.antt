@@ -6,7 +6,7 @@ use Rattle.f_terms.specs.Tm.{MOpen, MRef, MDeref, MAssign, Terms, NoTerms, MoreT
 use Rattle.f_terms.specs.Limits.{Shallow, Within, nodes}
 use Rattle.f_terms.specs.Typing.{raised, in_fix, in_open}
 use Rattle.f_terms.specs.Accepted.{KeepsLimits}
-use Rattle.term_core.specs.Ends.{under}
+use Rattle.calc_core.specs.Ends.{under}
 use Rattle.k_terms.specs.Reach.{kreach, kreaches, kbinds, kbinds_all, KWithin}
 use Rattle.k_laws.specs.Cps.{kty, all_kty, taking}
 use Rattle.f_terms.specs.Keeps.{Keeps, AllKeep}

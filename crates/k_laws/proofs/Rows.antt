@@ -7,8 +7,8 @@ use Rattle.idx_core.specs.declared.arith.Op.TheVariants.{Add, Sub, Mul}
 use Rattle.f_terms.specs.Ty.{TInt, TVar, TArrow, TTuple, TSome, NoTys, MoreTys}
 use Rattle.f_terms.specs.Tm.{Term, MVar, MNum, MFix, MApp, MGen, MInst, MTuple, MProj, MArith, MIf0, MLet, MPack}
 use Rattle.f_terms.specs.Tm.{MOpen, MRef, MDeref, MAssign, NoTerms, MoreTerms}
-use Rattle.term_core.specs.Ends.{Halted}
-use Rattle.k_terms.specs.K.{KTy, TKInt, TKVar, TKCode, TKSome, NoKTys, MoreKTys, KVal, KVar, KInt, KCode, NoKVals}
+use Rattle.calc_core.specs.Ends.{Halted}
+use Rattle.k_terms.specs.K.{KTy, TKInt, TKVar, TKCode, TKExists, NoKTys, MoreKTys, KVal, KVar, KInt, KCode, NoKVals}
 use Rattle.k_terms.specs.K.{MoreKVals, KName, KArith, KPack, KUnpack, KCell, KGet, KSet, KTm, KLet, KCall, KIf, KHalt}
 use Rattle.k_terms.specs.Meaning.{krun}
 use Rattle.k_laws.specs.Annotate.{cps_term}
@@ -211,7 +211,7 @@ same_of t = KCode 0 (MoreKTys t (MoreKTys (TKCode 0 (MoreKTys t NoKTys)) NoKTys)
 under_both_is_it : cps_term under_both
     ≡ KLet (KName (KCode 1 (MoreKTys (TKCode 0 (MoreKTys (function (TKVar 0)) NoKTys)) NoKTys)
     (KLet (KName (same_of (TKVar 0)))
-    (KLet (KPack (function (TKVar 0)) (KVar 0) (TKSome (TKVar 0)))
+    (KLet (KPack (function (TKVar 0)) (KVar 0) (TKExists (TKVar 0)))
     (KLet (KUnpack (KVar 0))
     (KLet (KName (same_of (TKVar 1))) (KCall (KVar 4) NoKTys (MoreKVals (KVar 0) NoKVals))))))))
     (KHalt (KVar 0))

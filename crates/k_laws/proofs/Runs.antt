@@ -2,7 +2,7 @@
 use Rattle.std.proofs.Common.{◌≡◌, ◌≤◌, ℕ, zero, suc, ◌+◌, ◌⊎◌, inl, inr, Bool, true, false, ◌&&◌, nat_eq, refl, sym}
 use Rattle.std.proofs.Common.{ap, subst, arith}
 use Rattle.idx_core.specs.Arith.{is_zero}
-use Rattle.term_core.specs.Ends.{if_fits, pick, Spent, Result, stops, enters}
+use Rattle.calc_core.specs.Ends.{if_fits, pick, Spent, Result, stops, enters}
 use Rattle.k_terms.specs.K.{KTm, KLet, KCall, KIf, KHalt, kcount, kv_next, kd_next, kt_next}
 use Rattle.k_terms.specs.Meaning.{KWord, WInt, WTuple, WCode, WCell, KWords, MoreWords, size, onto, kv_value}
 use Rattle.k_terms.specs.Meaning.{kvs_value, Made, Makes, Fails, kd_value, KEnter, kopen, with_value, at_zero, kterm}

@@ -4,7 +4,7 @@ use Rattle.std.proofs.Common.{ap, subst, arith}
 use Rattle.std.specs.Prelude.{cond}
 use Rattle.idx_core.specs.declared.arith.Op.{Op}
 use Rattle.idx_core.specs.Arith.{is_zero, compute}
-use Rattle.term_core.specs.Ends as B
+use Rattle.calc_core.specs.Ends as B
 use Rattle.k_terms.specs.K.{KProj, KArith, KCell, KGet, KSet, KTm, kv_next, kt_next}
 use Rattle.k_terms.specs.Meaning.{KWord, KWords, WInt, WTuple, WCell, NoWords, MoreWords, size, field, held, hold}
 use Rattle.k_terms.specs.Meaning.{one_more, kv_value, with_value, at_zero}

@@ -2,11 +2,11 @@
 -- types have.
 use Rattle.f_terms.specs.Typing.{raised, in_fix, in_open, HasType}
 use Rattle.std.proofs.Common.{◌≡◌, ℕ, suc, ◌+◌, ◌-◌, ◌≤◌, inl, inr, List, [], ◌∷◌, refl, sym, ap, ◌∙◌, subst, arith}
-use Rattle.term_core.specs.Ends.{lift, under}
+use Rattle.calc_core.specs.Ends.{lift, under}
 use Rattle.k_terms.specs.K.{KTy, TKInt, TKVar, TKTuple, TKCode, TKRef, NoKTys, MoreKTys, KVal, NoKVals, MoreKVals, KTm}
 use Rattle.k_terms.specs.K.{KIf, kren, krens_scope}
 use Rattle.k_terms.specs.Typing.{ksubs, knames}
-use Rattle.k_terms.specs.Each.{KProp, KHasP, KHaveP, KGoodP}
+use Rattle.k_terms.specs.Each.{KProp, KHasWith, KHaveWith, KTypedWith}
 use Rattle.f_terms.specs.Ty.{Ty, TInt, TArrow, TAll, TTuple, TSome, TRef, Tys, NoTys, MoreTys, shift, put, Below}
 use Rattle.f_terms.specs.Tm.{Term, MVar, MNum, MFix, MApp, MGen, MInst, MTuple, MProj, MArith, MIf0, MLet, MPack}
 use Rattle.f_terms.specs.Tm.{MOpen, MRef, MDeref, MAssign, Terms, NoTerms, MoreTerms}
@@ -50,7 +50,7 @@ module _ (S : Ty → Type 0) (L : ℕ) (P : KProp) (pt : (d : ℕ) (r : ℕ → 
     abbrev TypedAt : Term → Type 1
     TypedAt e = (n : ℕ) (tl : List ℕ) (ts : Tys) (t : Ty) (N r td : ℕ) (g : List KTy) (names : List Atom) (k : AnyRest)
         (m : KTm) → cps e n tl ts t td (glength g) names k m → td + nodes e + r ≤ N → N ≤ L → Keeps S e n ts →
-        Belows n ts → LevelsIn n tl td → TEnv ts tl td names g → Good L P N r td k g (typ tl t) → KGoodP P td g m
+        Belows n ts → LevelsIn n tl td → TEnv ts tl td names g → Good L P N r td k g (typ tl t) → KTypedWith P td g m
 
     abbrev IfForm : Term → Term → ℕ → List ℕ → Tys → Ty → List Atom → ℕ → Form
     IfForm y z n tl g ty names l ta d2 cv m2 = (c' : KVal) × (ma mb : KTm) × stands cv ta d2 c' × (m2 ≡ KIf c' ma mb)
@@ -63,7 +63,7 @@ module _ (S : Ty → Type 0) (L : ℕ) (P : KProp) (pt : (d : ℕ) (r : ℕ → 
         (n : ℕ) (tl : List ℕ) (ts : Tys) (t : Ty) (N td : ℕ) (g : List KTy) (names : List Atom) (l : ℕ) (m : KTm) →
         cps x n tl ts TInt td (glength g) names (Bind tl TInt (IfForm y z n tl ts t names l)) m →
         td + nodes (MIf0 x y z) ≤ N → N ≤ L → Keeps S (MIf0 x y z) n ts → Belows n ts → Oks L P td (typ tl t) →
-        LevelsIn n tl td → TEnv ts tl td names g → Good L P N 0 td (Pass l) g (typ tl t) → KGoodP P td g m
+        LevelsIn n tl td → TEnv ts tl td names g → Good L P N 0 td (Pass l) g (typ tl t) → KTypedWith P td g m
     if_pass x y z sx sy sz n tl ts t N td g names l m c le lim kp b ot f r good =
         let si : S TInt = head_keeps S x n ts kp.1 TInt (head_typed x n tl ts TInt td (glength g) names _ m c) in
         sx n tl ts TInt N (nodes y + nodes z) td g names (Bind tl TInt (IfForm y z n tl ts t names l)) m c
@@ -73,7 +73,7 @@ module _ (S : Ty → Type 0) (L : ℕ) (P : KProp) (pt : (d : ℕ) (r : ℕ → 
               (let f' = levels_later n tl td d (ext_le d big td g e) f in
               let r' = tenv_more ts n tl names d big td g f b e r in
               let good' = good_more L P (Pass l) N N 0 d big td g (typ tl t) (omega arith) ot e good in
-              subst (λ m. KGoodP P d big m) (sym c1.4) (
+              subst (λ m. KTypedWith P d big m) (sym c1.4) (
                 has L P xv M d big (typ tl TInt) c1.0 (omega (arith, le1)) (omega (arith, le2, lim))
                     (ok_int n tl d f' si) hx
                     c1.3,
@@ -95,7 +95,7 @@ module _ (S : Ty → Type 0) (L : ℕ) (P : KProp) (pt : (d : ℕ) (r : ℕ → 
         let o = oks_of (MIf0 x y z) n tl ts t td ht kp b f in
         let ct = cont (typ tl t) in
         let more = ext_more (ct td) td g td g (ext_same td g) in
-        subst (λ m. KGoodP P td g m) (sym e) (
+        subst (λ m. KTypedWith P td g m) (sym e) (
           ct td,
           has L P (as_value (Bind tk s form)) td td g ct kv (omega arith) (omega (arith, le, lim)) o.rest
               (typed_k L P (Bind tk s form) td N r td g (typ tl t) (omega (arith, le)) lim o good) hv,
@@ -107,7 +107,7 @@ module _ (S : Ty → Type 0) (L : ℕ) (P : KProp) (pt : (d : ℕ) (r : ℕ → 
       typed_cps : (e : Term) (n : ℕ) (tl : List ℕ) (ts : Tys) (t : Ty) (N r td : ℕ) (g : List KTy) (names : List Atom)
           (k : AnyRest) (m : KTm) → cps e n tl ts t td (glength g) names k m → td + nodes e + r ≤ N → N ≤ L →
           Keeps S e n ts → Belows n ts → LevelsIn n tl td → TEnv ts tl td names g → Good L P N r td k g (typ tl t) →
-          KGoodP P td g m
+          KTypedWith P td g m
       typed_cps (MVar i) n tl ts t N r td g names k m (ht, a, lev, del) le lim kp b f rv good =
           good_deliver L P k N r td g (typ tl t) (Plain a) m (omega (arith, le)) lim
           (oks_of (MVar i) n tl ts t td ht kp b f)
@@ -128,11 +128,11 @@ module _ (S : Ty → Type 0) (L : ℕ) (P : KProp) (pt : (d : ℕ) (r : ℕ → 
                 ext_more _ d _ d big (ext_more _ d _ d big (ext_more _ d big d big (ext_same d big))) in
                 let r' = tenv_more ts n tl names d big td g f b e rv in
                 let r2 = tenv_more ts n tl names d inner d big f' b on r' in
-                subst (λ v. KHasP P d big v (kat d tl t)) (sym h.1) (
+                subst (λ v. KHasWith P d big v (kat d tl t)) (sym h.1) (
                   o.type.own d (omega (arith, low, lim)),
                   ap (kat d tl) ht.0,
                   (kat_in arg n tl d f' ht.1, ((kat_in res n tl d f' ht.2, tt), tt)),
-                  subst (λ g. KGoodP P d (kcat d tl res ∷ kat d tl arg ∷ g) h.0) (sym (scope_none (fun ∷ big)))
+                  subst (λ g. KTypedWith P d (kcat d tl res ∷ kat d tl arg ∷ g) h.0) (sym (scope_none (fun ∷ big)))
                       (typed_cps body n tl (in_fix arg res ts) res N 0 d inner
                       (Level (suc (glength big)) ∷ Level (glength big) ∷ names) (Pass (suc (suc (glength big)))) h.0
                       h.2 (omega (arith, low, le)) lim kp.1 (ht.1, ((ht.1, ht.2), b)) f'
@@ -159,7 +159,7 @@ module _ (S : Ty → Type 0) (L : ℕ) (P : KProp) (pt : (d : ℕ) (r : ℕ → 
                 let r' = tenv_more ts n tl names d big td g f b e rv in
                 let r2 =
                 tenv_raised ts tl d (suc d) names inner (tenv_more ts n tl names (suc d) inner d big f' b on r') in
-                subst (λ v. KHasP P d big v (kat d tl t)) (sym h.1) (
+                subst (λ v. KHasWith P d big v (kat d tl t)) (sym h.1) (
                   o.type.own d (omega (arith, low, lim)),
                   ap (kat d tl) et ∙ ap (λ x. TKCode 1 (MoreKTys (taking x) NoKTys)) (opened s n tl d f' bs),
                   ((kat_in s (n + 1) (d ∷ tl) (suc d) f2 bs, tt), tt),
@@ -215,12 +215,12 @@ module _ (S : Ty → Type 0) (L : ℕ) (P : KProp) (pt : (d : ℕ) (r : ℕ → 
                 (typed_k L P k d1 N r d1 g1 (typ tl t) (omega (arith, l1, l1')) lim o1
                 (good_more L P k N N r d1 g1 td g (typ tl t) (omega arith) o e1 good)) (λ g2 kv m2 e2 hk h.
                 (let us = MoreKTys (taking (kty (under 1 (spot d1 tl)) u)) NoKTys in
-                let args : KHaveP P d1 g2 (MoreKVals h.1 NoKVals)
+                let args : KHaveWith P d1 g2 (MoreKVals h.1 NoKVals)
                 (ksubs (knames (MoreKTys (kat d1 tl s) NoKTys) TKVar) us) =
-                subst (KHaveP P d1 g2 (MoreKVals h.1 NoKVals))
+                subst (KHaveWith P d1 g2 (MoreKVals h.1 NoKVals))
                 (ap (λ x. MoreKTys (kcat d1 tl x) NoKTys) et ∙ sym (put_code s u (spot d1 tl)))
                 (ct d1, NoKTys, refl, has L P kv d1 d1 g2 ct h.1 low top o1.rest hk h.3, refl) in
-                subst (λ m. KGoodP P d1 g2 m) (sym h.4) (
+                subst (λ m. KTypedWith P d1 g2 m) (sym h.4) (
                   us,
                   has L P ev M1 d1 g2 all h.0 (omega (arith, l1)) (omega (arith, l1', lim)) oa
                       (typed_more L P ev M1 M1 d1 g2 d1 g1 all (omega arith) oa e2 te) h.2,
@@ -250,7 +250,7 @@ module _ (S : Ty → Type 0) (L : ℕ) (P : KProp) (pt : (d : ℕ) (r : ℕ → 
                 (let later = ext_le d1 g1 td g e1 in
                 let o1 = oks_later L P td d1 (typ tl t) later o in
                 let top : M ≤ L = omega (arith, l', lim) in
-                subst (λ m. KGoodP P d1 g1 m) (sym c1.3) (
+                subst (λ m. KTypedWith P d1 g1 m) (sym c1.3) (
                   kat d1 tl t,
                   (
                     o1.type.own d1 (omega (arith, l, top)),
@@ -281,7 +281,7 @@ module _ (S : Ty → Type 0) (L : ℕ) (P : KProp) (pt : (d : ℕ) (r : ℕ → 
                       let top : M2 ≤ L = omega (arith, l2', l1', lim) in
                       let low : d2 ≤ M2 = omega (arith, l2) in
                       let tx2 = typed_more L P xv M2 M1 d2 g2 d1 g1 (typ tl TInt) l2' (ok_int n tl d1 f1 si) e2 tx in
-                      subst (λ m. KGoodP P d2 g2 m) (sym c2.5) (
+                      subst (λ m. KTypedWith P d2 g2 m) (sym c2.5) (
                         TKInt,
                         (
                           oi.own d2 (omega (arith, low, top)),
@@ -336,7 +336,7 @@ module _ (S : Ty → Type 0) (L : ℕ) (P : KProp) (pt : (d : ℕ) (r : ℕ → 
                 let f1 = levels_later n tl td d1 later f in
                 let top : M ≤ L = omega (arith, l', lim) in
                 let low : d1 ≤ L = omega (arith, l, top) in
-                subst (λ m. KGoodP P d1 g1 m) (sym c1.3) (
+                subst (λ m. KTypedWith P d1 g1 m) (sym c1.3) (
                   kat d1 tl s,
                   (
                     pt d1 (spot d1 tl) s low (subst S et (head_keeps S (MPack hid e s) n ts kp t ht)),
@@ -346,7 +346,7 @@ module _ (S : Ty → Type 0) (L : ℕ) (P : KProp) (pt : (d : ℕ) (r : ℕ → 
                     refl,
                     kat_in hid n tl d1 f1 ht.3,
                     kat_in s n tl d1 f1 ht.4,
-                    subst (KHasP P d1 g1 c1.0) (sym (put_in hid u (spot d1 tl)))
+                    subst (KHasWith P d1 g1 c1.0) (sym (put_in hid u (spot d1 tl)))
                         (has L P ev M d1 g1 (typ tl (put 0 hid u)) c1.0 (omega (arith, l)) top
                         (ok_later L P td d1 (typ tl (put 0 hid u)) later oe.type) te c1.2),
                   ),
@@ -373,7 +373,7 @@ module _ (S : Ty → Type 0) (L : ℕ) (P : KProp) (pt : (d : ℕ) (r : ℕ → 
                 let good2 = good_same L P k M r (suc d1) g2 (typ tl t) (typ (d1 ∷ tl) (shift 1 0 t))
                 (λ d. sym (raised_at t d1 d tl)) (good_more L P k M N r (suc d1) g2 td g (typ tl t) l' o e2 good) in
                 let top : M ≤ L = omega (arith, l', lim) in
-                subst (λ m. KGoodP P d1 g1 m) (sym c1.3) (
+                subst (λ m. KTypedWith P d1 g1 m) (sym c1.3) (
                   ku,
                   (
                     pt (suc d1) (under 1 (spot d1 tl)) u (omega (arith, l, top)) su,
@@ -400,7 +400,7 @@ module _ (S : Ty → Type 0) (L : ℕ) (P : KProp) (pt : (d : ℕ) (r : ℕ → 
                 let top : M ≤ L = omega (arith, l', lim) in
                 let own : P d1 (TKRef (kat d1 tl s)) =
                 subst (λ x. P d1 (kat d1 tl x)) et (o1.type.own d1 (omega (arith, l, top))) in
-                subst (λ m. KGoodP P d1 g1 m) (sym c1.3) (
+                subst (λ m. KTypedWith P d1 g1 m) (sym c1.3) (
                   TKRef (kat d1 tl s),
                   (
                     own,
@@ -424,7 +424,7 @@ module _ (S : Ty → Type 0) (L : ℕ) (P : KProp) (pt : (d : ℕ) (r : ℕ → 
                 (let later = ext_le d1 g1 td g e1 in
                 let o1 = oks_later L P td d1 (typ tl t) later o in
                 let top : M ≤ L = omega (arith, l', lim) in
-                subst (λ m. KGoodP P d1 g1 m) (sym c1.3) (
+                subst (λ m. KTypedWith P d1 g1 m) (sym c1.3) (
                   kat d1 tl t,
                   (
                     o1.type.own d1 (omega (arith, l, top)),
@@ -459,7 +459,7 @@ module _ (S : Ty → Type 0) (L : ℕ) (P : KProp) (pt : (d : ℕ) (r : ℕ → 
                       let own : P d2 (TKTuple NoKTys) =
                       subst (λ z. P d2 (kat d2 tl z)) et (o2.type.own d2 (omega (arith, low, top))) in
                       let tx2 = typed_more L P xv M2 M1 d2 g2 d1 g1 (typ tl (TRef s)) l2' ox1 e2 tx in
-                      subst (λ m. KGoodP P d2 g2 m) (sym c2.5) (
+                      subst (λ m. KTypedWith P d2 g2 m) (sym c2.5) (
                         TKTuple NoKTys,
                         (
                           own,
@@ -481,7 +481,7 @@ module _ (S : Ty → Type 0) (L : ℕ) (P : KProp) (pt : (d : ℕ) (r : ℕ → 
       typed_all : (es : Terms) (n : ℕ) (tl : List ℕ) (ts us : Tys) (N r td : ℕ) (g : List KTy) (names : List Atom)
           (form : Forms) (m : KTm) → cps_all es n tl ts us td (glength g) names form m → td + nodes_all es + r ≤ N →
           N ≤ L → AllKeep S es n ts → Belows n ts → LevelsIn n tl td → TEnv ts tl td names g →
-          GoodForms L P N r td form g tl us → KGoodP P td g m
+          GoodForms L P N r td form g tl us → KTypedWith P td g m
       typed_all NoTerms n tl ts us N r td g names form m (te, c) le lim kp b f rv good =
           good.ready N td g NoThings m (ext_same td g) (omega (arith, le)) (omega arith)
           (subst (λ us. Typeds L P N td NoThings g tl us) (sym te) tt) c
@@ -507,12 +507,13 @@ module _ (S : Ty → Type 0) (L : ℕ) (P : KProp) (pt : (d : ℕ) (r : ℕ → 
                 }));
           })
 
-    pub each_type : (e : Term) (m : KTm) → cps_program e m → nodes e ≤ L → Keeps S e 0 NoTys → S TInt → KGoodP P 0 [] m
+    pub each_type : (e : Term) (m : KTm) → cps_program e m → nodes e ≤ L → Keeps S e 0 NoTys → S TInt → KTypedWith P 0
+        [] m
     each_type e m h le kp si =
         typed_cps e 0 [] NoTys TInt L 0 0 [] [] (Bind [] TInt halting) m h (omega (arith, le)) (omega arith) kp tt
         (λ i l. absurd (omega (arith, l))) tt (record {
           is = λ d. refl;
-          ready = λ M d big x m e l l' hx c. subst (λ m. KGoodP P d big m) (sym c.2)
+          ready = λ M d big x m e l l' hx c. subst (λ m. KTypedWith P d big m) (sym c.2)
               (has L P x M d big (typ [] TInt) c.0 (omega (arith, l)) l'
               (ok_int 0 [] d (λ i q. absurd (omega (arith, q))) si) hx c.1);
         })

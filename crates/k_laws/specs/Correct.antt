@@ -7,11 +7,11 @@ use Rattle.f_terms.specs.Typing.{IsProgram}
 use Rattle.f_terms.specs.Eval.{Evaluates}
 use Rattle.f_terms.specs.Limits.{nodes}
 use Rattle.f_terms.specs.Accepted.{IsAccepted}
-use Rattle.term_core.specs.Ends.{Halted}
+use Rattle.calc_core.specs.Ends.{Halted}
 use Rattle.k_terms.specs.K.{KTm}
 use Rattle.k_terms.specs.Meaning.{krun}
-use Rattle.k_terms.specs.Typing.{KGood}
-use Rattle.k_terms.specs.Each.{KGoodP}
+use Rattle.k_terms.specs.Typing.{KTyped}
+use Rattle.k_terms.specs.Each.{KTypedWith}
 use Rattle.k_terms.specs.Reach.{KWithin}
 use Rattle.k_terms.specs.Size.{ksize_t}
 use Rattle.k_terms.specs.Bound.{KFits, KBound}
@@ -37,12 +37,12 @@ KeepsMeaning = (e : Term) (m : KTm) → cps_program e m → Kept e m
 
 -- every translation is typed, with all types written in it in scope
 abbrev pub KeepsTypes : Type 0
-KeepsTypes = (e : Term) (m : KTm) → cps_program e m → KGood 0 [] m
+KeepsTypes = (e : Term) (m : KTm) → cps_program e m → KTyped 0 [] m
 
 -- each type in a translation of an accepted program of L nodes has a reach of at most 1600,
 -- binds at most 598 names around a place, and stands under at most L names
 abbrev pub KeepsReach : Type 0
-KeepsReach = (e : Term) (m : KTm) → IsAccepted e TInt → cps_program e m → KGoodP (KWithin (nodes e) 1600 598) 0 [] m
+KeepsReach = (e : Term) (m : KTm) → IsAccepted e TInt → cps_program e m → KTypedWith (KWithin (nodes e) 1600 598) 0 [] m
 
 -- the conversion is a translation
 abbrev pub IsTranslated : Type 0
@@ -53,10 +53,10 @@ abbrev pub CpsKeepsMeaning : Type 0
 CpsKeepsMeaning = (e : Term) → IsProgram e → Kept e (cps_term e)
 
 abbrev pub CpsKeepsTypes : Type 0
-CpsKeepsTypes = (e : Term) → IsProgram e → KGood 0 [] (cps_term e)
+CpsKeepsTypes = (e : Term) → IsProgram e → KTyped 0 [] (cps_term e)
 
 abbrev pub CpsKeepsReach : Type 0
-CpsKeepsReach = (e : Term) → IsAccepted e TInt → KGoodP (KWithin (nodes e) 1600 598) 0 [] (cps_term e)
+CpsKeepsReach = (e : Term) → IsAccepted e TInt → KTypedWith (KWithin (nodes e) 1600 598) 0 [] (cps_term e)
 
 -- how large a conversion is
 abbrev pub SizeIs : Type 0

@@ -1,9 +1,10 @@
 -- Conversion to continuation-passing style. Source names are kept by their levels: the level of a name is the number
 -- of names outside it. A place has so many type names and so many names around it.
 use Rattle.std.specs.Prelude.{ℕ, ℤ, zero, suc, ◌-◌, List, [], ◌∷◌, ◌++◌}
-use Rattle.term_core.specs.Ends.{under}
+use Rattle.calc_core.specs.Ends.{under}
 use Rattle.f_terms.specs.Ty.{Ty, TInt, TVar, TArrow, TAll, TTuple, TSome, TRef, Tys, NoTys, MoreTys}
-use Rattle.k_terms.specs.K.{KTy, TKInt, TKVar, TKTuple, TKCode, TKSome, TKRef, KTys, NoKTys, MoreKTys, KVal, KVar, KInt}
+use Rattle.k_terms.specs.K.{KTy, TKInt, TKVar, TKTuple, TKCode, TKExists, TKRef, KTys, NoKTys, MoreKTys, KVal, KVar}
+use Rattle.k_terms.specs.K.{KInt}
 use Rattle.k_terms.specs.K.{KTuple, KCode, KVals, NoKVals, MoreKVals, KDecl, KName, KProj, KArith, KPack, KUnpack}
 use Rattle.k_terms.specs.K.{KCell, KGet, KSet, KTm, KLet, KCall, KIf, KHalt}
 use Rattle.f_terms.specs.Noted.{Noted, EVar, ENum, EFix, EApp, EGen, EInst, ETuple, EProj, EArith, EIf, ELet, EPack}
@@ -21,7 +22,7 @@ abbrev mutual
   kty r (TArrow a b) = TKCode 0 (MoreKTys (kty r a) (MoreKTys (taking (kty r b)) NoKTys))
   kty r (TAll t) = TKCode 1 (MoreKTys (taking (kty (under 1 r) t)) NoKTys)
   kty r (TTuple ts) = TKTuple (all_kty r ts)
-  kty r (TSome t) = TKSome (kty (under 1 r) t)
+  kty r (TSome t) = TKExists (kty (under 1 r) t)
   kty r (TRef t) = TKRef (kty r t)
 
   pub all_kty : (ℕ → ℕ) → Tys → KTys

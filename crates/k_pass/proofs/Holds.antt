@@ -3,7 +3,7 @@ use Rattle.std.proofs.Common.{◌≡◌, ℕ, suc, ◌+◌, List, [], ◌∷◌,
 use Rattle.std.proofs.Common.{◌∙◌, subst, arith, append_assoc, append-nil}
 use Rattle.f_terms.specs.Ty.{Ty, TInt, TArrow, TAll, TTuple, TSome, TRef, Tys, NoTys, MoreTys, shift, put, Below}
 use Rattle.f_terms.specs.Typing.{raised, in_fix, in_open}
-use Rattle.term_core.specs.Ends.{lift, under}
+use Rattle.calc_core.specs.Ends.{lift, under}
 use Rattle.k_terms.specs.K.{KTy, TKInt, TKTuple, TKCode, TKRef, NoKTys, MoreKTys, KVal, KDecl, KProj, KArith, KUnpack}
 use Rattle.k_terms.specs.K.{KCell, KGet, KSet, KTm, KLet, KIf, kbody_scope, kren, krens_scope}
 use Rattle.k_terms.specs.Types.{kvs_type, kproj_type, kopen_type, kheld_type}
@@ -25,7 +25,7 @@ use Rattle.k_pass.proofs.Scopes.{field_is}
 use Rattle.k_pass.proofs.Known.{Known, base, Grows, grows_same, grows_more, one_more, newest, rest_grows, fix_grows}
 use Rattle.k_pass.proofs.Known.{fix_own, fix_arg, gen_grows, open_grows, Suits, suits_later, suits_raised, found, Good}
 use Rattle.k_pass.proofs.Known.{Steady, good_later, good_same, value_node, value_type, AllGood}
-use Rattle.term_core.proofs.Lifts.{lift_le}
+use Rattle.calc_core.proofs.Lifts.{lift_le}
 
 abbrev Nodes : Type 0
 Nodes = List KNd

@@ -2,12 +2,12 @@
 use Rattle.std.proofs.Common.{◌≡◌, ◌<◌, ℕ, zero, suc, ◌-◌, List, [], ◌∷◌, Some, None, refl, sym, ap, ◌∙◌, subst, arith}
 use Rattle.f_terms.specs.Ty.{Ty, Tys, NoTys, MoreTys, shift}
 use Rattle.f_terms.specs.Typing.{ty_at, raised}
-use Rattle.term_core.specs.Ends.{lift}
+use Rattle.calc_core.specs.Ends.{lift}
 use Rattle.k_terms.specs.K.{KTy, TKInt, TKCode, NoKTys, MoreKTys, kren, krens_scope, kbody_scope}
 use Rattle.k_terms.specs.Types.{ktype_at, kv_type}
 use Rattle.k_terms.specs.Stream.{KNd, NVar, klin_v}
-use Rattle.term_core.proofs.Substituting.{ren_ren, ren_none}
-use Rattle.term_core.proofs.Levels.{level_below}
+use Rattle.calc_core.proofs.Substituting.{ren_ren, ren_none}
+use Rattle.calc_core.proofs.Levels.{level_below}
 use Rattle.k_laws.specs.Cps.{Atom, Level, Literal, value, atom_at, kat}
 use Rattle.k_pass.specs.Emit.{atom_node}
 use Rattle.k_laws.proofs.Below.{Belows}

@@ -8,10 +8,10 @@ use Rattle.f_terms.specs.declared.types.FType.{FType}
 use Rattle.k_terms.specs.K as K
 use Rattle.k_terms.specs.K.{TKTuple, NoKTys, MoreKTys}
 use Rattle.k_terms.specs.Read.{ktree, ktys}
-use Rattle.term_core.specs.declared.types.CoreType.{CoreType as KType}
-use Rattle.term_core.specs.declared.types.CoreType.TheVariants.{Tuple}
-use Rattle.term_core.proofs.Trees.{tree_Tuple}
-use Rattle.term_core.specs.Ends.{under}
+use Rattle.calc_core.specs.declared.types.CoreType.{CoreType as KType}
+use Rattle.calc_core.specs.declared.types.CoreType.TheVariants.{Tuple}
+use Rattle.calc_core.proofs.Trees.{tree_Tuple}
+use Rattle.calc_core.specs.Ends.{under}
 use Rattle.k_laws.specs.Cps.{kty, all_kty}
 
 abbrev list_ktys : List K.KTy → K.KTys

@@ -3,8 +3,8 @@ use Rattle.std.specs.Prelude.{◌≡◌, false, []}
 use Rattle.f_terms.specs.Limits.{nodes}
 use Rattle.f_terms.specs.Tm.{Term}
 use Rattle.k_terms.specs.K.{KTm}
-use Rattle.k_terms.specs.Typing.{KGood}
-use Rattle.k_terms.specs.Each.{KGoodP}
+use Rattle.k_terms.specs.Typing.{KTyped}
+use Rattle.k_terms.specs.Each.{KTypedWith}
 use Rattle.k_terms.specs.Reach.{KWithin}
 use Rattle.k_terms.specs.Bound.{KBound}
 use Rattle.k_terms.specs.Size.{codes_t}
@@ -20,7 +20,7 @@ pub record Converted (e : Term) (m : KTm) : Type 0 where
   pub tree : m ≡ cps_term e
   pub translation : cps_program e m
   pub meaning : Kept e m
-  pub typed : KGood 0 [] m
-  pub reach : KGoodP (KWithin (nodes e) 1600 598) 0 [] m
+  pub typed : KTyped 0 [] m
+  pub reach : KTypedWith (KWithin (nodes e) 1600 598) 0 [] m
   pub bound : KBound m
   pub codes : codes_t m ≡ sites false e

@@ -2,7 +2,7 @@
 -- named taken from those beside the source.
 use Rattle.std.specs.Prelude.{ℕ, suc, List, [], ◌∷◌, ◌++◌, length}
 use Rattle.idx_core.specs.declared.arith.Op.{Op}
-use Rattle.term_core.specs.Ends.{under}
+use Rattle.calc_core.specs.Ends.{under}
 use Rattle.f_terms.specs.Ty.{Ty}
 use Rattle.k_terms.specs.K.{KTy, TKCode, KTys, NoKTys, MoreKTys}
 use Rattle.k_terms.specs.Stream.{KNd, NVar, NInt, NTuple, NCode, NEnd, NName, NProj, NArith, NPack, NUnpack, NCell}

@@ -1,7 +1,7 @@
 // The types of the calculus in continuation-passing style.
 ghost use Rattle.std.specs.Prelude.{◌≡◌, IfOk};
 ghost use Rattle.std.specs.Prelude.{suc, ◌-◌};
-ghost use Rattle.term_core.specs.Ends.{under};
+ghost use Rattle.calc_core.specs.Ends.{under};
 ghost use Rattle.f_terms.specs.Ty.{TArrow};
 ghost use Rattle.f_terms.specs.NotedTerm as noted;
 ghost use Rattle.f_terms.specs.Read.{tree};

@@ -1,7 +1,7 @@
 -- The nodes of a term in scope are read back.
 use Rattle.std.proofs.Common.{◌≡◌, ℕ, suc, ◌+◌, List, [], ◌∷◌, refl, sym, ap, ap₂, ◌∙◌, arith}
-use Rattle.term_core.specs.Ends.{lift, after_one}
-use Rattle.term_core.proofs.Levels.{level_below}
+use Rattle.calc_core.specs.Ends.{lift, after_one}
+use Rattle.calc_core.proofs.Levels.{level_below}
 use Rattle.k_terms.specs.K.{KTy, KVal, KVar, KInt, KTuple, KCode, KVals, NoKVals, MoreKVals, KDecl, KName, KProj}
 use Rattle.k_terms.specs.K.{KArith, KPack, KUnpack, KCell, KGet, KSet, KTm, KLet, KCall, KIf, KHalt, kcount}
 use Rattle.k_terms.specs.K.{kbody_scope, opens, scope_more}

@@ -1,14 +1,14 @@
 -- A typed term has its names and its type variables in scope.
 use Rattle.std.proofs.Common.{◌≡◌, ℕ, suc, Bool, true, false, List, ◌∷◌, length, refl, ap, ◌∙◌, subst}
-use Rattle.term_core.specs.Ends.{lift, after_one}
+use Rattle.calc_core.specs.Ends.{lift, after_one}
 use Rattle.k_terms.specs.K.{KTy, KTys, TKInt, TKCode, NoKTys, MoreKTys, KVal, KVar, KInt, KTuple, KCode, KVals}
 use Rattle.k_terms.specs.K.{NoKVals, MoreKVals, KDecl, KName, KProj, KArith, KPack, KUnpack, KCell, KGet, KSet, KTm}
 use Rattle.k_terms.specs.K.{KLet, KCall, KIf, KHalt, kcount, kren, krens_scope, kargs_onto, kbody_scope, opens}
 use Rattle.k_terms.specs.K.{scope_more}
-use Rattle.k_terms.specs.Typing.{KHas, KHave, KGives, KGood}
+use Rattle.k_terms.specs.Typing.{KHas, KHave, KGives, KTyped}
 use Rattle.k_terms.specs.Scope.{ValueIn, ValuesIn, DeclIn, TermIn}
-use Rattle.term_core.proofs.Lifts.{lift_suc}
-use Rattle.term_core.proofs.Scopes.{scope_length as krens_length, named_below as at_in}
+use Rattle.calc_core.proofs.Lifts.{lift_suc}
+use Rattle.calc_core.proofs.Scopes.{scope_length as krens_length, named_below as at_in}
 
 pub more_length : (b : Bool) (g : List KTy) → length (scope_more b g) ≡ length g
 more_length true g = krens_length suc g
@@ -49,7 +49,7 @@ mutual
   gives_in (KGet v) n g t h = has_in v n g _ h
   gives_in (KSet v w) n g t h = (has_in v n g _ h.2, has_in w n g h.0 h.3)
 
-  pub good_in : (t : KTm) (n : ℕ) (g : List KTy) → KGood n g t → TermIn (length g) n t
+  pub good_in : (t : KTm) (n : ℕ) (g : List KTy) → KTyped n g t → TermIn (length g) n t
   good_in (KLet x t) n g h =
       let m = after_one (opens x) n in (
         gives_in x n g h.0 h.1,

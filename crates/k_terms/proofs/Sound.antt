@@ -3,8 +3,9 @@ use Rattle.std.proofs.Common.{ℤ, ◌≡◌, ℕ, zero, suc, Bool, true, false,
 use Rattle.std.proofs.Common.{None, refl, sym, ap, ◌∙◌, subst, subst₂, ap₂, eq-eqb}
 use Rattle.idx_core.specs.declared.arith.Op.{Op}
 use Rattle.idx_core.specs.Arith.{is_zero}
-use Rattle.term_core.specs.Ends.{if_fits, pick, End, Halted, Spent, Stuck, Result, lift, after_one}
-use Rattle.k_terms.specs.K.{KTy, KTys, TKInt, TKVar, TKTuple, TKCode, TKSome, TKRef, NoKTys, MoreKTys, KVal, KVar, KInt}
+use Rattle.calc_core.specs.Ends.{if_fits, pick, End, Halted, Spent, Stuck, Result, lift, after_one}
+use Rattle.k_terms.specs.K.{KTy, KTys, TKInt, TKVar, TKTuple, TKCode, TKExists, TKRef, NoKTys, MoreKTys, KVal, KVar}
+use Rattle.k_terms.specs.K.{KInt}
 use Rattle.k_terms.specs.K.{KTuple, KCode, KVals, NoKVals, MoreKVals, KDecl, KName, KProj, KArith, KPack, KUnpack}
 use Rattle.k_terms.specs.K.{KCell, KGet, KSet, KTm, KLet, KCall, KIf, KHalt, kcount, kren, krens_scope, kargs_onto}
 use Rattle.k_terms.specs.K.{kbody_scope, kv_next, kd_next, kt_next, opens, scope_more}
@@ -12,9 +13,9 @@ use Rattle.k_terms.specs.Meaning.{KWord, WInt, WTuple, WCode, WCell, KWords, NoW
 use Rattle.k_terms.specs.Meaning.{project, operate, kv_value, kvs_value, held, hold, one_more, Made, Makes, Fails}
 use Rattle.k_terms.specs.Meaning.{given, get, set, kd_value, KEnter, kopen, with_value, at_zero, halt_with, kterm}
 use Rattle.k_terms.specs.Meaning.{kenter, krun}
-use Rattle.k_terms.specs.Typing.{KAt, KField, KHas, KHave, KGives, KGood, kscons, kup, ksub, ksubs, knames}
-use Rattle.term_core.proofs.Substituting.{sub_ren, sub_sub, subs_sub, scons_sub, names_sub, names_up, with_types_past}
-use Rattle.term_core.proofs.Opening.{Opens, opens_plain, opens_some}
+use Rattle.k_terms.specs.Typing.{KAt, KField, KHas, KHave, KGives, KTyped, kscons, kup, ksub, ksubs, knames}
+use Rattle.calc_core.proofs.Substituting.{sub_ren, sub_sub, subs_sub, scons_sub, names_sub, names_up, with_types_past}
+use Rattle.calc_core.proofs.Opening.{Opens, opens_plain, opens_some}
 
 -- the types of a call's arguments are those of the code's, at run time
 call_args : (ts us args : KTys) (s r : ℕ → KTy) → ksubs (kup (kcount ts) r) args ≡ ksubs (kup (kcount ts) s) us →
@@ -44,7 +45,7 @@ abbrev mutual
   VHas S (WInt n) t = Opens t TKInt
   VHas S (WTuple vs) t = (ts : KTys) × Opens t (TKTuple ts) × VHave S vs ts
   VHas S (WCode b owes args body env) t = (n : ℕ) × (g : List KTy) × (s : ℕ → KTy)
-      × Opens t (ksub s (TKCode owes args)) × KGood (lift owes n) (kbody_scope owes args g) body × EnvHas S env s g
+      × Opens t (ksub s (TKCode owes args)) × KTyped (lift owes n) (kbody_scope owes args g) body × EnvHas S env s g
   VHas S (WCell p) t = (u : KTy) × Opens t (TKRef u) × KAt S p u
 
   pub VHave : List KTy → KWords → KTys → Type 0
@@ -86,13 +87,13 @@ stored_more NoWords S Z g m h = h
 stored_more (MoreWords v st) S Z g m h = (h.0, h.1, h.2, has_more v S Z h.0 m h.3, stored_more st S Z h.1 m h.4)
 
 -- packs are not seen
-packed : (v : KWord) (S : List KTy) (t h : KTy) → VHas S v (ksub (kscons h TKVar) t) → VHas S v (TKSome t)
+packed : (v : KWord) (S : List KTy) (t h : KTy) → VHas S v (ksub (kscons h TKVar) t) → VHas S v (TKExists t)
 packed (WInt n) S t h q = (suc q.0, (t, h, refl, q.1))
 packed (WTuple vs) S t h q = (q.0, (suc q.1.0, (t, h, refl, q.1.1)), q.2)
 packed (WCode b owes args body env) S t h q = (q.0, q.1, q.2, (suc q.3.0, (t, h, refl, q.3.1)), q.4, q.5)
 packed (WCell p) S t h q = (q.0, (suc q.1.0, (t, h, refl, q.1.1)), q.2)
 
-unpacked : (v : KWord) (S : List KTy) (t : KTy) → VHas S v (TKSome t) → (h : KTy) × VHas S v (ksub (kscons h TKVar) t)
+unpacked : (v : KWord) (S : List KTy) (t : KTy) → VHas S v (TKExists t) → (h : KTy) × VHas S v (ksub (kscons h TKVar) t)
 unpacked (WInt n) S t q = opens_some t TKInt refl q
 unpacked (WTuple vs) S t q = let o = opens_some t (TKTuple q.0) refl q.1 in (o.0, (q.0, o.1, q.2))
 unpacked (WCode b owes args body env) S t q =
@@ -269,7 +270,7 @@ sound_d (KPack hid v shape) b n env st S s g t h e k =
       ),
     )
 sound_d (KUnpack v) b n env st S s g t h e k =
-    let o = unpacked (kv_value b v env) S (ksub (kup 1 s) t) (sound_v v b n env S s g (TKSome t) h e) in (
+    let o = unpacked (kv_value b v env) S (ksub (kup 1 s) t) (sound_v v b n env S s g (TKExists t) h e) in (
       kscons o.0 s,
       outer_has env S (kscons o.0 s) s 1 g (λ i. refl) e,
       (
@@ -304,7 +305,7 @@ Fine Stuck = ⊥
 
 abbrev SafeEnter : KEnter → Type 0
 SafeEnter ke = (b : ℕ) (body : KTm) (n : ℕ) (env st : KWords) (S : List KTy) (s : ℕ → KTy) (g : List KTy) →
-    KGood n g body → EnvHas S env s g → Stored S st S → Fine (ke b body env st).end
+    KTyped n g body → EnvHas S env s g → Stored S st S → Fine (ke b body env st).end
 
 args_has : (vs env : KWords) (S : List KTy) (s : ℕ → KTy) (args ts : KTys) (g : List KTy) → VHave S vs ts →
     ts ≡ ksubs s args → EnvHas S env s g → EnvHas S (onto vs env) s (kargs_onto args g)
@@ -396,7 +397,7 @@ halt_fine : (v : KWord) (S : List KTy) → VHas S v TKInt → Fine (halt_with v)
 halt_fine v S h = int_only {P = Fine (halt_with v).end} v S h (λ n e. subst (λ x. Fine (halt_with x).end) (sym e) tt)
 
 sound_t : (ke : KEnter) → SafeEnter ke →
-    (t : KTm) (b n : ℕ) (env st : KWords) (S : List KTy) (s : ℕ → KTy) (g : List KTy) → KGood n g t →
+    (t : KTm) (b n : ℕ) (env st : KWords) (S : List KTy) (s : ℕ → KTy) (g : List KTy) → KTyped n g t →
     EnvHas S env s g → Stored S st S → Fine (kterm ke b t env st).end
 sound_t ke f (KLet d t) b n env st S s g h e w =
     let r = sound_d d b n env st S s g h.0 h.1 e w in
@@ -417,5 +418,5 @@ safe : (n : ℕ) → SafeEnter (kenter n)
 safe zero b body m env st S s g h e w = tt
 safe (suc n) b body m env st S s g h e w = sound_t (kenter n) (safe n) body (suc b) m env st S s g h e w
 
-pub never_stuck : (t : KTm) → KGood 0 [] t → (n : ℕ) → Fine (krun n t).end
+pub never_stuck : (t : KTm) → KTyped 0 [] t → (n : ℕ) → Fine (krun n t).end
 never_stuck t h n = sound_t (kenter n) (safe n) t 0 0 NoWords NoWords [] TKVar [] h refl refl

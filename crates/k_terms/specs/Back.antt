@@ -2,13 +2,13 @@
 use Rattle.std.specs.Prelude.{◌≡◌, []}
 use Rattle.k_terms.specs.K.{KTm}
 use Rattle.k_terms.specs.Stream.{klin_t}
-use Rattle.k_terms.specs.Typing.{KGood}
+use Rattle.k_terms.specs.Typing.{KTyped}
 use Rattle.k_terms.specs.Scope.{TermIn}
 use Rattle.k_terms.specs.Decode.{decode}
 
 -- a typed term has its names and its type variables in scope
 abbrev pub TypedIsInScope : Type 0
-TypedIsInScope = (t : KTm) → KGood 0 [] t → TermIn 0 0 t
+TypedIsInScope = (t : KTm) → KTyped 0 [] t → TermIn 0 0 t
 
 -- a term in scope is read back from its nodes
 abbrev pub ReadsBack : Type 0

@@ -1,12 +1,12 @@
 -- The calculus in continuation-passing style as plain trees: types, values, declarations and terms.
 use Rattle.std.specs.Prelude.{ℤ, ℕ, suc, Bool, true, false, List, ◌∷◌}
 use Rattle.idx_core.specs.declared.arith.Op.{Op}
-use Rattle.term_core.specs.Ends.{lift}
-pub use Rattle.term_core.specs.Types.{Ty as KTy, Tys as KTys, IntTy as TKInt, VarTy as TKVar, TupleTy as TKTuple}
-pub use Rattle.term_core.specs.Types.{CodeTy as TKCode, ExistsTy as TKSome, RefTy as TKRef, NoTys as NoKTys}
-pub use Rattle.term_core.specs.Types.{MoreTys as MoreKTys, count as kcount}
-pub use Rattle.term_core.specs.Substitution.{renamed as kren, all_renamed as krens, scope_renamed as krens_scope}
-pub use Rattle.term_core.specs.Scope.{args_onto as kargs_onto}
+use Rattle.calc_core.specs.Ends.{lift}
+pub use Rattle.calc_core.specs.Types.{Ty as KTy, Tys as KTys, IntTy as TKInt, VarTy as TKVar, TupleTy as TKTuple}
+pub use Rattle.calc_core.specs.Types.{CodeTy as TKCode, ExistsTy as TKExists, RefTy as TKRef, NoTys as NoKTys}
+pub use Rattle.calc_core.specs.Types.{MoreTys as MoreKTys, count as kcount}
+pub use Rattle.calc_core.specs.Substitution.{renamed as kren, all_renamed as krens, scope_renamed as krens_scope}
+pub use Rattle.calc_core.specs.Scope.{args_onto as kargs_onto}
 
 -- in the body of a code of m arguments, 0 is the last argument, m - 1 the first, and m the code itself
 mutual

@@ -2,7 +2,7 @@
 use Rattle.std.specs.Prelude.{ℤ, pos, ℕ, zero, suc, nat_eq, ◌&&◌, Option, Some, None}
 use Rattle.idx_core.specs.declared.arith.Op.{Op}
 use Rattle.idx_core.specs.Arith.{compute, is_zero}
-use Rattle.term_core.specs.Ends.{if_fits, pick, Halted, Spent, Stuck, Result, stops, enters}
+use Rattle.calc_core.specs.Ends.{if_fits, pick, Halted, Spent, Stuck, Result, stops, enters}
 use Rattle.k_terms.specs.K.{KTys, KVal, KVar, KInt, KTuple, KCode, KVals, NoKVals, MoreKVals, KDecl, KName, KProj}
 use Rattle.k_terms.specs.K.{KArith, KPack, KUnpack, KCell, KGet, KSet, KTm, KLet, KCall, KIf, KHalt, kcount, kv_next}
 use Rattle.k_terms.specs.K.{kd_next, kt_next}

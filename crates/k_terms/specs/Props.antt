@@ -1,7 +1,7 @@
 -- Nodes are a set, so that a program may keep that its nodes are those of a tree.
 use Rattle.std.proofs.Common.{List}
 use Rattle.std.proofs.Props.{props}
-use Rattle.term_core.specs.Props.{types_set, type_set}
+use Rattle.calc_core.specs.Props.{types_set, type_set}
 use Rattle.k_terms.specs.Stream.{KNd}
 
 node_set : IsSet KNd

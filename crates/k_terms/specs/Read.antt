@@ -1,5 +1,5 @@
 -- The code's types and nodes as plain ones.
-pub use Rattle.term_core.specs.Read.{tree as ktree, trees as ktrees, all_trees as ktys}
+pub use Rattle.calc_core.specs.Read.{tree as ktree, trees as ktrees, all_trees as ktys}
 use Rattle.k_terms.specs.Stream.{KNd, NVar, NInt, NTuple, NCode, NEnd, NName, NProj, NArith, NPack, NUnpack, NCell}
 use Rattle.k_terms.specs.Stream.{NGet, NSet, NCall, NIf, NElse, NHalt}
 use Rattle.k_terms.specs.declared.node.KNode.{KNode}

@@ -1,6 +1,6 @@
 -- Terms whose names and type variables are in scope.
 use Rattle.std.specs.Prelude.{◌<◌, ℕ, suc}
-use Rattle.term_core.specs.Ends.{lift, after_one}
+use Rattle.calc_core.specs.Ends.{lift, after_one}
 use Rattle.k_terms.specs.K.{KVal, KVar, KInt, KTuple, KCode, KVals, NoKVals, MoreKVals, KDecl, KName, KProj, KArith}
 use Rattle.k_terms.specs.K.{KPack, KUnpack, KCell, KGet, KSet, KTm, KLet, KCall, KIf, KHalt, kcount, opens}
 use Rattle.k_terms.specs.Typing.{KIn, KIns}

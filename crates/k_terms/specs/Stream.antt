@@ -3,8 +3,8 @@
 -- between the code and the arguments, and no node ends the arguments: the call ends where the term does.
 use Rattle.std.specs.Prelude.{ℤ, ℕ, suc, List, ◌∷◌}
 use Rattle.idx_core.specs.declared.arith.Op.{Op}
-use Rattle.term_core.specs.Ends.{lift, after_one}
-use Rattle.term_core.specs.Levels.{level_of}
+use Rattle.calc_core.specs.Ends.{lift, after_one}
+use Rattle.calc_core.specs.Levels.{level_of}
 use Rattle.k_terms.specs.K.{KTy, KTys, KVal, KVar, KInt, KTuple, KCode, KVals, NoKVals, MoreKVals, KDecl, KName, KProj}
 use Rattle.k_terms.specs.K.{KArith, KPack, KUnpack, KCell, KGet, KSet, KTm, KLet, KCall, KIf, KHalt, kcount}
 use Rattle.k_terms.specs.K.{kbody_scope, opens, scope_more}

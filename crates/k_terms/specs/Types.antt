@@ -1,6 +1,7 @@
 -- The type of a value and of what a declaration names, where it has one.
 use Rattle.std.specs.Prelude.{ℕ, zero, suc, List, [], ◌∷◌}
-use Rattle.k_terms.specs.K.{KTy, KTys, TKInt, TKVar, TKTuple, TKCode, TKSome, TKRef, NoKTys, MoreKTys, KVal, KVar, KInt}
+use Rattle.k_terms.specs.K.{KTy, KTys, TKInt, TKVar, TKTuple, TKCode, TKExists, TKRef, NoKTys, MoreKTys, KVal, KVar}
+use Rattle.k_terms.specs.K.{KInt}
 use Rattle.k_terms.specs.K.{KTuple, KCode, KVals, NoKVals, MoreKVals, KDecl, KName, KProj, KArith, KPack, KUnpack}
 use Rattle.k_terms.specs.K.{KCell, KGet, KSet}
 
@@ -22,7 +23,7 @@ kproj_type i TKInt = TKInt
 kproj_type i (TKVar j) = TKInt
 kproj_type i (TKTuple ts) = kfield i ts
 kproj_type i (TKCode n ts) = TKInt
-kproj_type i (TKSome t) = TKInt
+kproj_type i (TKExists t) = TKInt
 kproj_type i (TKRef t) = TKInt
 
 -- what a package holds, under its type variable
@@ -31,7 +32,7 @@ kopen_type TKInt = TKInt
 kopen_type (TKVar i) = TKInt
 kopen_type (TKTuple ts) = TKInt
 kopen_type (TKCode n ts) = TKInt
-kopen_type (TKSome t) = t
+kopen_type (TKExists t) = t
 kopen_type (TKRef t) = TKInt
 
 -- what a cell holds
@@ -40,7 +41,7 @@ kheld_type TKInt = TKInt
 kheld_type (TKVar i) = TKInt
 kheld_type (TKTuple ts) = TKInt
 kheld_type (TKCode n ts) = TKInt
-kheld_type (TKSome t) = TKInt
+kheld_type (TKExists t) = TKInt
 kheld_type (TKRef t) = t
 
 abbrev mutual

@@ -1,6 +1,6 @@
 // Terms as streams of nodes.
+use calc_core::CoreType as KType;
 use idx_core::Op;
-use term_core::CoreType as KType;
 
 /// A node of a term: operands stand before what takes them. `level` counts the names in scope, and what binds binds
 /// that level; `ty` is the type of what it names; `depth` is how many type variables are in scope.

@@ -1,3 +1,11 @@
+pub mod Places
+mod Moving
+mod Accepting
+mod Bounds
+mod Knowing
+mod Counting
+mod Finding
+mod Passing
 mod Moved
 mod Staying
 mod Steps

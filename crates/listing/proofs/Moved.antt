@@ -15,11 +15,11 @@ use Rattle.t_terms.specs.Tree.{TInstr, TProg}
 use Rattle.t_terms.specs.Spanned.{SBlock, SProg, plain_program}
 use Rattle.t_terms.specs.Read.{body, instr, spanned, spanned_blocks}
 use Rattle.t_rules.specs.Known.{KnownAt}
-use Rattle.t_cut.specs.Before.{is_at, in_body, in_block, steps_to, is_before_blocks, IsBefore}
-use Rattle.t_cut.specs.Cut.{way_out, cut_block, way_outs, cut_blocks, cut}
-use Rattle.t_cut.specs.Laws.{KnownBefore}
-use Rattle.t_cut.specs.Steps.{IsCount}
-use Rattle.t_cut.proofs.Places.{at_itself, or_right}
+use Rattle.listing.specs.Before.{is_at, in_body, in_block, steps_to, is_before_blocks, IsBefore}
+use Rattle.listing.specs.Cut.{way_out, cut_block, way_outs, cut_blocks, cut}
+use Rattle.listing.specs.CutLaws.{KnownBefore}
+use Rattle.listing.specs.Steps.{IsCount}
+use Rattle.listing.proofs.Places.{at_itself, or_right}
 use Rattle.listing.specs.Listing.{IsFileRow, IsSetRow, AreSteps, IsLastRow, IsBegun, IsBlock, set_by, text_row}
 use Rattle.listing.specs.Listing.{label_end}
 use Rattle.listing.specs.Begun.{AreBlocksTo, IsListingTo}

@@ -4,7 +4,7 @@ use Rattle.std.specs.Bool.{MatchBool}
 use Rattle.idx_core.specs.declared.span.Span.{Span}
 use Rattle.t_terms.specs.Tree.{TProg}
 use Rattle.t_terms.specs.Spanned.{SBlock, SProg, plain_program}
-use Rattle.t_cut.specs.Before.{is_before_blocks, in_block, steps_to}
+use Rattle.listing.specs.Before.{is_before_blocks, in_block, steps_to}
 use Rattle.listing.specs.Listing.{IsBegun, IsBlock}
 
 -- rows of blocks, of which the first is block b, up to the first place of that span: those of each block before it, and

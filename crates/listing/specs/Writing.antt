@@ -1,11 +1,11 @@
 -- What the steps of making a listing do.
 use Rattle.std.specs.Prelude.{◌≡◌, ◌≤◌, ℕ, List, ◌++◌, Some, length, take, Bool, true, false}
 use Rattle.idx_core.specs.declared.span.Span.{Span}
-use Rattle.fault_page.specs.Spot.{lines}
+use Rattle.page_core.specs.Spot.{lines}
 use Rattle.t_terms.specs.Tree.{TProg, TSeq}
 use Rattle.t_terms.specs.Spanned.{SBlock}
 use Rattle.t_rules.specs.Known.{code_at}
-use Rattle.t_cut.specs.Before.{in_block, steps_to}
+use Rattle.listing.specs.Before.{in_block, steps_to}
 use Rattle.listing.specs.Listing.{IsBegun, IsBlock}
 use Rattle.t_check.specs.Walks.{IsWalk, walked}
 use Rattle.listing.specs.declared.place.Place.{Place}

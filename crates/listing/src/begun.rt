@@ -10,10 +10,10 @@ ghost use Rattle.listing.specs.Begun.{AreBlocksTo, IsListingTo};
 ghost use Rattle.listing.specs.Writing.{Adds, IsBlockTo, IsLister, OfTheSame, program_of, text_of};
 
 use crate::lister::Lister;
+use crate::{cut, cut_is_accepted, is_before_blocks, known_before, steps_before};
 use idx_core::{OutOfMemory, Span};
 use std::alloc::Global;
 use t_check::{Checked, seal};
-use t_cut::{cut, cut_is_accepted, is_before_blocks, known_before, steps_before};
 use t_terms::{Block, Instr, TProgram};
 
 // So many of a block's instructions.

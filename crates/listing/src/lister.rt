@@ -13,7 +13,7 @@ ghost use Rattle.listing.specs.Writing.{Adds, HasPlaces, IsLister, OfTheSame, pr
 use crate::place::Place;
 use crate::rows::{write_bytes, write_file, write_found, write_place};
 use idx_core::{OutOfMemory, Span};
-use page_text::write_natural;
+use page_core::write_natural;
 use std::alloc::Global;
 use t_check::{Checked, Walk};
 use t_terms::{Block, Instr};

@@ -1,6 +1,6 @@
 // The numbers of lines, for places that mostly follow one another.
 ghost use Rattle.std.specs.Prelude.{◌≡◌, ◌≤◌, length, take};
-ghost use Rattle.fault_page.specs.Spot.{line_number, lines};
+ghost use Rattle.page_core.specs.Spot.{line_number, lines};
 ghost use Rattle.listing.specs.Writing.{IsPlace};
 
 // How far a text has been gone through, and the number of the line there, from 1 on.

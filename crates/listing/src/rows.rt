@@ -1,12 +1,12 @@
 // The parts of rows.
 ghost use Rattle.std.specs.Prelude.{◌≡◌, ◌++◌, OnOk, codes, map, option_map};
-ghost use Rattle.fault_page.specs.Page.{dots};
+ghost use Rattle.page_core.specs.Page.{dots};
 ghost use Rattle.t_types.specs.Read.{file, tree};
 ghost use Rattle.listing.specs.Listing.{bytes_of, cut, place_text, register_row, register_text, registers_text};
 ghost use Rattle.listing.specs.Listing.{shown_byte};
 
 use idx_core::{OutOfMemory, Span};
-use page_text::{write_natural, write_separator};
+use page_core::{write_natural, write_separator};
 use std::alloc::Global;
 use t_trace::type_at;
 use t_types::TType;

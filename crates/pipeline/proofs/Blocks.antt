@@ -12,8 +12,8 @@ use Rattle.t_rules.specs.Machine.{State, Where, Next, Into, Place, Spot, moved, 
 use Rattle.t_rules.specs.Times.{places, entered_by, entries, is_spot, Times, Entries}
 use Rattle.t_rules.specs.Erase.{ESeq, erase, erase_block, erase_blocks, drop_seq}
 use Rattle.t_rules.specs.LawsErased.{StandsAt, seq_of}
-use Rattle.gen_law.specs.Counting.{first_of, first_third, MadeOf}
-use Rattle.gen_law.specs.Correct.{FromMain}
+use Rattle.t_gen_laws.specs.Counting.{first_of, first_third, MadeOf}
+use Rattle.t_gen_laws.specs.Correct.{FromMain}
 
 nowhere : (y : ESeq) → None ≡ Some y → ⊥
 nowhere y e = cc

@@ -4,10 +4,10 @@ use Rattle.f_terms.specs.Tm.{Term}
 use Rattle.t_terms.specs.Tree.{TProg}
 use Rattle.t_rules.specs.LawsTimes.{RunsWithinTimes}
 use Rattle.t_rules.specs.Machine.{Place}
-use Rattle.spill_law.specs.Bound.{RegistersUpTo}
-use Rattle.spill_law.specs.Spill.{spilled}
-use Rattle.spill_law.specs.Bounded.{Spills}
-use Rattle.spill_law.specs.Laws.{SpilledRunSeldom}
+use Rattle.t_spill_laws.specs.Bound.{RegistersUpTo}
+use Rattle.t_spill_rules.specs.Spill.{spilled}
+use Rattle.t_spill_laws.specs.Bounded.{Spills}
+use Rattle.t_spill_laws.specs.Laws.{SpilledRunSeldom}
 use Rattle.pipeline.specs.Meaning.{SameMeaning, RunsSeldom, EntersSeldom}
 use Rattle.pipeline.specs.Compilation.{IsCompilation, IsCompilationWithin}
 use Rattle.pipeline.specs.Work.{WorkByBound}

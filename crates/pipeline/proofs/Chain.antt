@@ -2,7 +2,7 @@
 use Rattle.std.proofs.Common.{◌≡◌, ◌↔◌, ℕ, suc, ℤ, ◌+◌, ◌≤◌, List, [], ◌∷◌, length, refl, sym, ap, ◌∙◌, arith, ◌⊎◌}
 use Rattle.std.proofs.Common.{⊎_elim}
 use Rattle.f_terms.specs.Tm.{Term}
-use Rattle.term_core.specs.Ends.{End, Halted, Spent, Stuck}
+use Rattle.calc_core.specs.Ends.{End, Halted, Spent, Stuck}
 use Rattle.k_terms.specs.K.{KTm}
 use Rattle.k_terms.specs.Meaning.{krun}
 use Rattle.k_laws.specs.Count as K
@@ -14,12 +14,12 @@ use Rattle.h_terms.specs.Meaning.{hrun}
 use Rattle.a_terms.specs.Tree.{ATm, AProg}
 use Rattle.a_terms.specs.Bound.{thirds, all_thirds}
 use Rattle.a_terms.specs.Meaning as A
-use Rattle.a_law.specs.Statements.{onto_log, finish, ends}
+use Rattle.a_laws.specs.Statements.{onto_log, finish, ends}
 use Rattle.t_terms.specs.Tree.{TProg}
 use Rattle.t_rules.specs.LawsErased.{StandsAt}
 use Rattle.t_rules.specs.LawsTimes.{RunsWithinTimes}
-use Rattle.gen_law.specs.Counting.{count, log_of, first_third}
-use Rattle.gen_law.specs.Correct.{FromMain, Keeps}
+use Rattle.t_gen_laws.specs.Counting.{count, log_of, first_third}
+use Rattle.t_gen_laws.specs.Correct.{FromMain, Keeps}
 use Rattle.pipeline.specs.Meaning.{SameMeaning, RunsSeldom, EntersSeldom, HaltsSoon}
 use Rattle.pipeline.proofs.Blocks.{Found, each_block, absent, absent_entries}
 

@@ -1,15 +1,15 @@
 -- What the passes say of their results, put together.
 use Rattle.std.proofs.Common.{◌≡◌, ◌↔◌, ℕ, ℤ, suc, ◌+◌, [], length, ap, ap₂, ◌∙◌, arith}
 use Rattle.f_terms.specs.Tm.{Term}
-use Rattle.term_core.specs.Ends.{Halted}
+use Rattle.calc_core.specs.Ends.{Halted}
 use Rattle.k_terms.specs.K.{KTm}
 use Rattle.k_terms.specs.Meaning.{krun}
 use Rattle.k_laws.specs.Annotate.{cps_term}
 use Rattle.k_pass.specs.Converted.{Converted}
 use Rattle.c_terms.specs.C.{CTm}
 use Rattle.c_terms.specs.Meaning.{crun}
-use Rattle.c_law.specs.Close.{close_of}
-use Rattle.c_law.specs.Row as closing
+use Rattle.c_rules.specs.Close.{close_of}
+use Rattle.c_laws.specs.Row as closing
 use Rattle.h_terms.specs.H.{HBlks, HTm}
 use Rattle.h_terms.specs.Meaning.{hrun}
 use Rattle.h_pass.specs.Back.{IsHoisted}
@@ -17,18 +17,18 @@ use Rattle.h_pass.specs.Hoist.{blocks_of, main_of}
 use Rattle.a_terms.specs.Tree.{ATm, AProg}
 use Rattle.a_terms.specs.Bound.{thirds, all_thirds}
 use Rattle.a_terms.specs.Meaning as A
-use Rattle.a_law.specs.Allocate.{alloc_prog, alloc_main}
-use Rattle.a_law.specs.Stands.{Stands}
-use Rattle.a_law.specs.Statements.{ends}
+use Rattle.a_laws.specs.Allocate.{alloc_prog, alloc_main}
+use Rattle.a_laws.specs.Stands.{Stands}
+use Rattle.a_laws.specs.Statements.{ends}
 use Rattle.t_terms.specs.Tree.{TProg}
 use Rattle.t_terms.specs.Whole.{Whole}
 use Rattle.t_rules.specs.Rules.{Accepted}
 use Rattle.t_rules.specs.LawsErased.{StandsAt}
 use Rattle.t_rules.specs.LawsTimes.{RunsWithinTimes}
-use Rattle.gen_law.specs.Gen.{generated}
-use Rattle.gen_law.specs.Correct.{Keeps}
-use Rattle.gen_law.specs.Layout.{LaidOut}
-use Rattle.gen_law.specs.Rules.{Generates}
+use Rattle.t_gen_rules.specs.Gen.{generated}
+use Rattle.t_gen_laws.specs.Correct.{Keeps}
+use Rattle.t_gen_laws.specs.Layout.{LaidOut}
+use Rattle.t_gen_laws.specs.Rules.{Generates}
 use Rattle.pipeline.specs.Made.{IsMade, assembled, hoisted_and_assembled}
 use Rattle.pipeline.specs.Meaning.{SameMeaning, RunsSeldom, EntersSeldom}
 use Rattle.pipeline.specs.Compilation.{IsCompilation}

@@ -5,8 +5,9 @@ use Rattle.t_types.specs.Tree.{Ty, IntTy, VarTy, CodeTy, ExistsTy, TupleTy, TFil
 use Rattle.t_types.specs.Tree.{MoreFields}
 use Rattle.t_terms.specs.Tree.{TBase, Reg, Int, Label, Data, TValue, Plain, Pack, TInstr, Arith, Bnz, Ld, Malloc, Mov}
 use Rattle.t_terms.specs.Tree.{St, Unpack, Jmp, Halt, TSeq, Then, Ends, TBlock, TData, TProg}
-use Rattle.spill_law.specs.Bound.{InType, InFile, InFields, InTypes, InBase, InValue, InInstr, InSeq, InBlocks, InData}
-use Rattle.spill_law.specs.Bound.{InHeap, RegistersUpTo}
+use Rattle.t_spill_laws.specs.Bound.{InType, InFile, InFields, InTypes, InBase, InValue, InInstr, InSeq, InBlocks}
+use Rattle.t_spill_laws.specs.Bound.{InData}
+use Rattle.t_spill_laws.specs.Bound.{InHeap, RegistersUpTo}
 
 abbrev pub Decided : Type 0 → Type 0
 Decided A = A ⊎ (A → ⊥)

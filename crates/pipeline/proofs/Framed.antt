@@ -11,18 +11,19 @@ use Rattle.t_types.specs.Fits.{RegTypes, lookup}
 use Rattle.t_types.specs.WellFormed.{max_names}
 use Rattle.t_terms.specs.Tree.{TValue, Plain, Pack, TInstr, Arith, Bnz, Ld, Malloc, Mov, St, Unpack, Jmp, Halt, TSeq}
 use Rattle.t_terms.specs.Tree.{Then, Ends, TBlock, TData, TProg, names_after}
-use Rattle.t_rules.specs.Registers.{with_reg, no_types}
+use Rattle.t_terms.specs.Registers.{with_reg, no_types}
 use Rattle.t_rules.specs.Rules.{Has, Typed}
-use Rattle.gen_law.specs.TypesEach.{TWithin, AllTypes, FileTypes, HasEach, InstrEach, SeqEach, BlocksEach, DataEach}
-use Rattle.gen_law.specs.TypesEach.{HeapEach, TypesEach, tbinds, tbinds_file}
-use Rattle.gen_law.specs.TypesEach.{tbinds_fields}
-use Rattle.spill_law.specs.Spill.{ins, or_int, type_of, type_in, field_type, filled_type, hidden_type, next, FewNames}
-use Rattle.spill_law.specs.Spill.{FewNamesFile, values_of, ValuesFew, SeqFew, BlocksFew, TypesFew}
+use Rattle.t_gen_laws.specs.TypesEach.{TWithin, AllTypes, FileTypes, HasEach, InstrEach, SeqEach, BlocksEach, DataEach}
+use Rattle.t_gen_laws.specs.TypesEach.{HeapEach, TypesEach, tbinds, tbinds_file}
+use Rattle.t_gen_laws.specs.TypesEach.{tbinds_fields}
+use Rattle.t_spill_rules.specs.Spill.{ins, or_int, type_of, type_in, field_type, filled_type, hidden_type, next}
+use Rattle.t_spill_rules.specs.Spill.{FewNames}
+use Rattle.t_spill_rules.specs.Spill.{FewNamesFile, values_of, ValuesFew, SeqFew, BlocksFew, TypesFew}
 use Rattle.t_terms.specs.Reach.{type_reach, regs_reach, fields_reach, types_reach}
-use Rattle.spill_law.specs.Reach.{value_reach, instr_reach, seq_reach, blocks_reach, data_reach, heap_reach, reach}
-use Rattle.spill_law.proofs.Files.{look_same, CaseOf, case_of, ins_less, ins_same, ins_more}
-use Rattle.spill_law.proofs.Computed.{value_is, next_is}
-use Rattle.spill_law.proofs.Kept.{AllIn}
+use Rattle.t_spill_laws.specs.Reach.{value_reach, instr_reach, seq_reach, blocks_reach, data_reach, heap_reach, reach}
+use Rattle.t_spill_laws.proofs.Files.{look_same, CaseOf, case_of, ins_less, ins_same, ins_more}
+use Rattle.t_spill_laws.proofs.Computed.{value_is, next_is}
+use Rattle.t_spill_laws.proofs.Kept.{AllIn}
 
 -- reach and names of types
 mutual

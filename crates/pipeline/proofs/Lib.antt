@@ -15,3 +15,4 @@ mod WeightsGenerated
 mod WeightsHoisted
 mod WeightsSpilled
 mod RulesAlone
+mod Translations

@@ -5,9 +5,10 @@ use Rattle.k_terms.specs.K.{KPack, KUnpack, KCell, KGet, KSet, KTm, KLet, KCall,
 use Rattle.k_terms.specs.Types.{kd_type}
 use Rattle.c_terms.specs.C.{CVal, CVar, CTuple, CPack, CVals, MoreCVals, CDecl, CName, CProj, CArith, CUnpack}
 use Rattle.c_terms.specs.C.{CCell, CGet, CSet, CTm, CLet, CCall, CIf, CHalt}
-use Rattle.c_law.specs.Close.{ctype, ctypes}
-use Rattle.c_law.specs.Row.{Where, Stands, AllStand, RowV, RowVs, RowD, RowT, IsTranslation, packed, closed_over, frees}
-use Rattle.c_law.specs.Row.{inside, in_call, nowhere, with_name, with_tvar}
+use Rattle.c_rules.specs.Close.{ctype, ctypes}
+use Rattle.c_laws.specs.Row.{Where, Stands, AllStand, ClosesValue, CloseValues, ClosesDecl, ClosesTerm, IsTranslation}
+use Rattle.c_laws.specs.Row.{packed, closed_over, frees}
+use Rattle.c_laws.specs.Row.{inside, in_call, nowhere, with_name, with_tvar}
 
 one_name : (w : Where) (i : ℕ) (x y : CVal) → Stands w i x → Stands w i y → x ≡ y
 one_name w i x y a b =
@@ -20,7 +21,7 @@ all_names w (i ∷ is) xs ys a b =
     a.2 ∙ ap₂ MoreCVals (one_name w i a.0 b.0 a.3 b.3) (all_names w is a.1 b.1 a.4 b.4) ∙ sym b.2
 
 mutual
-  one_v : (v : KVal) (w : Where) (x y : CVal) → RowV w v x → RowV w v y → x ≡ y
+  one_v : (v : KVal) (w : Where) (x y : CVal) → ClosesValue w v x → ClosesValue w v y → x ≡ y
   one_v (KVar i) w x y a b = one_name w i x y a b
   one_v (KInt n) w x y a b = a ∙ sym b
   one_v (KTuple vs) w x y a b = a.1 ∙ ap CTuple (one_vs vs w a.0 b.0 a.2 b.2) ∙ sym b.1
@@ -31,12 +32,12 @@ mutual
       λ t vs. packed w.tvar w owes args body (closed_over w owes args body t) (CTuple vs) in
       a.2 ∙ ap₂ form rest names ∙ sym b.2
 
-  one_vs : (vs : KVals) (w : Where) (xs ys : CVals) → RowVs w vs xs → RowVs w vs ys → xs ≡ ys
+  one_vs : (vs : KVals) (w : Where) (xs ys : CVals) → CloseValues w vs xs → CloseValues w vs ys → xs ≡ ys
   one_vs NoKVals w xs ys a b = a ∙ sym b
   one_vs (MoreKVals v vs) w xs ys a b =
       a.2 ∙ ap₂ MoreCVals (one_v v w a.0 b.0 a.3 b.3) (one_vs vs w a.1 b.1 a.4 b.4) ∙ sym b.2
 
-  one_d : (d : KDecl) (w : Where) (x y : CDecl) → RowD w d x → RowD w d y → x ≡ y
+  one_d : (d : KDecl) (w : Where) (x y : CDecl) → ClosesDecl w d x → ClosesDecl w d y → x ≡ y
   one_d (KName v) w x y a b = a.1 ∙ ap CName (one_v v w a.0 b.0 a.2 b.2) ∙ sym b.1
   one_d (KProj i v) w x y a b = a.1 ∙ ap (CProj i) (one_v v w a.0 b.0 a.2 b.2) ∙ sym b.1
   one_d (KArith op v u) w x y a b =
@@ -49,7 +50,7 @@ mutual
   one_d (KSet v u) w x y a b =
       a.2 ∙ ap₂ CSet (one_v v w a.0 b.0 a.3 b.3) (one_v u w a.1 b.1 a.4 b.4) ∙ sym b.2
 
-  one_t : (t : KTm) (w : Where) (x y : CTm) → RowT w t x → RowT w t y → x ≡ y
+  one_t : (t : KTm) (w : Where) (x y : CTm) → ClosesTerm w t x → ClosesTerm w t y → x ≡ y
   one_t (KLet d t) w x y a b =
       let under = with_name (kd_type w.types d) (with_tvar (opens d) w) in
       a.2 ∙ ap₂ CLet (one_d d w a.0 b.0 a.3 b.3) (one_t t under a.1 b.1 a.4 b.4) ∙ sym b.2

@@ -2,17 +2,17 @@
 use Rattle.std.proofs.Common.{⊎_elim, refl, sym, ap, subst, ◌∙◌}
 use Rattle.k_laws.specs.Annotate.{cps_term}
 use Rattle.k_laws.specs.Correct.{IsTranslated, CpsKeepsTypes}
-use Rattle.c_law.specs.Close.{close_of}
-use Rattle.c_law.specs.Laws.{TypedIsClosed, CloseTranslates, TypesKept}
-use Rattle.c_law.specs.Row as closing
+use Rattle.c_rules.specs.Close.{close_of}
+use Rattle.c_laws.specs.Laws.{TypedIsClosed, CloseTranslates, TypesKept}
+use Rattle.c_laws.specs.Row as closing
 use Rattle.h_pass.specs.Hoist.{blocks_of, main_of}
 use Rattle.h_pass.specs.Statements.{HoistIsBack, HoistTypesKept}
-use Rattle.a_law.specs.Allocate.{alloc_prog, alloc_main}
-use Rattle.a_law.specs.Stands.{AllocStands}
-use Rattle.a_law.specs.Statements.{AllocTypesKept}
-use Rattle.gen_law.specs.Rules.{Generates, GeneratedIsByRules}
-use Rattle.spill_law.specs.Bound.{RegistersUpTo}
-use Rattle.spill_law.specs.Spill.{spilled}
+use Rattle.a_laws.specs.Allocate.{alloc_prog, alloc_main}
+use Rattle.a_laws.specs.Stands.{AllocStands}
+use Rattle.a_laws.specs.Statements.{AllocTypesKept}
+use Rattle.t_gen_laws.specs.Rules.{Generates, GeneratedIsByRules}
+use Rattle.t_spill_laws.specs.Bound.{RegistersUpTo}
+use Rattle.t_spill_rules.specs.Spill.{spilled}
 use Rattle.pipeline.specs.OneProgram.{MadeIsTranslated, OneClosedTerm, OneProgram, OneProgramWithin}
 use Rattle.pipeline.proofs.Deciding.{few_or_not}
 use Rattle.pipeline.proofs.OneClosing.{one_closing}

@@ -1,25 +1,25 @@
 -- A translation by the rules alone means the same.
 use Rattle.std.proofs.Common.{◌≡◌, ℕ, List, [], sym, ap, subst, ◌∙◌}
 use Rattle.f_terms.specs.Tm.{Term}
-use Rattle.term_core.specs.Ends.{End, Halted, Spent, Stuck}
+use Rattle.calc_core.specs.Ends.{End, Halted, Spent, Stuck}
 use Rattle.k_terms.specs.Meaning.{krun}
-use Rattle.k_terms.specs.Typing.{KGood}
+use Rattle.k_terms.specs.Typing.{KTyped}
 use Rattle.k_laws.specs.Correct.{KeepsMeaning, KeepsTypes, Kept}
 use Rattle.c_terms.specs.Meaning.{crun}
-use Rattle.c_terms.specs.Typing.{CGood}
-use Rattle.c_law.specs.Close.{close_of}
-use Rattle.c_law.specs.Laws as closes
+use Rattle.c_terms.specs.Typing.{CTyped}
+use Rattle.c_rules.specs.Close.{close_of}
+use Rattle.c_laws.specs.Laws as closes
 use Rattle.h_terms.specs.Laws.{HNeverStuck}
 use Rattle.h_terms.specs.Meaning.{hrun}
 use Rattle.h_terms.specs.Typing.{HProgramGood}
 use Rattle.h_pass.specs.Statements.{HoistedMeansTheSame, by_codes}
 use Rattle.a_terms.specs.Meaning as A
-use Rattle.a_law.specs.Statements.{StandingMeansTheSame, finish, onto_log}
+use Rattle.a_laws.specs.Statements.{StandingMeansTheSame, finish, onto_log}
 use Rattle.t_terms.specs.Tree.{TProg}
 use Rattle.t_terms.specs.Whole.{Whole}
 use Rattle.t_rules.specs.Rules.{Accepted}
-use Rattle.gen_law.specs.Correct.{Keeps}
-use Rattle.gen_law.specs.Rules.{RulesMeanTheSame}
+use Rattle.t_gen_laws.specs.Correct.{Keeps}
+use Rattle.t_gen_laws.specs.Rules.{RulesMeanTheSame}
 use Rattle.pipeline.specs.Compilation.{IsTranslation}
 use Rattle.pipeline.specs.Meaning.{SameMeaning}
 use Rattle.pipeline.proofs.Chain.{finish_halted}
@@ -36,7 +36,7 @@ module _ (converts : KeepsMeaning) (types : KeepsTypes) (scope : closes.TypedIsC
     (hoists : HoistedMeansTheSame) (never_stuck : HNeverStuck) (stands : StandingMeansTheSame)
     (rules : RulesMeanTheSame) (e : Term) (P : TProg) (t : IsTranslation e P) (whole : Whole P)
     (accepted : Accepted P) where
-  k_good : KGood 0 [] t.converted
+  k_good : KTyped 0 [] t.converted
   k_good = types e t.converted t.to_converted
 
   kept : Kept e t.converted
@@ -47,8 +47,8 @@ module _ (converts : KeepsMeaning) (types : KeepsTypes) (scope : closes.TypedIsC
       one_closing t.converted t.closed (close_of t.converted) t.to_closed
       (translates t.converted (scope t.converted k_good))
 
-  c_good : CGood 0 [] t.closed
-  c_good = subst (CGood 0 []) (sym closed_is) (closed_typed t.converted k_good)
+  c_good : CTyped 0 [] t.closed
+  c_good = subst (CTyped 0 []) (sym closed_is) (closed_typed t.converted k_good)
 
   hoisted : HProgramGood t.blocks t.main
       × ((n : ℕ) → by_codes t.blocks (hrun n t.blocks t.main) ≡ by_codes t.blocks (crun n t.closed))

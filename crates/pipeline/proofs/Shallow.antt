@@ -10,8 +10,8 @@ use Rattle.t_terms.specs.Nesting.{instr_nesting, end_nesting, seq_nesting, block
 use Rattle.t_terms.specs.Nesting.{nesting}
 use Rattle.t_terms.specs.Flat.{NoPack, FlatValue, FlatInstr, FlatEnd, FlatSeq, FlatBlocks, FlatData, FlatHeap, Flat}
 use Rattle.t_terms.specs.Reach.{type_reach, regs_reach, fields_reach}
-use Rattle.gen_law.specs.TypesEach.{TWithin, AllTypes, FileTypes, HasEach, InstrEach, EndEach, SeqEach, BlocksEach}
-use Rattle.gen_law.specs.TypesEach.{DataEach, HeapEach, TypesEach}
+use Rattle.t_gen_laws.specs.TypesEach.{TWithin, AllTypes, FileTypes, HasEach, InstrEach, EndEach, SeqEach, BlocksEach}
+use Rattle.t_gen_laws.specs.TypesEach.{DataEach, HeapEach, TypesEach}
 
 mutual
   of_type : (t : Ty) → type_nesting t ≤ type_reach t

@@ -7,18 +7,18 @@ use Rattle.k_terms.proofs.Numbers.{next_t}
 use Rattle.k_laws.specs.Annotate.{cps_term}
 use Rattle.k_laws.specs.Sites.{sites}
 use Rattle.c_terms.specs.C.{CTm, ct_next}
-use Rattle.c_law.specs.Close.{close_of, no_scope}
-use Rattle.c_law.proofs.Numbers as closing
+use Rattle.c_rules.specs.Close.{close_of, no_scope}
+use Rattle.c_laws.proofs.Numbers as closing
 use Rattle.h_terms.specs.H.{HBlks, HTm}
 use Rattle.h_pass.specs.Hoist.{Nobody, blocks_of, main_of}
 use Rattle.h_pass.proofs.Hoisting.{len_t}
 use Rattle.a_terms.specs.Tree.{ATm, AProg}
 use Rattle.a_terms.specs.Bound.{thirds, all_thirds}
-use Rattle.a_law.specs.Allocate.{alloc_prog, alloc_main, n_all}
+use Rattle.a_laws.specs.Allocate.{alloc_prog, alloc_main, n_all}
 use Rattle.t_terms.specs.Tree.{TProg}
-use Rattle.gen_law.specs.Gen.{generated}
-use Rattle.gen_law.specs.Layout.{LaidOut}
-use Rattle.spill_law.specs.Spill.{spilled}
+use Rattle.t_gen_rules.specs.Gen.{generated}
+use Rattle.t_gen_laws.specs.Layout.{LaidOut}
+use Rattle.t_spill_rules.specs.Spill.{spilled}
 use Rattle.pipeline.specs.Weights.{Weights, term_weight, blocks_weight}
 use Rattle.pipeline.specs.Work.{only_choices, choices, HasBlocks, SameWeights, FramedWork}
 use Rattle.pipeline.proofs.WeightsConverted.{k_t, converted_weight}
@@ -27,7 +27,7 @@ use Rattle.pipeline.proofs.WeightsHoisted.{h_t, h_all, hoisted_weight}
 use Rattle.pipeline.proofs.WeightsAllocated.{a_t, a_all, allocated_term, allocated_blocks, only_thirds, only_all_thirds}
 use Rattle.pipeline.proofs.WeightsGenerated.{generated_weight}
 use Rattle.pipeline.proofs.WeightsSpilled.{spilled_weight, one_more}
-use Rattle.a_law.proofs.Thirds.{length_all as same_length}
+use Rattle.a_laws.proofs.Thirds.{length_all as same_length}
 
 module _ (e : Term) (k : KTm) (c : CTm) (ks : HBlks) (t : HTm) (p : AProg) (main : ATm) (P : TProg)
     (is_k : k ≡ cps_term e) (is_c : c ≡ close_of k) (is_ks : ks ≡ blocks_of c) (is_t : t ≡ main_of c)

@@ -1,8 +1,8 @@
 -- Allocation keeps the weight, and the number of blocks.
 use Rattle.std.proofs.Common.{◌≡◌, ℕ, ◌+◌, Bool, true, false, suc, List, [], ◌∷◌, length, refl, ap, ◌∙◌, arith}
-use Rattle.a_law.specs.Allocate.{Known, alloc_all, alloc_t, arg_depth, arg_levels, atypes, are_const, d_next, d_types}
-use Rattle.a_law.specs.Allocate.{dcl, fill, known_of, n_block, n_d, n_t, n_v, pre_d, pre_v, pre_vs, v_next, v_type}
-use Rattle.a_law.specs.Allocate.{v_types, val, vs_next}
+use Rattle.a_laws.specs.Allocate.{Known, alloc_all, alloc_t, arg_depth, arg_levels, atypes, are_const, d_next, d_types}
+use Rattle.a_laws.specs.Allocate.{dcl, fill, known_of, n_block, n_d, n_t, n_v, pre_d, pre_v, pre_vs, v_next, v_type}
+use Rattle.a_laws.specs.Allocate.{v_types, val, vs_next}
 use Rattle.a_terms.specs.Bound.{all_thirds, thirds}
 use Rattle.a_terms.specs.Meaning.{pick}
 use Rattle.a_terms.specs.Tree.{ABlk, ADecl, ATm, ATy, Arith, Call, Halt, If0, Init, Let, Malloc, MoreATys, NoATys, Proj}
@@ -13,7 +13,7 @@ use Rattle.h_terms.specs.H.{HPack, HProj, HSet, HTm, HTuple, HUnpack, HVal, HVal
 use Rattle.pipeline.specs.Weights.{Weights}
 use Rattle.pipeline.specs.Work.{only_choices}
 use Rattle.pipeline.proofs.WeightsHoisted.{h_d, h_t, h_all}
-use Rattle.a_law.proofs.Thirds.{length_all as same_length}
+use Rattle.a_laws.proofs.Thirds.{length_all as same_length}
 
 abbrev pub a_d : Weights → ADecl → ℕ
 a_d w (Value v) = 0

@@ -1,12 +1,12 @@
 -- Closure conversion keeps the weight.
 use Rattle.std.proofs.Common.{◌≡◌, ℕ, zero, suc, ◌+◌, Bool, true, false, [], ◌∷◌, Option, Some, None, refl, ◌∙◌, arith}
-use Rattle.c_law.specs.Places.{Places, place, kept_count}
+use Rattle.c_rules.specs.Places.{Places, place, kept_count}
 use Rattle.k_terms.specs.K.{KVal, KVar, KInt, KTuple, KCode, KVals, NoKVals, MoreKVals, KDecl, KName, KProj, KArith}
 use Rattle.k_terms.specs.K.{KPack, KUnpack, KCell, KGet, KSet, KTm, KLet, KCall, KIf, KHalt, kcount}
 use Rattle.c_terms.specs.C.{CVal, CVar, CInt, CTuple, CCode, CApply, CPack, CVals, NoCVals, MoreCVals, CDecl, CName}
 use Rattle.c_terms.specs.C.{CProj, CArith, CUnpack, CCell, CGet, CSet, CTm, CLet, CCall, CIf, CHalt}
-use Rattle.c_law.specs.Close.{Scope, keeps, uses, var_value, pick_one, picked, projections, named, rebuilt, inner}
-use Rattle.c_law.specs.Close.{with_decl, in_call, no_scope, close_v, close_vs, close_d, close_t, close_of}
+use Rattle.c_rules.specs.Close.{Scope, keeps, uses, var_value, pick_one, picked, projections, named, rebuilt, inner}
+use Rattle.c_rules.specs.Close.{with_decl, in_call, no_scope, close_v, close_vs, close_d, close_t, close_of}
 use Rattle.pipeline.specs.Weights.{Weights}
 use Rattle.pipeline.proofs.WeightsConverted.{k_v, k_vs, k_d, k_t}
 

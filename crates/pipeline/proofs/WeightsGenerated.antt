@@ -8,10 +8,10 @@ use Rattle.a_terms.specs.Tree.{ATy, AVal, Var, Num, Lab, Data, Apply, Pack, ADec
 use Rattle.a_terms.specs.Tree.{Init, ATm, Let, Call, If0, Halt, ABlk, AProg, arity}
 use Rattle.a_terms.specs.Typing.{declared, more_vars, types_of}
 use Rattle.a_terms.specs.Bound.{thirds}
-use Rattle.gen_law.specs.Gen.{tys, small, boxed, unnest, stands, move, home, settle, over, uses, used, target}
-use Rattle.gen_law.specs.Gen.{decl_code, tvars, later, owns, saved, above_saved, places_saved, call_code, above}
-use Rattle.gen_law.specs.Gen.{spare, test_code}
-use Rattle.gen_law.specs.Gen.{code, extras, rows, firsts, seconds, generated_blocks}
+use Rattle.t_gen_rules.specs.Gen.{tys, small, boxed, unnest, stands, move, home, settle, over, uses, used, target}
+use Rattle.t_gen_rules.specs.Gen.{decl_code, tvars, later, owns, saved, above_saved, places_saved, call_code, above}
+use Rattle.t_gen_rules.specs.Gen.{spare, test_code}
+use Rattle.t_gen_rules.specs.Gen.{code, extras, rows, firsts, seconds, generated_blocks}
 use Rattle.pipeline.specs.Weights.{Weights, seq_weight, blocks_weight}
 use Rattle.pipeline.proofs.WeightsAllocated.{a_d, a_t, a_all}
 

@@ -3,12 +3,14 @@ use Rattle.std.proofs.Common.{◌≡◌, ℕ, zero, suc, ◌+◌, List, [], ◌�
 use Rattle.t_types.specs.Tree.{Ty, TFile}
 use Rattle.t_terms.specs.Tree.{Reg, Int, Label, Data, TValue, Plain, Pack, TInstr, Arith, Bnz, Ld, Malloc, Mov}
 use Rattle.t_terms.specs.Tree.{St, Unpack, Jmp, Halt, TSeq, Then, Ends, TBlock, TProg}
-use Rattle.spill_law.specs.Spill.{first_reg, second_reg, made_reg, frame_reg, saved_reg, high_part, numbers, reg, Home}
-use Rattle.spill_law.specs.Spill.{Held, InFrame, InSlot, Layout, homed, layout, at_home, load, load_value, second_at}
-use Rattle.spill_law.specs.Spill.{fill, build, into, Way, Stays, Fills, Gathers, way_of, after, slots}
-use Rattle.spill_law.specs.Spill.{fill_slot}
-use Rattle.spill_law.specs.Spill.{finish, step, code, kept, sp_value, sp_blocks, target_file, type_of, lows}
-use Rattle.spill_law.specs.Spill.{spilled}
+use Rattle.t_spill_rules.specs.Spill.{first_reg, second_reg, made_reg, frame_reg, saved_reg, high_part, numbers, reg}
+use Rattle.t_spill_rules.specs.Spill.{Home}
+use Rattle.t_spill_rules.specs.Spill.{Held, InFrame, InSlot, Layout, homed, layout, at_home, load, load_value}
+use Rattle.t_spill_rules.specs.Spill.{second_at}
+use Rattle.t_spill_rules.specs.Spill.{fill, build, into, Way, Stays, Fills, Gathers, way_of, after, slots}
+use Rattle.t_spill_rules.specs.Spill.{fill_slot}
+use Rattle.t_spill_rules.specs.Spill.{finish, step, code, kept, sp_value, sp_blocks, target_file, type_of, lows}
+use Rattle.t_spill_rules.specs.Spill.{spilled}
 use Rattle.pipeline.specs.Weights.{Weights, instr_weight, seq_weight, blocks_weight}
 
 module _ (w : Weights) (m : ℕ) where

@@ -4,17 +4,17 @@ use Rattle.f_terms.specs.Tm.{Term}
 use Rattle.k_terms.specs.K.{KTm}
 use Rattle.k_laws.specs.Translates.{cps_program}
 use Rattle.c_terms.specs.C.{CTm}
-use Rattle.c_law.specs.Row as closing
+use Rattle.c_laws.specs.Row as closing
 use Rattle.h_terms.specs.H.{HBlks, HTm}
 use Rattle.h_pass.specs.Back.{IsHoisted}
 use Rattle.a_terms.specs.Tree.{ATm, AProg}
-use Rattle.a_law.specs.Stands.{Stands}
+use Rattle.a_laws.specs.Stands.{Stands}
 use Rattle.t_terms.specs.Tree.{TProg}
 use Rattle.t_terms.specs.Whole.{Whole}
 use Rattle.t_rules.specs.Rules.{Accepted}
-use Rattle.gen_law.specs.Rules.{Generates}
-use Rattle.spill_law.specs.Bound.{RegistersUpTo}
-use Rattle.spill_law.specs.Spill.{spilled}
+use Rattle.t_gen_laws.specs.Rules.{Generates}
+use Rattle.t_spill_laws.specs.Bound.{RegistersUpTo}
+use Rattle.t_spill_rules.specs.Spill.{spilled}
 use Rattle.pipeline.specs.Made.{IsMade}
 use Rattle.pipeline.specs.Meaning.{SameMeaning, RunsSeldom, HaltsSoon}
 use Rattle.pipeline.specs.Work.{WorkByBound}

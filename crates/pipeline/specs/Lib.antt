@@ -5,3 +5,5 @@ pub mod OneProgram
 pub mod Weights
 pub mod Work
 pub mod ByRules
+pub mod Forms
+pub mod Translated

@@ -3,12 +3,12 @@ use Rattle.std.specs.Prelude.{◌≡◌}
 use Rattle.f_terms.specs.Tm.{Term}
 use Rattle.k_laws.specs.Annotate.{cps_term}
 use Rattle.c_terms.specs.C.{CTm}
-use Rattle.c_law.specs.Close.{close_of}
+use Rattle.c_rules.specs.Close.{close_of}
 use Rattle.h_terms.specs.H.{HBlks, HTm}
 use Rattle.h_pass.specs.Hoist.{blocks_of, main_of}
-use Rattle.a_law.specs.Allocate.{alloc_prog, alloc_main}
+use Rattle.a_laws.specs.Allocate.{alloc_prog, alloc_main}
 use Rattle.t_terms.specs.Tree.{TProg}
-use Rattle.gen_law.specs.Gen.{generated}
+use Rattle.t_gen_rules.specs.Gen.{generated}
 
 -- allocation and code generation of a hoisted program
 abbrev pub assembled : HBlks → HTm → TProg

@@ -3,11 +3,11 @@ use Rattle.std.specs.Prelude.{◌≡◌, ℕ}
 use Rattle.f_terms.specs.Tm.{Term}
 use Rattle.f_terms.specs.Typing.{IsProgram}
 use Rattle.k_laws.specs.Annotate.{cps_term}
-use Rattle.c_law.specs.Close.{close_of}
+use Rattle.c_rules.specs.Close.{close_of}
 use Rattle.h_pass.specs.Hoist.{blocks_of, main_of}
-use Rattle.a_law.specs.Allocate.{alloc_prog, alloc_main}
+use Rattle.a_laws.specs.Allocate.{alloc_prog, alloc_main}
 use Rattle.t_terms.specs.Tree.{TProg}
-use Rattle.gen_law.specs.Gen.{generated}
+use Rattle.t_gen_rules.specs.Gen.{generated}
 use Rattle.pipeline.specs.Compilation.{IsTranslation, IsCompilation, IsCompilationWithin}
 use Rattle.pipeline.specs.Made.{IsMade}
 

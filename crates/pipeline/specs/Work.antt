@@ -3,7 +3,7 @@
 use Rattle.std.specs.Prelude.{◌≡◌, ◌⊎◌, ℕ, ◌+◌, false, length}
 use Rattle.f_terms.specs.Tm.{Term}
 use Rattle.k_laws.specs.Sites.{sites}
-use Rattle.spill_law.specs.Bound.{RegistersUpTo}
+use Rattle.t_spill_laws.specs.Bound.{RegistersUpTo}
 use Rattle.t_terms.specs.Tree.{TProg}
 use Rattle.pipeline.specs.Weights.{Weights, term_weight, blocks_weight}
 

@@ -7,7 +7,7 @@ ghost use Rattle.t_terms.specs.Nesting.{nesting};
 ghost use Rattle.t_terms.specs.Nesting.{most_open};
 ghost use Rattle.t_check.specs.Checked.{checked_program};
 ghost use Rattle.t_terms.specs.Flat.{Flat};
-ghost use Rattle.gen_law.specs.TypesEach.{TypesEach, TWithin};
+ghost use Rattle.t_gen_laws.specs.TypesEach.{TypesEach, TWithin};
 ghost use Rattle.pipeline.specs.Made.{IsMade};
 ghost use Rattle.pipeline.specs.Meaning.{EntersSeldom};
 ghost use Rattle.pipeline.specs.Compilation.{IsCompilation, IsCompilationWithin};
@@ -39,8 +39,8 @@ fn assemble(alloc: Global, program: &Program) -> Result<TProgram, OutOfMemory>
 {
     t_rules::erased_code_stands_at_its_place();
     t_rules::runs_stay_within_times();
-    gen_law::programs_are_laid_out();
-    gen_law::generated_programs_are_by_rules();
+    t_gen_laws::programs_are_laid_out();
+    t_gen_laws::generated_programs_are_by_rules();
     let converted = cps(alloc, program)?;
     let closed = close(alloc, &converted)?;
     drop(converted);
@@ -87,8 +87,8 @@ pub fn compile_within(alloc: Global, program: &Program, k: u64) -> Result<Checke
     ensures shallow { IfOk result (λ p. nesting (program_tree (checked_program p)) ≤ most_open) }
 {
     t_rules::runs_stay_within_times();
-    spill_law::places_run_seldom();
-    spill_law::few_registers_may_stay();
+    t_spill_laws::places_run_seldom();
+    t_spill_laws::few_registers_may_stay();
     let made = assemble(alloc, program)?;
     if is_within(&made, k) {
         return Ok(seal(made));

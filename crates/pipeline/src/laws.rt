@@ -24,14 +24,14 @@ pub fn translations_mean_the_same()
 {
     k_laws::meaning_is_kept();
     k_laws::types_are_kept();
-    c_law::laws::scope_law();
-    c_law::laws::translation_law();
-    c_law::laws::meaning_law();
-    c_law::laws::types_law();
+    c_laws::laws::scope_law();
+    c_laws::laws::translation_law();
+    c_laws::laws::meaning_law();
+    c_laws::laws::types_law();
     h_pass::laws::hoisted_means_the_same_law();
     h_terms::laws::h_never_stuck_law();
-    a_law::standing_means_the_same();
-    gen_law::rules_mean_the_same();
+    a_laws::standing_means_the_same();
+    t_gen_laws::rules_mean_the_same();
 }
 
 /// The program that the passes make of a program of the source is a translation of it by the rules, and its forms on
@@ -41,12 +41,12 @@ pub fn made_programs_are_translations()
 {
     k_laws::conversion_is_a_translation();
     k_laws::conversion_keeps_types();
-    c_law::laws::scope_law();
-    c_law::laws::translation_law();
-    c_law::laws::types_law();
+    c_laws::laws::scope_law();
+    c_laws::laws::translation_law();
+    c_laws::laws::types_law();
     h_pass::laws::hoist_is_back_law();
     h_pass::laws::hoist_types_law();
-    a_law::allocation_stands_for_its_program();
-    a_law::types_are_kept();
-    gen_law::generated_programs_are_by_rules();
+    a_laws::allocation_stands_for_its_program();
+    a_laws::types_are_kept();
+    t_gen_laws::generated_programs_are_by_rules();
 }

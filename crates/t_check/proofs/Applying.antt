@@ -3,7 +3,7 @@ use Rattle.std.proofs.Common.{◌≡◌, ◌≢◌, ℕ, ◌-◌, ◌≤◌, Lis
 use Rattle.t_types.specs.Tree.{Ty, IntTy, VarTy, CodeTy, ExistsTy, TupleTy, TFile}
 use Rattle.t_intern.specs.Applied.{row, types_in, with_types, applied}
 use Rattle.t_intern.proofs.Rows.{row_is}
-use Rattle.t_rules.specs.Registers.{inst_file}
+use Rattle.t_terms.specs.Registers.{inst_file}
 use Rattle.t_check.proofs.Turns.{in_one}
 
 pub applied_row : (args : List Ty) (k t : Ty) → k ≡ TupleTy (row args) → applied k t ≡ with_types args t

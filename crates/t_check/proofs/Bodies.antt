@@ -18,13 +18,13 @@ use Rattle.t_terms.specs.declared.data.Data.{Data}
 use Rattle.t_terms.specs.declared.program.TProgram.{TProgram}
 use Rattle.t_terms.specs.declared.fault.TCode.TheVariants.{T20}
 use Rattle.t_terms.specs.declared.instr.Instr.{Instr}
-use Rattle.t_mismatch.specs.declared.refusal.Refusal.{Refusal}
-use Rattle.t_registers.specs.Labels.{Field}
+use Rattle.t_known.specs.declared.refusal.Refusal.{Refusal}
+use Rattle.t_known.specs.Labels.{Field}
 use Rattle.t_rules.specs.Rules.{Typed, EndTyped, SeqAccepted, BlockAccepted, BlocksAccepted, DatumAccepted}
 use Rattle.t_rules.specs.Rules.{DataAccepted, HeapAccepted, FirstTakesNothing}
 use Rattle.t_rules.specs.Faults.{Note, InstrFaultWith, EndFaultWith, BodyFaultWith, BlockFaultWith, BlocksFaultWith}
 use Rattle.t_rules.specs.Faults.{DatumFaultWith, DataFaultWith, HeapFaultWith, FirstBlockFaultWith, ProgramNoted}
-use Rattle.t_mismatch.specs.Refusals.{SaysWith}
+use Rattle.t_known.specs.Refusals.{SaysWith}
 use Rattle.t_check.specs.Verdict.{IsEnd, IsBlock, AreBlocks, IsProgram}
 use Rattle.t_check.proofs.Typing.{says_map}
 

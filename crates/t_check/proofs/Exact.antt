@@ -12,12 +12,12 @@ use Rattle.t_rules.specs.Mismatch.{told}
 use Rattle.t_rules.specs.Faults.{ProgramNoted, ProgramFaultWith, ProgramFault}
 use Rattle.t_rules.specs.LawsFaults.{NoFaultWhereAccepted, AtMostOneFault, AtMostOneMismatch}
 use Rattle.t_rules.specs.Mismatch as plain
-use Rattle.t_mismatch.specs.ReadMismatch.{mismatch_or_none}
-use Rattle.t_mismatch.specs.Refusals.{SaysWith, IsBelow, IsMismatchOf, odds_at, fault_of}
+use Rattle.t_known.specs.ReadMismatch.{mismatch_or_none}
+use Rattle.t_known.specs.Refusals.{SaysWith, IsBelow, IsMismatchOf, odds_at, fault_of}
 use Rattle.t_check.specs.Verdict.{Says}
-use Rattle.t_mismatch.specs.declared.mismatch.Mismatch.{Mismatch}
-use Rattle.t_mismatch.specs.declared.refusal.Refusal.{Refusal}
-use Rattle.t_mismatch.specs.declared.refusal.Refusal.TheVariants.{Memory, Refused, AtOdds}
+use Rattle.t_known.specs.declared.mismatch.Mismatch.{Mismatch}
+use Rattle.t_known.specs.declared.refusal.Refusal.{Refusal}
+use Rattle.t_known.specs.declared.refusal.Refusal.TheVariants.{Memory, Refused, AtOdds}
 
 module _ (P : SProg) where
   pub no_fault : NoFaultWhereAccepted → Accepted (plain_program P) → (f : TFault) → Says f (ProgramFault P) →

@@ -16,12 +16,12 @@ use Rattle.t_rules.specs.Faults.{Note, FaultWith, bare, fitting, register, integ
 use Rattle.t_intern.specs.Marks.{marked_fields}
 use Rattle.t_intern.specs.Nodes.{at, fields_at}
 use Rattle.t_types.specs.Bounds.{Bounded}
-use Rattle.t_registers.specs.Known.{own, seen, IsEntry}
-use Rattle.t_registers.specs.declared.registers.Entry.{Entry}
+use Rattle.t_known.specs.Known.{own, seen, IsEntry}
+use Rattle.t_known.specs.declared.registers.Entry.{Entry}
 use Rattle.t_rules.proofs.Depth.{bounded, bounded_shift, shift_fits, field_shallow}
-use Rattle.t_registers.specs.Marks.{marks}
-use Rattle.t_registers.proofs.Sets.{tuple_marked, marked_field, marked_absent}
-use Rattle.t_registers.proofs.Tuples as tuples
+use Rattle.t_known.specs.Marks.{marks}
+use Rattle.t_known.proofs.Sets.{tuple_marked, marked_field, marked_absent}
+use Rattle.t_known.proofs.Tuples as tuples
 
 -- a field that is not there is not there after a walk
 none_over : (f : At Ty) (d : ℕ) (fs : TFields) (i : ℕ) → field fs i ≡ None → field (over_fields f d fs) i ≡ None

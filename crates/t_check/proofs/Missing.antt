@@ -10,17 +10,17 @@ use Rattle.t_terms.specs.declared.fault.TCode.TheVariants.{T18}
 use Rattle.t_intern.specs.Grown.{Grown}
 use Rattle.t_intern.specs.Nodes.{at, regs_at}
 use Rattle.t_intern.proofs.Growing.{grown_at}
-use Rattle.t_registers.specs.Known.{known, IsSound}
+use Rattle.t_known.specs.Known.{known, IsSound}
 use Rattle.t_rules.specs.Mismatch.{told, Register}
 use Rattle.t_rules.specs.Faults.{KnownFits, Note, FaultWith, at_odds, FileFaultWith}
-use Rattle.t_mismatch.specs.Refusals.{SaysWith}
+use Rattle.t_known.specs.Refusals.{SaysWith}
 use Rattle.t_check.specs.Verdict.{IsRegFit}
-use Rattle.t_mismatch.specs.declared.refusal.Refusal.{Refusal}
-use Rattle.t_mismatch.specs.declared.refusal.Refusal.TheVariants.{AtOdds}
-use Rattle.t_mismatch.specs.declared.odds.Odds.TheVariants as odds
-use Rattle.t_registers.specs.declared.registers.Registers.{Registers}
-use Rattle.t_registers.proofs.Noting.{known_grown}
-use Rattle.t_registers.proofs.Rising.{known_fit}
+use Rattle.t_known.specs.declared.refusal.Refusal.{Refusal}
+use Rattle.t_known.specs.declared.refusal.Refusal.TheVariants.{AtOdds}
+use Rattle.t_known.specs.declared.odds.Odds.TheVariants as odds
+use Rattle.t_known.specs.declared.registers.Registers.{Registers}
+use Rattle.t_known.proofs.Noting.{known_grown}
+use Rattle.t_known.proofs.Rising.{known_fit}
 use Rattle.t_check.proofs.Typing.{says_map}
 
 -- T18 of a register

@@ -4,8 +4,8 @@ use Rattle.t_types.specs.Tree.{Ty}
 use Rattle.t_intern.specs.Grown.{Grown}
 use Rattle.t_check.specs.Verdict.{IsPlace}
 use Rattle.t_check.specs.declared.checker.Checker.{Checker}
-use Rattle.t_registers.proofs.Noting.{sound_grown}
-use Rattle.t_registers.proofs.Numbering.{labels_grown}
+use Rattle.t_known.proofs.Noting.{sound_grown}
+use Rattle.t_known.proofs.Numbering.{labels_grown}
 
 pub place_grown : (ts us : List Ty) (c : Checker) → Grown ts us → IsPlace ts c → IsPlace us c
 place_grown ts us c g h =

@@ -6,7 +6,7 @@ use Rattle.idx_core.specs.Over.{deep, At, shifted, putted}
 use Rattle.idx_core.specs.Laws.{deep_is, shifted_lt, shifted_ge, putted_lt, putted_eq, putted_gt, shift_add}
 use Rattle.t_types.specs.Tree.{Ty, IntTy, VarTy, TFile, over, over_file, shift, put_file}
 use Rattle.t_types.specs.TreeLaws.{types_part, types_over, file_over}
-use Rattle.t_rules.specs.Registers.{inst_file}
+use Rattle.t_terms.specs.Registers.{inst_file}
 use Rattle.t_intern.specs.Spread.{spread}
 use Rattle.t_intern.proofs.Spreads.{spread_lt, spread_in, spread_ge}
 

@@ -12,10 +12,10 @@ use Rattle.t_terms.specs.Tree.{TBase, TValue, Plain, Pack, Reg, Arith, Bnz, Mov,
 use Rattle.t_terms.specs.Spanned.{SDatum, plain_datum}
 use Rattle.t_terms.specs.declared.fault.TCode.{TCode}
 use Rattle.t_terms.specs.declared.fault.TCode.TheVariants.{T09, T13, T14, T15, T16}
-use Rattle.t_mismatch.specs.declared.refusal.Refusal.{Refusal}
-use Rattle.t_mismatch.specs.declared.refusal.Refusal.TheVariants.{Memory, Refused, AtOdds}
-use Rattle.t_mismatch.specs.declared.odds.Odds.TheVariants as odds
-use Rattle.t_rules.specs.Registers.{no_types, inst_file, with_reg}
+use Rattle.t_known.specs.declared.refusal.Refusal.{Refusal}
+use Rattle.t_known.specs.declared.refusal.Refusal.TheVariants.{Memory, Refused, AtOdds}
+use Rattle.t_known.specs.declared.odds.Odds.TheVariants as odds
+use Rattle.t_terms.specs.Registers.{no_types, inst_file, with_reg}
 use Rattle.t_rules.specs.Rules.{BaseHas, Has, Enters, DatumAccepted}
 use Rattle.t_rules.specs.Mismatch.{told, Types, NoPackage}
 use Rattle.t_rules.specs.Faults.{Note, FaultWith, bare, at_odds, fitting, if_code, if_exists, PackFaultWith}
@@ -23,11 +23,11 @@ use Rattle.t_rules.specs.Faults.{ValueFaultWith, FileFaultWith, EnterFaultWith, 
 use Rattle.t_types.specs.Bounds.{Bounded, OwedFile}
 use Rattle.t_intern.specs.Grown.{IsNumber}
 use Rattle.t_intern.specs.Nodes.{at}
-use Rattle.t_registers.specs.Known.{own, seen, known, IsEntry, IsSound}
-use Rattle.t_mismatch.specs.Refusals.{SaysWith, odds_at}
+use Rattle.t_known.specs.Known.{own, seen, known, IsEntry, IsSound}
+use Rattle.t_known.specs.Refusals.{SaysWith, odds_at}
 use Rattle.t_check.specs.Verdict.{IsTypeOf, IsPacked, IsFileFit, IsEntered, IsStep}
-use Rattle.t_registers.specs.declared.registers.Entry.{Entry}
-use Rattle.t_registers.specs.declared.registers.Registers.{Registers}
+use Rattle.t_known.specs.declared.registers.Entry.{Entry}
+use Rattle.t_known.specs.declared.registers.Registers.{Registers}
 use Rattle.t_rules.proofs.Depth.{shallow, bounded, bounded_shift}
 
 -- a fault of a part is one of the whole

@@ -35,18 +35,18 @@ use Rattle.t_rules.specs.Rules.{Typed, Accepted}
 use Rattle.t_rules.specs.LawsSound.{PlacesAreTyped}
 use Rattle.idx_core.specs.Over.{BelowAt, AnyDepth}
 use Rattle.t_types.specs.Bounds.{ShallowAt, ShallowBelow, Shallow, OwedAt, OwedBelow, Bounded}
-use Rattle.t_registers.specs.Fitted.{RisesFrom, Rises}
-use Rattle.t_registers.specs.Known.{seen, entry_of, known, IsEntry, IsSound}
-use Rattle.t_registers.specs.Labels.{AreLabels}
+use Rattle.t_known.specs.Fitted.{RisesFrom, Rises}
+use Rattle.t_known.specs.Known.{seen, entry_of, known, IsEntry, IsSound}
+use Rattle.t_known.specs.Labels.{AreLabels}
 use Rattle.t_check.specs.Walks.{IsFileOf, IsStand, IsWalk}
-use Rattle.t_registers.specs.declared.labels.Labels.{Labels}
+use Rattle.t_known.specs.declared.labels.Labels.{Labels}
 use Rattle.t_check.specs.declared.walk.Stand.{Stand}
 use Rattle.t_check.specs.declared.walk.Walk.{Walk}
 use Rattle.t_intern.specs.Grown.{Grown}
-use Rattle.t_registers.proofs.Noting.{known_grown, sound_grown}
-use Rattle.t_registers.proofs.Numbering.{labels_grown}
-use Rattle.t_registers.specs.declared.registers.Entry.{Entry}
-use Rattle.t_registers.specs.declared.registers.Registers.{Registers}
+use Rattle.t_known.proofs.Noting.{known_grown, sound_grown}
+use Rattle.t_known.proofs.Numbering.{labels_grown}
+use Rattle.t_known.specs.declared.registers.Entry.{Entry}
+use Rattle.t_known.specs.declared.registers.Registers.{Registers}
 use Rattle.t_check.proofs.Blocks.{formed_at}
 use Rattle.t_rules.proofs.Depth.{weaker, weaker_file}
 use Rattle.t_check.proofs.Typing.{entry_bounded}

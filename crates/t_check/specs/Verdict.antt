@@ -16,7 +16,7 @@ use Rattle.t_terms.specs.declared.fault.TCode.{TCode}
 use Rattle.t_terms.specs.declared.fault.TCode.TheVariants.{T18}
 use Rattle.t_terms.specs.declared.fault.TFault.{TFault}
 use Rattle.t_terms.specs.declared.fault.TFault.TheVariants.{Memory, Refused}
-use Rattle.t_rules.specs.Registers.{inst_file}
+use Rattle.t_terms.specs.Registers.{inst_file}
 use Rattle.t_rules.specs.Rules.{BaseHas, Has, Enters, Typed, EndTyped, BlockAccepted, BlocksAccepted, DatumAccepted}
 use Rattle.t_rules.specs.Rules.{DataAccepted, HeapAccepted, Accepted}
 use Rattle.t_types.specs.Bounds.{Bounded, OwedFile}
@@ -26,14 +26,14 @@ use Rattle.t_rules.specs.Faults.{KnownFits, at_odds, register, integer, tuple, f
 use Rattle.t_rules.specs.Faults.{ValueFaultWith, FileFaultWith, EnterFaultWith, StoreFaultWith, InstrFaultWith}
 use Rattle.t_rules.specs.Faults.{EndFaultWith, BlockFaultWith, BlocksFaultWith, DatumFaultWith, DataFaultWith}
 use Rattle.t_rules.specs.Faults.{HeapFaultWith, ProgramNoted, Fault, ProgramFault}
-use Rattle.t_mismatch.specs.Refusals.{SaysWith}
+use Rattle.t_known.specs.Refusals.{SaysWith}
 use Rattle.t_intern.specs.Grown.{AreRegs, IsNumber}
 use Rattle.t_intern.specs.Nodes.{at}
-use Rattle.t_registers.specs.Known.{known, IsSound}
-use Rattle.t_registers.specs.Labels.{AreLabels}
+use Rattle.t_known.specs.Known.{known, IsSound}
+use Rattle.t_known.specs.Labels.{AreLabels}
 use Rattle.t_check.specs.declared.checked.Checked.{Checked}
-use Rattle.t_mismatch.specs.declared.refusal.Refusal.{Refusal}
-use Rattle.t_registers.specs.declared.registers.Registers.{Registers}
+use Rattle.t_known.specs.declared.refusal.Refusal.{Refusal}
+use Rattle.t_known.specs.declared.registers.Registers.{Registers}
 use Rattle.t_check.specs.declared.checker.Checker.{Checker}
 
 -- the fault is want of memory, or the one that is described

@@ -7,9 +7,9 @@ use Rattle.t_terms.specs.ReadProgram.{program}
 use Rattle.t_terms.specs.declared.program.TProgram.{TProgram}
 use Rattle.t_rules.specs.Rules.{Typed, Accepted}
 use Rattle.t_rules.specs.Known.{KnownAt}
-use Rattle.t_registers.specs.Fitted.{Rises}
-use Rattle.t_registers.specs.Known.{known, IsSound}
-use Rattle.t_registers.specs.Labels.{AreLabels}
+use Rattle.t_known.specs.Fitted.{Rises}
+use Rattle.t_known.specs.Known.{known, IsSound}
+use Rattle.t_known.specs.Labels.{AreLabels}
 use Rattle.t_check.specs.Verdict.{program_in, known_at}
 use Rattle.t_check.specs.declared.checker.Checker.{Checker}
 use Rattle.t_check.specs.declared.walk.Stand.{Stand}

@@ -9,18 +9,17 @@ ghost use Rattle.t_rules.specs.Rules.{Accepted};
 ghost use Rattle.t_rules.specs.Mismatch as odds;
 ghost use Rattle.t_rules.specs.Faults.{ProgramFault, ProgramFaultWith};
 ghost use Rattle.t_check.specs.Checked.{checked_program};
-ghost use Rattle.t_mismatch.specs.ReadMismatch.{mismatch_or_none};
+ghost use Rattle.t_known.specs.ReadMismatch.{mismatch_or_none};
 ghost use Rattle.t_check.specs.Verdict.{IsJudged, IsVerdict, AcceptsOrWants, RefusesOrWants};
 
 use crate::checked::Checked;
 use crate::program::check_program;
+use crate::salt_of;
 use idx_core::{OutOfMemory, Salt};
 use std::alloc::Global;
 use t_intern::Types;
-use t_mismatch::Mismatch;
-use t_registers::{Labels, Registers};
+use t_known::{Labels, Mismatch, Registers};
 use t_rules::{at_most_one_fault, at_most_one_mismatch, no_fault_where_accepted};
-use t_salt::salt_of;
 use t_terms::{TFault, TProgram};
 
 /// A program at a place of it: what is known there of the registers. Types are numbers of a table of the whole

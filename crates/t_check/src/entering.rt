@@ -3,15 +3,14 @@ ghost use Rattle.std.specs.Prelude.{◌≡◌, List, OnOk};
 ghost use Rattle.t_types.specs.Tree.{Ty};
 ghost use Rattle.t_terms.specs.Read.{value};
 ghost use Rattle.t_intern.specs.Grown.{Grown};
-ghost use Rattle.t_registers.specs.Known.{known, IsSound};
+ghost use Rattle.t_known.specs.Known.{known, IsSound};
 ghost use Rattle.t_check.specs.Verdict.{FormedAt, IsPlace, EnteredAt};
 
 use crate::checker::Checker;
 use crate::unfit::check_code;
 use idx_core::Span;
 use t_intern::Types;
-use t_mismatch::{Refusal, refused};
-use t_registers::owes_nothing;
+use t_known::{Refusal, owes_nothing, refused};
 use t_terms::{TCode, Value};
 
 impl Checker<'_> {

@@ -8,15 +8,14 @@ ghost use Rattle.t_types.specs.Read.{types as type_trees};
 ghost use Rattle.t_terms.specs.Tree.{Arith, Bnz, Halt, Ld, Malloc, Mov, Plain, Reg, St, Unpack, names_after};
 ghost use Rattle.t_terms.specs.Read.{base as base_tree, value, instr, end_of};
 ghost use Rattle.t_intern.specs.Grown.{Grown};
-ghost use Rattle.t_registers.specs.Known.{known, IsSound};
+ghost use Rattle.t_known.specs.Known.{known, IsSound};
 ghost use Rattle.t_check.specs.Verdict.{FormedAt, FormedInstr, FormedEnd, IsPlace, EndedAt, StepsTo, IsInteger};
 ghost use Rattle.t_check.specs.Verdict.{IsFieldOf, IsStored};
 
 use crate::checker::Checker;
 use idx_core::Span;
 use t_intern::Types;
-use t_mismatch::{Odds, Refusal, at_odds, refused};
-use t_registers::{exists_body, flag_of, is_int, tuple_of};
+use t_known::{Odds, Refusal, at_odds, exists_body, flag_of, is_int, refused, tuple_of};
 use t_terms::{Base, End, Instr, TCode, Value};
 use t_types::TType;
 

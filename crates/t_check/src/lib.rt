@@ -6,10 +6,12 @@ mod checker;
 mod entering;
 mod instructions;
 mod program;
+mod salt;
 mod unfit;
 mod values;
 mod walk;
 
 pub use checked::Checked;
 pub use checker::{check, check_salted, mismatch_of, seal};
+pub use salt::salt_of;
 pub use walk::{Walk, types_at};

@@ -6,8 +6,8 @@ ghost use Rattle.t_types.specs.WellFormed.{max_names, WellFormedFile};
 ghost use Rattle.t_terms.specs.Read.{block as block_tree, datum, data_fields, spanned, spanned_blocks, spanned_heap};
 ghost use Rattle.t_terms.specs.ReadProgram.{program as program_of, spanned_program};
 ghost use Rattle.t_intern.specs.Grown.{Grown, IsNumber};
-ghost use Rattle.t_registers.specs.Known.{IsEmpty, IsOfBlock};
-ghost use Rattle.t_registers.specs.Labels.{AreLabels};
+ghost use Rattle.t_known.specs.Known.{IsEmpty, IsOfBlock};
+ghost use Rattle.t_known.specs.Labels.{AreLabels};
 ghost use Rattle.t_check.specs.Verdict.{program_in, FormedBlock, FormedDatum, FormedData, IsPlace, IsBlock, AreBlocks};
 ghost use Rattle.t_check.specs.Verdict.{IsDatum, IsData, IsHeap, IsProgram};
 
@@ -15,8 +15,7 @@ use crate::checker::Checker;
 use idx_core::{OutOfMemory, Span};
 use std::alloc::Global;
 use t_intern::Types;
-use t_mismatch::{Odds, Refusal, at_odds, refused};
-use t_registers::{Labels, Registers, code_parts};
+use t_known::{Labels, Odds, Refusal, Registers, at_odds, code_parts, refused};
 use t_terms::{Block, Data, TCode, TProgram, Value};
 use t_types::TType;
 

@@ -4,13 +4,12 @@ ghost use Rattle.std.specs.Prelude.{◌≡◌, ◌<◌, length};
 ghost use Rattle.t_types.specs.Tree.{TFile, CodeTy};
 ghost use Rattle.t_intern.specs.Grown.{Grown};
 ghost use Rattle.t_intern.specs.Nodes.{at, regs_at, RegsBelow};
-ghost use Rattle.t_registers.specs.Known.{known, IsSound};
+ghost use Rattle.t_known.specs.Known.{known, IsSound};
 ghost use Rattle.t_check.specs.Verdict.{IsRegFit, IsFileFit};
 
 use idx_core::Span;
 use t_intern::Types;
-use t_mismatch::{Odds, Refusal, at_odds};
-use t_registers::{Registers, code_parts};
+use t_known::{Odds, Refusal, Registers, at_odds, code_parts};
 use t_terms::TCode;
 
 // Whether each register of the code's file is known, by a type that fits.

@@ -15,8 +15,7 @@ ghost use Rattle.t_check.specs.Verdict.{IsPacked};
 use crate::checker::Checker;
 use idx_core::{OutOfMemory, Span};
 use t_intern::{Shape, Types};
-use t_mismatch::{Odds, Refusal, at_odds, refused};
-use t_registers::{code_parts, exists_body, intern, owed};
+use t_known::{Odds, Refusal, at_odds, code_parts, exists_body, intern, owed, refused};
 use t_terms::{Base, TCode, Value};
 use t_types::TType;
 

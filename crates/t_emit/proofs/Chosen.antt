@@ -14,7 +14,7 @@ use Rattle.a_terms.specs.Tree as a
 use Rattle.a_scope.specs.Scope.{shown, scope, homes}
 use Rattle.a_scope.specs.declared.scope.Entry.{Entry}
 use Rattle.a_scope.proofs.Scopes.{var_in, var_out}
-use Rattle.gen_law.specs.Gen.{ty, place, insert, header}
+use Rattle.t_gen_rules.specs.Gen.{ty, place, insert, header}
 use Rattle.t_emit.specs.Code.{Listed, with_type, chosen}
 use Rattle.t_emit.proofs.Emitted.{home_in}
 

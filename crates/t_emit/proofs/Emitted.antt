@@ -5,8 +5,8 @@ use Rattle.std.specs.Prelude.{Bool, ◌||◌, cond}
 use Rattle.t_types.specs.Tree.{Ty}
 use Rattle.std.proofs.lemmas.List.{drop_more}
 use Rattle.t_terms.specs.Tree.{TValue, TSeq}
-use Rattle.gen_law.specs.Gen.{place, small, unnest, instead, free, owner, reads, later}
-use Rattle.gen_law.specs.Gen.{call_code, constant}
+use Rattle.t_gen_rules.specs.Gen.{place, small, unnest, instead, free, owner, reads, later}
+use Rattle.t_gen_rules.specs.Gen.{call_code, constant}
 use Rattle.a_terms.specs.Tree as a
 use Rattle.a_terms.specs.NodeTrees.{wrap, wrapped, a_value, a_values}
 use Rattle.a_terms.specs.Row.{others}

@@ -3,7 +3,7 @@ use Rattle.std.proofs.Common.{◌≡◌, ℕ, suc, List, [], ◌∷◌, ◌++◌
 use Rattle.t_types.specs.Read.{tree}
 use Rattle.t_types.specs.declared.types.TType.{TType}
 use Rattle.t_types.specs.declared.types.TType.TheVariants.{Var}
-use Rattle.gen_law.specs.Gen.{tvars}
+use Rattle.t_gen_rules.specs.Gen.{tvars}
 
 pub names_step : (xs : List TType) (n m : ℕ) → n ≡ suc m → map tree (xs ++ Var m ∷ []) ++ tvars m ≡ map tree xs
     ++ tvars n

@@ -14,7 +14,7 @@ use Rattle.a_terms.specs.declared.types.AType.{AType}
 use Rattle.a_terms.specs.declared.nodes.AValue.{AValue}
 use Rattle.a_terms.specs.declared.nodes.AData.{AData}
 use Rattle.a_terms.specs.ReadLaws.{took}
-use Rattle.gen_law.specs.Gen.{ty, constant, data_of, generated_heap}
+use Rattle.t_gen_rules.specs.Gen.{ty, constant, data_of, generated_heap}
 
 fields_snoc : (xs : List (Value × TType × Span)) (x : Value × TType × Span) →
     plain_fields (data_fields (xs ++ x ∷ [])) ≡ plain_fields (data_fields xs)

@@ -4,7 +4,7 @@ use Rattle.std.proofs.Common.{get_or, ◌≤◌, zero, suc, arith}
 use Rattle.t_types.specs.Tree.{TFile, NoRegs, MoreRegs, TFields, NoFields, MoreFields, Ty}
 use Rattle.t_types.specs.Read.{tree, file, fields, types}
 use Rattle.t_types.specs.declared.types.TType.{TType}
-use Rattle.gen_law.specs.Gen.{ty, tys, ty_args, ty_fields}
+use Rattle.t_gen_rules.specs.Gen.{ty, tys, ty_args, ty_fields}
 use Rattle.a_terms.specs.Tree as a
 use Rattle.a_terms.specs.Tree.{arity}
 use Rattle.a_terms.specs.Read.{atree, atrees, afields}

@@ -14,7 +14,7 @@ use Rattle.a_terms.specs.declared.nodes.AWrap.{AWrap}
 use Rattle.a_terms.specs.declared.nodes.AWrap.TheVariants.{Apply, Pack}
 use Rattle.a_scope.specs.Scope.{homes}
 use Rattle.a_scope.specs.declared.scope.Entry.{Entry}
-use Rattle.gen_law.specs.Gen.{ty, tys, applied_to, inside, boxed, place, insert, instead, uses, used}
+use Rattle.t_gen_rules.specs.Gen.{ty, tys, applied_to, inside, boxed, place, insert, instead, uses, used}
 
 -- the instructions of a body, without their places, in front of the rest
 abbrev pub onto : List (Instr × Span) → TSeq → TSeq

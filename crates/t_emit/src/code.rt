@@ -2,7 +2,7 @@
 ghost use Rattle.std.specs.Prelude.{◌≡◌, [], OnOk, IfOk};
 ghost use Rattle.t_terms.specs.Tree.{TSeq, Then, Plain};
 ghost use Rattle.t_terms.specs.Read.{instr as instr_tree, value as value_tree, base as base_tree};
-ghost use Rattle.gen_law.specs.Gen.{inside, boxed as boxed_code, move as move_code, home, settle};
+ghost use Rattle.t_gen_rules.specs.Gen.{inside, boxed as boxed_code, move as move_code, home, settle};
 ghost use Rattle.t_emit.specs.Code.{Grows, bare as bare_register};
 
 use idx_core::{OutOfMemory, Span};

@@ -5,7 +5,7 @@ ghost use Rattle.t_terms.specs.Spanned.{plain_fields};
 ghost use Rattle.t_terms.specs.Read.{value as value_tree, data_fields, data_of as data_trees};
 ghost use Rattle.a_terms.specs.Read.{atrees};
 ghost use Rattle.a_terms.specs.NodeTrees.{base as base_tree, a_value, a_consts, a_data};
-ghost use Rattle.gen_law.specs.Gen.{tys, applied_to, constant, data_of, generated_heap};
+ghost use Rattle.t_gen_rules.specs.Gen.{tys, applied_to, constant, data_of, generated_heap};
 ghost use Rattle.t_emit.specs.Code.{wrap_constant};
 
 use crate::code::{NOWHERE, plain};

@@ -2,8 +2,8 @@
 ghost use Rattle.std.specs.Prelude.{◌≡◌, ℕ, true, Bool, Option, OnOk, IfOk};
 ghost use Rattle.t_terms.specs.Tree.{TSeq};
 ghost use Rattle.t_emit.specs.Code.{Grows, bare_var, both_used, both_names, kept};
-ghost use Rattle.gen_law.specs.Gen.{free as the_free, owner as the_owner, target as the_target, spare as the_spare};
-ghost use Rattle.gen_law.specs.Gen.{decl_code};
+ghost use Rattle.t_gen_rules.specs.Gen.{free as the_free, owner as the_owner, target as the_target, spare as the_spare};
+ghost use Rattle.t_gen_rules.specs.Gen.{decl_code};
 ghost use Rattle.a_terms.specs.NodeTrees.{a_value, a_values, is_decl, a_decl};
 ghost use Rattle.a_terms.specs.Tree.{ATm, Value as TheValue, Proj, Arith, Unpack, Init};
 ghost use Rattle.a_terms.specs.Arity.{AArity};

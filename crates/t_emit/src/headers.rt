@@ -5,7 +5,7 @@ ghost use Rattle.t_terms.specs.Tree.{TSeq, Then, Bnz, Plain, Label};
 ghost use Rattle.t_terms.specs.Read.{blocks_of};
 ghost use Rattle.t_emit.specs.Code.{Grows, Listed, chosen, with_type};
 ghost use Rattle.t_emit.specs.Code.{reserved};
-ghost use Rattle.gen_law.specs.Gen.{ty, place, insert, test_code, tvars, header as the_header};
+ghost use Rattle.t_gen_rules.specs.Gen.{ty, place, insert, test_code, tvars, header as the_header};
 ghost use Rattle.a_terms.specs.NodeTrees.{a_value};
 ghost use Rattle.a_scope.specs.Scope.{shown, scope, homes};
 

@@ -2,7 +2,7 @@
 ghost use Rattle.std.specs.Prelude.{◌≡◌, ◌++◌, IfOk};
 ghost use Rattle.t_types.specs.Read.{tree, file, fields as field_trees, types as type_trees};
 ghost use Rattle.a_terms.specs.Read.{atree, atrees, afields};
-ghost use Rattle.gen_law.specs.Gen.{ty, tys, ty_args, ty_fields};
+ghost use Rattle.t_gen_rules.specs.Gen.{ty, tys, ty_args, ty_fields};
 
 use a_terms::AType;
 use idx_core::OutOfMemory;

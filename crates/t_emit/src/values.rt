@@ -3,7 +3,7 @@ ghost use Rattle.std.specs.Prelude.{◌≡◌, ℕ, suc, IfOk, OnOk};
 ghost use Rattle.t_terms.specs.Tree.{TSeq};
 ghost use Rattle.t_terms.specs.Read.{value as value_tree};
 ghost use Rattle.t_emit.specs.Code.{Grows, wrap_small, wrap_boxed, seen, places};
-ghost use Rattle.gen_law.specs.Gen.{place, small, unnest, instead, home, settle, move};
+ghost use Rattle.t_gen_rules.specs.Gen.{place, small, unnest, instead, home, settle, move};
 ghost use Rattle.a_terms.specs.NodeTrees.{base as base_tree, a_value};
 ghost use Rattle.a_scope.specs.Scope.{homes};
 

@@ -7,9 +7,9 @@ use Rattle.t_terms.specs.Tree.{TBlock}
 use Rattle.t_gen.specs.Filling.{Job, finish, reserves, jobs}
 use Rattle.t_emit.specs.Code.{fill, reserved}
 use Rattle.t_gen.proofs.Filled.{fill_length, generated_is}
-use Rattle.gen_law.specs.Gen.{code, extras, rows, generated_blocks, ty_args}
+use Rattle.t_gen_rules.specs.Gen.{code, extras, rows, generated_blocks, ty_args}
 use Rattle.a_terms.specs.Bound.{thirds}
-use Rattle.gen_law.specs.GenLaws.{length_extras}
+use Rattle.t_gen_laws.specs.GenLaws.{length_extras}
 use Rattle.a_terms.specs.Tree as a
 use Rattle.a_terms.specs.Tree.{arity}
 use Rattle.a_terms.specs.Typing.{types_of}
@@ -24,7 +24,7 @@ use Rattle.a_scope.specs.Scope.{shown, scope, homes}
 use Rattle.a_scope.specs.declared.scope.Entry.{Entry}
 use Rattle.a_scope.proofs.Scopes.{scope_snoc, homes_snoc, length_homes, length_blocks as length_a_blocks}
 use Rattle.t_gen.specs.Pending.{body_job}
-use Rattle.gen_law.proofs.Covers.{length_rows}
+use Rattle.t_gen_laws.proofs.Covers.{length_rows}
 use Rattle.t_emit.proofs.Written.{arity_take}
 
 -- one body, and then others

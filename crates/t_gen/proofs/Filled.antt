@@ -5,8 +5,8 @@ use Rattle.t_types.specs.Tree.{NoRegs}
 use Rattle.t_terms.specs.Tree.{TSeq, TBlock}
 use Rattle.a_terms.specs.Tree.{ATy, AVal, ATm, Let, Call, If0, Halt, ABlk, AProg, arity}
 use Rattle.a_terms.specs.Typing.{declared, more_vars, types_of}
-use Rattle.gen_law.specs.Gen.{used, over, target, decl_code, test_code, code, header, block, extras, rows, firsts}
-use Rattle.gen_law.specs.Gen.{seconds, ty_args, generated_blocks}
+use Rattle.t_gen_rules.specs.Gen.{used, over, target, decl_code, test_code, code, header, block, extras, rows, firsts}
+use Rattle.t_gen_rules.specs.Gen.{seconds, ty_args, generated_blocks}
 use Rattle.a_terms.specs.Bound.{thirds}
 use Rattle.t_emit.specs.Code.{reserved, coded, fill}
 use Rattle.t_gen.specs.Filling.{Job, finish, finish_from, reserves, jobs}

@@ -5,13 +5,13 @@ use Rattle.std.specs.Prelude.{Bool, true, false, ◌&&◌, ◌||◌, ◌==◌, n
 use Rattle.std.proofs.lemmas.Bool.{eq-eqb, eqb-true, or_left, or_right, or_cases, and_from, and_parts, cases_lt}
 use Rattle.std.proofs.lemmas.Bool.{not-true as not_true}
 use Rattle.a_terms.specs.Tree as a
-use Rattle.a_uses.specs.Uses.{Listed, mem, Ending}
-use Rattle.a_uses.specs.declared.told.Ahead.{Ahead}
-use Rattle.a_uses.proofs.Sets.{or_none, listed_mem, or_more}
-use Rattle.gen_law.specs.Gen.{place, top, busy, picked, free, uses, uses_decl, used, target, rows}
-use Rattle.gen_law.specs.Registers.{Own}
-use Rattle.gen_law.proofs.Free.{busy_place, busy_found}
-use Rattle.gen_law.proofs.Own.{own_fewer, own_next, top_is}
+use Rattle.t_gen.specs.Uses.{Listed, mem, Ending}
+use Rattle.t_gen.specs.declared.told.Ahead.{Ahead}
+use Rattle.t_gen.proofs.Sets.{or_none, listed_mem, or_more}
+use Rattle.t_gen_rules.specs.Gen.{place, top, busy, picked, free, uses, uses_decl, used, target, rows}
+use Rattle.t_gen_laws.specs.Registers.{Own}
+use Rattle.t_gen_laws.proofs.Free.{busy_place, busy_found}
+use Rattle.t_gen_laws.proofs.Own.{own_fewer, own_next, top_is}
 use Rattle.t_emit.specs.Code.{kept}
 use Rattle.t_gen.specs.Registers.{Holds, Greatest}
 use Rattle.a_terms.specs.Row.{top as top_of, others}
@@ -21,7 +21,7 @@ use Rattle.t_gen.specs.Keeps.{Keeps, among, each, stores}
 use Rattle.t_gen.specs.declared.registers.Registers.{Registers}
 use Rattle.t_gen.proofs.Gapped.{gaps_same}
 use Rattle.idx_core.proofs.Bools.{either as bool_cases}
-use Rattle.a_uses.proofs.Telling.{or_swap}
+use Rattle.t_gen.proofs.Telling.{or_swap}
 
 not_both : {x : Bool} → x ≡ true → x ≡ false → ⊥
 not_both y z = cc

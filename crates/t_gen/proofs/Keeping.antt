@@ -4,7 +4,7 @@ use Rattle.std.proofs.Common.{◌∙◌, subst, arith}
 use Rattle.t_terms.specs.Tree.{TSeq, TBlock}
 use Rattle.t_emit.specs.Code.{onto}
 use Rattle.t_gen.specs.Filling.{Job, finish, finish_from}
-use Rattle.gen_law.specs.Gen.{used, code, extras}
+use Rattle.t_gen_rules.specs.Gen.{used, code, extras}
 use Rattle.a_terms.specs.Bound.{thirds}
 use Rattle.t_emit.specs.Code.{fill}
 use Rattle.a_terms.specs.Tree as a

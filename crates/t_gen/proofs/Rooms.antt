@@ -3,8 +3,8 @@ use Rattle.std.proofs.Common.{◌≡◌, ℕ, zero, suc, ◌+◌, ◌<◌, ◌�
 use Rattle.std.proofs.Common.{◌∙◌, arith, ⊎_elim}
 use Rattle.std.specs.Prelude.{Bool, true, false, ◌&&◌, ◌||◌, ◌==◌, ◌^◌, not}
 use Rattle.std.proofs.lemmas.Bool.{ne_eqb, eqb-true}
-use Rattle.a_uses.specs.Uses.{mem}
-use Rattle.gen_law.specs.Gen.{busy}
+use Rattle.t_gen.specs.Uses.{mem}
+use Rattle.t_gen_rules.specs.Gen.{busy}
 use Rattle.t_gen.specs.Registers.{Holds, Room}
 use Rattle.t_gen.specs.declared.registers.Registers.{Registers}
 use Rattle.t_gen.proofs.Gapped.{clash}

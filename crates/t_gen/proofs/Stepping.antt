@@ -11,7 +11,7 @@ use Rattle.t_emit.specs.Code.{onto}
 use Rattle.t_gen.specs.Filling.{Job, finish, finish_from}
 use Rattle.t_emit.specs.Code.{fill, reserved}
 use Rattle.t_gen.proofs.Filled.{let_step, if0_step, fill_length}
-use Rattle.gen_law.specs.Gen.{used, over, target, decl_code, test_code, code, header}
+use Rattle.t_gen_rules.specs.Gen.{used, over, target, decl_code, test_code, code, header}
 use Rattle.a_terms.specs.Tree as a
 use Rattle.a_terms.specs.Typing.{declared, more_vars}
 use Rattle.a_terms.specs.Row.{top, others}
@@ -23,8 +23,8 @@ use Rattle.a_terms.specs.declared.nodes.AForm.TheVariants.{Value, Proj, Arith, U
 use Rattle.a_scope.specs.Scope.{scope, homes, Under}
 use Rattle.a_scope.specs.declared.scope.Entry.{Entry}
 use Rattle.a_scope.proofs.Scopes.{homes_snoc}
-use Rattle.a_uses.specs.Uses.{Tells, Ending}
-use Rattle.a_uses.specs.declared.told.Ahead.{Ahead}
+use Rattle.t_gen.specs.Uses.{Tells, Ending}
+use Rattle.t_gen.specs.declared.told.Ahead.{Ahead}
 use Rattle.t_gen.specs.declared.state.Place.{Place}
 use Rattle.t_gen.specs.Pending.{tops, job, jobs_at, pend, Fit, KeepsAll, Stepped}
 use Rattle.t_gen.specs.Keeps.{Keeps}

@@ -21,7 +21,7 @@ use Rattle.a_scope.specs.declared.scope.Entry.{Entry}
 use Rattle.t_gen.specs.declared.state.Place.{Place}
 use Rattle.t_gen.specs.Pending.{tops, body_job, pend, Fit, KeepsAll, Stepped}
 use Rattle.t_gen.specs.Keeps.{Keeps}
-use Rattle.gen_law.specs.Gen.{used}
+use Rattle.t_gen_rules.specs.Gen.{used}
 use Rattle.t_gen.proofs.Keeping.{whole, tops_push, fit_cut, count_cut, keeps_cut, pend_cut}
 
 -- what the loop keeps: with what is left of the nodes, the whole comes out

@@ -8,8 +8,8 @@ use Rattle.t_terms.specs.declared.block.Block.{Block}
 use Rattle.t_terms.specs.declared.data.Data.{Data}
 use Rattle.a_terms.specs.Tree.{ATm, AConsts, AProg}
 use Rattle.a_terms.specs.Bound.{ABound}
-use Rattle.gen_law.specs.Gen.{generated_blocks, generated_heap, generated}
-use Rattle.gen_law.specs.Laws.{InvariantKept}
+use Rattle.t_gen_rules.specs.Gen.{generated_blocks, generated_heap, generated}
+use Rattle.t_gen_laws.specs.Laws.{InvariantKept}
 
 pub both : (p : AProg) (main tree : ATm) (xs : List AConsts) (bs : List Block) (ds : List Data) →
     blocks_of bs ≡ generated_blocks p tree → tree ≡ main → data_of ds ≡ generated_heap xs → xs ≡ p.tuples →

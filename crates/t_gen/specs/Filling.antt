@@ -3,7 +3,7 @@ use Rattle.std.specs.Prelude.{ℕ, suc, ◌+◌, ◌++◌, List, [], ◌∷◌}
 use Rattle.t_terms.specs.Tree.{TSeq, TBlock}
 use Rattle.a_terms.specs.Tree.{ATy, ATm, ABlk, AProg, arity}
 use Rattle.a_terms.specs.Typing.{types_of}
-use Rattle.gen_law.specs.Gen.{ty_args, code, extras, rows}
+use Rattle.t_gen_rules.specs.Gen.{ty_args, code, extras, rows}
 use Rattle.a_terms.specs.Bound.{thirds}
 use Rattle.t_emit.specs.Code.{reserved, fill}
 

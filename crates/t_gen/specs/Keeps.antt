@@ -1,8 +1,8 @@
 -- The registers of the variables that a term uses.
 use Rattle.std.specs.Prelude.{ℕ, ◌==◌, ◌&&◌, ◌||◌, List, [], ◌∷◌, Bool, true, false, Option, Some, None}
 use Rattle.a_terms.specs.Tree as a
-use Rattle.gen_law.specs.Gen.{place, busy, uses}
-use Rattle.gen_law.specs.Registers.{Own}
+use Rattle.t_gen_rules.specs.Gen.{place, busy, uses}
+use Rattle.t_gen_laws.specs.Registers.{Own}
 use Rattle.t_gen.specs.Registers.{Holds}
 use Rattle.t_gen.specs.declared.registers.Registers.{Registers}
 

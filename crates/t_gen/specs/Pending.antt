@@ -10,13 +10,13 @@ use Rattle.t_gen.specs.Filling.{Job, finish_from}
 use Rattle.a_terms.specs.Tree as a
 use Rattle.a_terms.specs.Row.{top, others}
 use Rattle.a_terms.specs.NodeTrees.{no_term, a_tree}
-use Rattle.term_core.specs.Ends.{lift}
+use Rattle.calc_core.specs.Ends.{lift}
 use Rattle.a_terms.specs.declared.nodes.ANode.{ANode}
 use Rattle.a_scope.specs.Scope.{scope, homes, Under}
 use Rattle.a_scope.specs.declared.scope.Entry.{Entry}
-use Rattle.a_uses.specs.Uses.{Listed, mem}
-use Rattle.a_uses.specs.declared.told.Ahead.{Ahead}
-use Rattle.gen_law.specs.Gen.{used, uses}
+use Rattle.t_gen.specs.Uses.{Listed, mem}
+use Rattle.t_gen.specs.declared.told.Ahead.{Ahead}
+use Rattle.t_gen_rules.specs.Gen.{used, uses}
 use Rattle.t_gen.specs.Keeps.{Keeps}
 use Rattle.t_gen.specs.declared.state.Place.{Place}
 

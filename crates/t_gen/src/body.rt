@@ -8,15 +8,15 @@ ghost use Rattle.a_terms.specs.Program.{program_in};
 ghost use Rattle.a_terms.specs.Arity.{ARow};
 ghost use Rattle.a_scope.specs.Scope.{scope, homes, Under};
 ghost use Rattle.a_terms.specs.Tree.{arity};
-ghost use Rattle.gen_law.specs.Gen.{rows};
+ghost use Rattle.t_gen_rules.specs.Gen.{rows};
 ghost use Rattle.t_gen.specs.Pending.{body_job};
 
 use crate::choosing::registers_of;
 use crate::state::{Place, Walk};
 use crate::step::step;
+use crate::{Aheads, look_ahead};
 use a_scope::{Entry, noted_lent, placed};
 use a_terms::{ANode, AProgram, AType};
-use a_uses::{Aheads, look_ahead};
 use idx_core::OutOfMemory;
 use std::alloc::Global;
 use t_terms::Block;

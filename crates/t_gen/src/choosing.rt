@@ -4,15 +4,15 @@ ghost use Rattle.a_terms.specs.Tree.{ATm, Let};
 ghost use Rattle.a_terms.specs.NodeTrees.{a_value, a_values, a_decl, is_decl};
 ghost use Rattle.a_terms.specs.Arity.{AArity};
 ghost use Rattle.a_scope.specs.Scope.{homes};
-ghost use Rattle.a_uses.specs.Uses.{Ending};
-ghost use Rattle.gen_law.specs.Gen.{place, top as the_top, used, uses, target as the_target};
+ghost use Rattle.t_gen.specs.Uses.{Ending};
+ghost use Rattle.t_gen_rules.specs.Gen.{place, top as the_top, used, uses, target as the_target};
 ghost use Rattle.t_gen.specs.Keeps.{Keeps, among, each, is_one, stores};
 ghost use Rattle.t_gen.specs.Registers.{Holds};
 
+use crate::Ahead;
 use crate::registers::Registers;
 use a_scope::{Entry, second};
 use a_terms::{ABase, AForm, AValue};
-use a_uses::Ahead;
 use idx_core::OutOfMemory;
 use std::alloc::Global;
 use t_emit::decls::target;

@@ -3,10 +3,10 @@ ghost use Rattle.std.specs.Prelude.{◌≡◌, IfOk};
 ghost use Rattle.t_terms.specs.ReadProgram.{program as program_tree};
 ghost use Rattle.t_rules.specs.Rules.{Accepted};
 ghost use Rattle.a_terms.specs.Program.{program_in, main_in};
-ghost use Rattle.gen_law.specs.Gen.{generated};
-ghost use Rattle.gen_law.specs.Correct.{Keeps};
+ghost use Rattle.t_gen_rules.specs.Gen.{generated};
+ghost use Rattle.t_gen_laws.specs.Correct.{Keeps};
 ghost use Rattle.t_terms.specs.Flat.{Flat};
-ghost use Rattle.gen_law.specs.TypesEach.{TypesEach, TWithin};
+ghost use Rattle.t_gen_laws.specs.TypesEach.{TypesEach, TWithin};
 
 use crate::program::all_blocks;
 use a_terms::AProgram;
@@ -19,7 +19,7 @@ use t_terms::TProgram;
 fn whole_program(alloc: Global, program: &AProgram) -> Result<TProgram, OutOfMemory>
     ensures { IfOk result (λ r. program_tree r ≡ generated (program_in program.now) (main_in program.now)) }
 {
-    gen_law::invariant_is_kept();
+    t_gen_laws::invariant_is_kept();
     let blocks = all_blocks(alloc, program, program.blocks(), program.main())?;
     let heap = all_data(alloc, program.data())?;
     Ok(TProgram { blocks, heap })
@@ -36,10 +36,10 @@ pub fn generate(alloc: Global, program: &AProgram) -> Result<TProgram, OutOfMemo
     ensures within { IfOk result (λ r. ∥ TypesEach (TWithin 70368744177664 1606 140737488355328) (program_tree r) ∥₁) }
     ensures keeps { IfOk result (λ r. ∥ Keeps (program_in program.now) (main_in program.now) (program_tree r) ∥₁) }
 {
-    gen_law::types_are_kept();
-    gen_law::packs_are_flat();
-    gen_law::types_stay_within();
-    gen_law::meaning_is_kept();
+    t_gen_laws::types_are_kept();
+    t_gen_laws::packs_are_flat();
+    t_gen_laws::types_stay_within();
+    t_gen_laws::meaning_is_kept();
     let made = whole_program(alloc, program)?;
     Ok(made)
 }

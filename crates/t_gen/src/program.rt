@@ -5,7 +5,7 @@ ghost use Rattle.t_terms.specs.Read.{blocks_of};
 ghost use Rattle.a_terms.specs.Arity.{ARow, ARows};
 ghost use Rattle.a_terms.specs.NodeTrees.{a_blocks, a_tree};
 ghost use Rattle.a_terms.specs.Program.{program_in};
-ghost use Rattle.gen_law.specs.Gen.{generated_blocks};
+ghost use Rattle.t_gen_rules.specs.Gen.{generated_blocks};
 ghost use Rattle.t_emit.specs.Code.{reserved};
 ghost use Rattle.t_gen.specs.Filling.{finish, reserves, jobs};
 

@@ -4,7 +4,7 @@ ghost use Rattle.std.specs.Prelude.{Some, List};
 ghost use Rattle.std.specs.Prelude.{IfOk, OnOk, IfSome, IfNone};
 ghost use Rattle.std.specs.Ordering.{nat_cmp};
 ghost use Rattle.std.specs.BTreeMap.{get};
-ghost use Rattle.gen_law.specs.Gen.{busy, picked};
+ghost use Rattle.t_gen_rules.specs.Gen.{busy, picked};
 ghost use Rattle.t_gen.specs.Registers.{Holds, Gaps, Besides, Greatest, Least, Room};
 
 use idx_core::OutOfMemory;

@@ -9,15 +9,15 @@ ghost use Rattle.a_terms.specs.Arity.{a_kids, AArity};
 ghost use Rattle.a_terms.specs.Row.{IsOne, IsSome, top, others};
 ghost use Rattle.a_terms.specs.Program.{program_in};
 ghost use Rattle.a_scope.specs.Scope.{homes};
-ghost use Rattle.a_uses.specs.Uses.{Ending, Tells};
+ghost use Rattle.t_gen.specs.Uses.{Ending, Tells};
 ghost use Rattle.t_gen.specs.Keeps.{Keeps};
 ghost use Rattle.t_gen.specs.Pending.{tops, Fit, KeepsAll, Parting, Ready, Stepped};
 
+use crate::Ahead;
 use crate::choosing::{above, choose, registers_of, release_all};
 use crate::state::{Place, Walk, close_block, declares};
 use a_scope::{declare, first};
 use a_terms::{AForm, ANode, AProgram, AType, AValue};
-use a_uses::Ahead;
 use idx_core::OutOfMemory;
 use std::alloc::Global;
 use t_emit::calls::emit_call;

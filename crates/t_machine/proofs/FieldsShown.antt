@@ -11,7 +11,7 @@ use Rattle.t_terms.specs.declared.shown.Shown.{Shown}
 use Rattle.t_terms.specs.Tree.{TProg}
 use Rattle.t_rules.specs.Machine.{State, Place, Spot, After}
 use Rattle.t_rules.specs.Erase.{EWord, EHeap, erase}
-use Rattle.keep_law.specs.Kept.{numbered}
+use Rattle.t_collect.specs.Kept.{numbered}
 use Rattle.t_collect.specs.declared.word.Word.{Word}
 use Rattle.t_collect.specs.declared.word.Word.TheVariants.{Int, Address, Label, Empty}
 use Rattle.t_machine.specs.Heap.{IsHeap}

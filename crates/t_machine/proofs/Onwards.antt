@@ -10,12 +10,12 @@ use Rattle.idx_core.specs.declared.arith.Op.{Op}
 use Rattle.idx_core.specs.Arith.{compute, is_zero}
 use Rattle.t_terms.specs.Tree.{TBase}
 use Rattle.t_terms.specs.Tree as tree
-use Rattle.t_rules.specs.Registers.{with_reg}
+use Rattle.t_terms.specs.Registers.{with_reg}
 use Rattle.t_rules.specs.Machine.{Where, Next, Into}
 use Rattle.t_rules.specs.Erase.{EWord, EInt, EAddress, ELabel, EEmpty, EInstr, EArith, EBnz, ELd, EMalloc, EMov, ESt}
 use Rattle.t_rules.specs.Erase.{ESeq, EThen, EHeap, ERegs, EAt, EStep, EGoes, base_word, on_int, on_address, on_label}
 use Rattle.t_rules.specs.Erase.{on_full, enter, estep}
-use Rattle.keep_law.specs.Kept.{next_numbers, next_made}
+use Rattle.t_collect.specs.Kept.{next_numbers, next_made}
 use Rattle.t_machine.specs.Numbers.{numbers, made}
 use Rattle.t_machine.specs.Places.{PlaceList, place_of, ArePlaces}
 use Rattle.t_collect.specs.Words.{address_of}

@@ -18,7 +18,7 @@ use Rattle.t_machine.specs.Words.{held, shown_word, regs_of as held_in}
 use Rattle.t_machine.specs.Laid.{size, sizes, begins, Within}
 use Rattle.t_machine.specs.State.{Shows, ShowsSome}
 use Rattle.t_machine.specs.Runs.{IsPlaceAfter, IsRegAfter}
-use Rattle.keep_law.specs.Kept.{numbered}
+use Rattle.t_collect.specs.Kept.{numbered}
 use Rattle.t_collect.specs.Tuples.{starts_from, PointsBelow}
 use Rattle.t_machine.specs.Heap.{Started}
 use Rattle.t_machine.specs.Numbers.{numbers, made}

@@ -8,7 +8,7 @@ use Rattle.std.proofs.lemmas.Bool.Decides.{nat_tests}
 use Rattle.std.specs.Prelude.{ℤ}
 use Rattle.t_terms.specs.Tree.{TBase}
 use Rattle.t_terms.specs.Tree as tree
-use Rattle.t_rules.specs.Registers.{with_reg}
+use Rattle.t_terms.specs.Registers.{with_reg}
 use Rattle.t_rules.specs.Erase.{EWord, EInt, EAddress, ELabel, EEmpty, base_word}
 use Rattle.t_rules.specs.Erase.{no_ewords}
 use Rattle.t_machine.specs.Places.{PlaceList, place_of, ArePlaces}

@@ -3,7 +3,7 @@ use Rattle.std.proofs.Common.{◌≡◌, ℕ, zero, suc, ◌+◌, ◌≤◌, [],
 use Rattle.std.proofs.Common.{◌⊎◌, ⊎_elim, slice_get}
 use Rattle.t_types.specs.Tree.{IntTy, NoRegs}
 use Rattle.t_terms.specs.Tree.{Label, Plain, Malloc, Jmp, TSeq, Then, Ends, TBlock, TProg}
-use Rattle.t_rules.specs.Registers.{inst_seq}
+use Rattle.t_terms.specs.Registers.{inst_seq}
 use Rattle.t_rules.specs.Machine.{LabelWord, Heap, RegWords, State, At, Where, Place, Step, After, start_heap, no_words}
 use Rattle.t_collect.specs.Words.{address_of, tuple_of, start_of}
 use Rattle.t_machine.specs.Room.{asked_next, tuples_wanted, fields_wanted, tuples_made, fields_made, Covers}

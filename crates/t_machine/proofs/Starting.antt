@@ -17,7 +17,7 @@ use Rattle.t_machine.specs.ProgramLaws.{ProgramLaws}
 use Rattle.t_machine.specs.Places.{ArePlaces}
 use Rattle.t_machine.specs.Words.{word, regs_of}
 use Rattle.t_collect.specs.Words.{tuple_of}
-use Rattle.keep_law.specs.Kept.{numbered, WordBelow, Keeps}
+use Rattle.t_collect.specs.Kept.{numbered, WordBelow, Keeps}
 use Rattle.std.specs.List.{All}
 use Rattle.std.specs.Prelude.{option_map, slice_index}
 use Rattle.std.proofs.lemmas.List.{length-map}

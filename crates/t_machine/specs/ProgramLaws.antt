@@ -1,8 +1,8 @@
 -- The laws of programs and of their erasure that the machine stands on.
 use Rattle.t_rules.specs.LawsSound.{NeverStuck, OneRun, HaltingIsLast, OneAnswer}
 use Rattle.t_rules.specs.LawsErased.{ErasedStarts, StandsAt, ErasedGoes, ErasedNext, ErasedHaltsAlike}
-use Rattle.keep_law.specs.Kept.{KeptFollows}
-use Rattle.keep_law.specs.Dropped.{KeptDrops}
+use Rattle.t_collect.specs.Kept.{KeptFollows}
+use Rattle.t_collect.specs.Dropped.{KeptDrops}
 
 pub record ProgramLaws : Type 0 where
   pub stuck : NeverStuck

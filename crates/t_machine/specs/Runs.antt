@@ -10,7 +10,7 @@ use Rattle.t_rules.specs.LawsSound.{regs_of}
 use Rattle.t_rules.specs.Erase.{EWord, EInt, EAddress, ELabel, EEmpty, EHeap, ERegs, EState, EAt, erase, erase_regs}
 use Rattle.t_machine.specs.Words.{shown_word, regs_of as held_in}
 use Rattle.t_machine.specs.State.{Shows}
-use Rattle.keep_law.specs.Kept.{numbered}
+use Rattle.t_collect.specs.Kept.{numbered}
 use Rattle.t_machine.specs.Numbers.{numbers}
 use Rattle.t_machine.specs.declared.machine.Machine.{Machine}
 use Rattle.t_machine.specs.declared.machine.Ran.{Ran}

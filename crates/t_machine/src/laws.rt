@@ -6,7 +6,7 @@ ghost use Rattle.t_machine.specs.Runs.{HaltedExactly, SpentExactly, FirstRuns};
 ghost use Rattle.t_machine.specs.Seldom.{SeldomRunsAreCovered};
 ghost use Rattle.t_machine.specs.Tables.{FirstCounts};
 
-use keep_law::{kept_states_drop, kept_states_follow};
+use t_collect::{kept_states_drop, kept_states_follow};
 use t_rules::{
     accepted_programs_are_never_stuck, erased_code_stands_at_its_place, erased_machine_starts,
     erased_states_go_on, erased_states_halt_alike, runs_are_unique, runs_weigh_within_times,

@@ -10,8 +10,8 @@ use Rattle.t_text.specs.Raw.{raw_regs}
 use Rattle.t_terms.specs.Read as read
 use Rattle.t_text.specs.Names.{Labels, bind, file_of, body_of, end_of, block_of, names_after_all}
 use Rattle.t_text.specs.NameFaults.{regs_faults, body_faults, end_faults, block_faults}
-use Rattle.t_grammar.specs.declared.raw.RawType.{RawType}
-use Rattle.t_grammar.specs.Raw.{raw_reg}
+use Rattle.t_shapes.specs.declared.raw_types.RawType.{RawType}
+use Rattle.t_shapes.specs.RawTypes.{raw_reg}
 use Rattle.t_shapes.specs.declared.raw.RawInstr.{RawInstr}
 use Rattle.t_shapes.specs.declared.raw.RawBlock.{RawBlock}
 use Rattle.t_shapes.specs.Raw.{raw_step, raw_end, raw_block}

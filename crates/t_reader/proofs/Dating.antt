@@ -11,7 +11,7 @@ use Rattle.t_terms.specs.Spanned.{SDatum}
 use Rattle.t_terms.specs.Read as read
 use Rattle.t_text.specs.Names.{Labels, datum_of, data_of}
 use Rattle.t_text.specs.NameFaults.{value_faults, type_faults, datum_faults, data_faults}
-use Rattle.t_grammar.specs.Raw.{raw}
+use Rattle.t_shapes.specs.RawTypes.{raw}
 use Rattle.t_shapes.specs.declared.raw.RawDatum.{RawDatum}
 use Rattle.t_shapes.specs.declared.raw.RawData.{RawData}
 use Rattle.t_shapes.specs.Raw.{raw_value, raw_datum, raw_data}

@@ -17,8 +17,8 @@ use Rattle.t_types.specs.Read.{tree, file}
 use Rattle.t_text.specs.Raw.{raw_regs}
 use Rattle.t_text.specs.Names.{insert_reg, file_of, type_of}
 use Rattle.t_text.specs.NameFaults.{regs_faults, type_faults}
-use Rattle.t_grammar.specs.declared.raw.RawType.{RawType}
-use Rattle.t_grammar.specs.Raw.{raw, raw_reg}
+use Rattle.t_shapes.specs.declared.raw_types.RawType.{RawType}
+use Rattle.t_shapes.specs.RawTypes.{raw, raw_reg}
 use Rattle.t_terms.specs.declared.fault.TCode.TheVariants.{T07}
 use Rattle.t_reader.specs.Resolve.{StopsAt, has}
 use Rattle.t_terms.specs.declared.fault.TFault.{TFault}

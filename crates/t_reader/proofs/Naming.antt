@@ -14,11 +14,11 @@ use Rattle.t_terms.specs.declared.fault.TCode.TheVariants.{T06}
 use Rattle.t_text.specs.Raw.{RCode, raw_regs, raw_fields}
 use Rattle.t_text.specs.Names.{spelled, is_among, place_of, bind, type_of, file_of, fields_of, types_of}
 use Rattle.t_text.specs.NameFaults.{type_faults, regs_faults, fields_faults, types_faults}
-use Rattle.t_grammar.specs.declared.raw.RawType.{RawType}
-use Rattle.t_grammar.specs.declared.raw.RawType.TheVariants as R
-use Rattle.t_grammar.specs.declared.raw.RawFile.{RawFile}
-use Rattle.t_grammar.specs.Raw.{raw, raw_reg, raw_field}
-use Rattle.t_grammar.proofs.Raws.{raw_Tuple, raw_Code}
+use Rattle.t_shapes.specs.declared.raw_types.RawType.{RawType}
+use Rattle.t_shapes.specs.declared.raw_types.RawType.TheVariants as R
+use Rattle.t_shapes.specs.declared.raw_types.RawFile.{RawFile}
+use Rattle.t_shapes.specs.RawTypes.{raw, raw_reg, raw_field}
+use Rattle.t_shapes.proofs.Raws.{raw_Tuple, raw_Code}
 use Rattle.t_reader.specs.Resolve.{StopsAt}
 use Rattle.t_terms.specs.declared.fault.TFault.{TFault}
 use Rattle.t_terms.specs.declared.fault.TFault.TheVariants.{Refused}

@@ -16,7 +16,7 @@ use Rattle.t_text.specs.Grammar.{Program}
 use Rattle.t_text.specs.GrammarTable.{table, OfItems}
 use Rattle.t_text.specs.Text.{most_open, FirstFault, in_tokens, in_names, unexpected, cut_short, too_deep, IsFirstFault}
 use Rattle.t_text.proofs.Instance.{assembly_exact}
-use Rattle.t_lexer.specs.Cut.{IsTokenFault}
+use Rattle.t_text.specs.Cut.{IsTokenFault}
 use Rattle.t_text.specs.NameFaults.{program_faults}
 use Rattle.t_reader.specs.Resolve.{StopsAt, IsShape, place_at}
 

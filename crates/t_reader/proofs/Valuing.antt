@@ -17,8 +17,8 @@ use Rattle.t_terms.specs.Read as read
 use Rattle.t_text.specs.Names.{Labels, spelled, named_by, types_of, base_of, value_of, instr_of, body_of, names_after}
 use Rattle.t_text.specs.Names.{names_after_all}
 use Rattle.t_text.specs.NameFaults.{type_faults, types_faults, base_faults, value_faults, instr_faults, body_faults}
-use Rattle.t_grammar.specs.declared.raw.RawType.{RawType}
-use Rattle.t_grammar.specs.Raw.{raw}
+use Rattle.t_shapes.specs.declared.raw_types.RawType.{RawType}
+use Rattle.t_shapes.specs.RawTypes.{raw}
 use Rattle.t_shapes.specs.declared.raw.RawBase.{RawBase}
 use Rattle.t_shapes.specs.declared.raw.RawBase.TheVariants as RB
 use Rattle.t_shapes.specs.declared.raw.RawValue.{RawValue}

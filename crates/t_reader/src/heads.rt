@@ -1,17 +1,15 @@
 // The heads of items: what each item is, and the place of its label.
 ghost use Rattle.std.specs.Prelude.{◌≡◌, ◌≤◌, ◌<◌, length, true, MatchResult};
-ghost use Rattle.t_lexer.specs.Kept.{tokens_of};
+ghost use Rattle.t_text.specs.Kept.{tokens_of};
 ghost use Rattle.t_shapes.specs.Raw.{raw_item, raw_items};
 ghost use Rattle.t_reader.specs.Heads.{head_of, heads_of};
 ghost use Rattle.t_terms.specs.declared.fault.TFault.TheVariants as fault;
 
 use idx_core::Span;
 use std::alloc::Global;
-use t_grammar::{peek, take};
-use t_lexer::Tokens;
-use t_shapes::RawItem;
+use t_shapes::{RawItem, peek, take};
 use t_terms::TFault;
-use t_text::{Kind, Wanted};
+use t_text::{Kind, Tokens, Wanted};
 
 /// What an item begins as: a block or a data tuple, with the place of its label.
 #[derive(Clone, Copy, Debug, Drop)]

@@ -9,7 +9,7 @@ ghost use Rattle.t_terms.specs.ReadProgram.{spanned_program};
 ghost use Rattle.t_text.specs.Text.{ReadsAs, FirstFault, IsFirstFault};
 ghost use Rattle.t_text.specs.Names.{program_of, block_of, data_of};
 ghost use Rattle.t_text.specs.NameFaults.{program_faults};
-ghost use Rattle.t_lexer.specs.Kept.{tokens_of};
+ghost use Rattle.t_text.specs.Kept.{tokens_of};
 ghost use Rattle.t_shapes.specs.Raw.{raw_block, raw_data, raw_item, raw_items};
 ghost use Rattle.t_shapes.specs.Reads.{AreProgram, HasRead};
 ghost use Rattle.t_text.specs.Raw as tree;
@@ -27,11 +27,11 @@ use crate::scope::spelling;
 use crate::target::Target;
 use idx_core::{Salt, Span};
 use std::alloc::Global;
-use t_grammar::{Stopped, peek};
-use t_lexer::{Tokens, tokens};
-use t_shapes::{RawBlock, RawData, RawItem, SoFar, Turn, begin, is_all, next_item, program};
+use t_shapes::{
+    RawBlock, RawData, RawItem, SoFar, Stopped, Turn, begin, is_all, next_item, peek, program,
+};
 use t_terms::{Block, Data, TCode, TFault, TProgram};
-use t_text::{at_most_one_fault, at_most_one_program, no_fault_where_read};
+use t_text::{Tokens, at_most_one_fault, at_most_one_program, no_fault_where_read, tokens};
 
 // the blocks and the data of a text, each in the order of the text
 #[derive(Drop)]

@@ -6,7 +6,7 @@ ghost use Rattle.t_types.specs.Read.{tree, types, file};
 ghost use Rattle.t_text.specs.Raw.{raw_regs, raw_fields};
 ghost use Rattle.t_text.specs.Names.{type_of, types_of, file_of};
 ghost use Rattle.t_text.specs.NameFaults.{type_faults, types_faults, regs_faults};
-ghost use Rattle.t_grammar.specs.Raw.{raw, raw_reg};
+ghost use Rattle.t_shapes.specs.RawTypes.{raw, raw_reg};
 ghost use Rattle.t_reader.specs.Resolve.{StopsAt, has};
 ghost use Rattle.t_terms.specs.declared.fault.TFault.TheVariants as fault;
 
@@ -15,7 +15,7 @@ use crate::scope::{Scope, bind_all, release, spelling};
 use idx_core::Span;
 use std::alloc::Global;
 use std::collections::BTreeMap;
-use t_grammar::RawType;
+use t_shapes::RawType;
 use t_terms::{TCode, TFault};
 use t_types::{RegFile, TType};
 

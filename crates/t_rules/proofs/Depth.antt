@@ -13,8 +13,8 @@ use Rattle.t_types.specs.WellFormed.{RegsAbove}
 use Rattle.t_types.specs.Fields.{AField, field, filled, empty_fields}
 use Rattle.t_terms.specs.Tree.{TData}
 use Rattle.t_terms.specs.Whole.{WellFormedData}
-use Rattle.t_rules.specs.Registers.{inst_file}
-use Rattle.t_rules.specs.Rules.{data_fields, data_type}
+use Rattle.t_terms.specs.Registers.{inst_file}
+use Rattle.t_terms.specs.Labels.{data_fields, data_type}
 use Rattle.t_types.specs.Bounds.{ShallowAt, ShallowBelow, Shallow, OwedAt, OwedBelow, OwedFile, Bounded}
 
 -- what holds of each variable and depth, weakened, and counted from another depth

@@ -7,7 +7,7 @@ use Rattle.std.proofs.lemmas.List.{length-map}
 use Rattle.t_types.specs.Tree.{Ty, IntTy, VarTy, CodeTy, ExistsTy, TupleTy, TFile, TFields, shift, put}
 use Rattle.t_types.specs.Fits.{RegTypes}
 use Rattle.t_terms.specs.Tree.{TProg}
-use Rattle.t_rules.specs.Registers.{inst_known}
+use Rattle.t_terms.specs.Registers.{inst_known}
 use Rattle.t_rules.specs.Known.{KnownAt}
 use Rattle.t_rules.specs.Machine.{Word, IntWord, AddressWord, LabelWord, EmptyWord, PackWord, Heap, State}
 use Rattle.t_rules.specs.Machine.{At, Spot}

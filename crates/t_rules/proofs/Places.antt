@@ -12,7 +12,7 @@ use Rattle.t_types.specs.Fits.{RegTypes, lookup}
 use Rattle.t_terms.specs.Tree.{TInstr, TSeq, Then, Ends, TEnd, TBlock, TProg, over_instr, over_end, over_seq}
 use Rattle.t_terms.specs.Tree.{names_after}
 use Rattle.t_terms.specs.TreeLaws.{seq_over}
-use Rattle.t_rules.specs.Registers.{inst_seq, inst_known}
+use Rattle.t_terms.specs.Registers.{inst_seq, inst_known}
 use Rattle.t_rules.specs.Rules.{Typed, SeqAccepted, BlockAccepted}
 use Rattle.t_rules.specs.Known.{KnownFrom, KnownAt, seq_from, code_at}
 use Rattle.t_rules.specs.Machine.{RegWords}

@@ -15,8 +15,9 @@ use Rattle.t_types.proofs.FitsLaws.{fits_over, field_over, filled_over, empty_ov
 use Rattle.t_terms.specs.Tree.{TBase, Reg, Int, Label, Data, TValue, Plain, Pack, TInstr, Arith, Bnz, Ld, Malloc, Mov}
 use Rattle.t_terms.specs.Tree.{St, Unpack, TEnd, Jmp, Halt, TSeq, Then, Ends, TBlock, TData, TProg, over_value}
 use Rattle.t_terms.specs.Tree.{over_instr, over_end, over_seq, put_seq, names_after}
-use Rattle.t_rules.specs.Registers.{with_reg, raised, inst_file, inst_seq, inst_known}
-use Rattle.t_rules.specs.Rules.{label_type, data_type, BaseHas, Has, Enters, Typed, EndTyped, SeqAccepted}
+use Rattle.t_terms.specs.Registers.{with_reg, raised, inst_file, inst_seq, inst_known}
+use Rattle.t_rules.specs.Rules.{BaseHas, Has, Enters, Typed, EndTyped, SeqAccepted}
+use Rattle.t_terms.specs.Labels.{label_type, data_type}
 use Rattle.t_terms.proofs.BodyWalks.{names_grow}
 
 pub over_length : (f : ℕ → ℕ → Ty) (d : ℕ) (ts : List Ty) → length (over_types f d ts) ≡ length ts

@@ -9,7 +9,7 @@ use Rattle.t_terms.specs.Tree.{Int, Data, TValue, Plain, Pack, Ld, Mov, Halt, TB
 use Rattle.t_terms.specs.Spanned.{SDatum, SData, SProg, plain_program}
 use Rattle.t_terms.specs.declared.fault.TCode.TheVariants.{T13, T15, T17, T20}
 use Rattle.t_terms.specs.Whole.{Whole}
-use Rattle.t_rules.specs.Registers.{with_reg}
+use Rattle.t_terms.specs.Registers.{with_reg}
 use Rattle.t_rules.specs.Rules.{Accepted}
 use Rattle.t_rules.specs.Known.{KnownAt}
 use Rattle.t_rules.specs.Mismatch.{Types, told}

@@ -15,8 +15,9 @@ use Rattle.t_terms.specs.Spanned.{SBlock, SDatum, SData, seq_of, plain, plain_da
 use Rattle.t_terms.specs.Spanned.{plain_blocks, plain_program}
 use Rattle.t_terms.specs.Whole.{WellFormedBase, WellFormedValue, WellFormedInstr, WellFormedEnd, WellFormedSeq}
 use Rattle.t_terms.specs.Whole.{WellFormedBlock, WellFormedBlocks, WellFormedDatum, WellFormedData, WellFormedHeap}
-use Rattle.t_rules.specs.Registers.{with_reg, raised, no_types}
-use Rattle.t_rules.specs.Rules.{label_type, data_type, BaseHas, Has, Enters, Typed, EndTyped, SeqAccepted}
+use Rattle.t_terms.specs.Registers.{with_reg, raised, no_types}
+use Rattle.t_rules.specs.Rules.{BaseHas, Has, Enters, Typed, EndTyped, SeqAccepted}
+use Rattle.t_terms.specs.Labels.{label_type, data_type}
 use Rattle.t_rules.specs.Rules.{BlockAccepted, BlocksAccepted, DatumAccepted, DataAccepted, HeapAccepted}
 use Rattle.t_rules.specs.Rules.{FirstTakesNothing, Accepted}
 use Rattle.t_rules.specs.Faults.{KnownFits, BaseFaultWith, ValueFaultWith, FileFaultWith, EnterFaultWith}

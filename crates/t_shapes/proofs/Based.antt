@@ -10,14 +10,14 @@ use Rattle.t_text.specs.Raw.{RawTy, RPlain, ending}
 use Rattle.t_text.specs.GrammarTable.{LV, LArgs, LSomeTypes, LTypeList, MakeNoTypes, MakeBase, MakeApply, base_of}
 use Rattle.t_text.specs.GrammarTable.{OfToken, OfValue, OfList}
 use Rattle.t_text.specs.Text.{most_open}
-use Rattle.t_grammar.specs.declared.raw.RawType.{RawType}
-use Rattle.t_grammar.specs.declared.cursor.Stopped.{Stopped}
-use Rattle.t_grammar.specs.declared.cursor.Stopped.TheVariants.{TooDeep}
-use Rattle.t_grammar.specs.Raw.{raw}
-use Rattle.t_grammar.specs.Reads.{Reads, Fails}
-use Rattle.t_grammar.specs.Cursor.{Next, Misses}
-use Rattle.t_grammar.proofs.Stepping.{Moves, within, is_next, is_of, begins, by_row, by_none, by_call, by_do, by_mark}
-use Rattle.t_grammar.proofs.Stepping.{stop_call, stop_deep, lacks}
+use Rattle.t_shapes.specs.declared.raw_types.RawType.{RawType}
+use Rattle.t_shapes.specs.declared.cursor.Stopped.{Stopped}
+use Rattle.t_shapes.specs.declared.cursor.Stopped.TheVariants.{TooDeep}
+use Rattle.t_shapes.specs.RawTypes.{raw}
+use Rattle.t_shapes.specs.ReadsTypes.{Reads, Fails}
+use Rattle.t_shapes.specs.Cursor.{Next, Misses}
+use Rattle.t_shapes.proofs.Stepping.{Moves, within, is_next, is_of, begins, by_row, by_none, by_call, by_do, by_mark}
+use Rattle.t_shapes.proofs.Stepping.{stop_call, stop_deep, lacks}
 use Rattle.t_shapes.specs.Raw.{is_base}
 use Rattle.t_shapes.proofs.Lines.{opens_args, base_begins, no_types}
 

@@ -14,8 +14,8 @@ use Rattle.t_text.specs.Raw.{BlockItem, block_items}
 use Rattle.t_text.specs.GrammarTable.{table, Stack, Val, LI, LMoreSteps, LBlock, LMoreBlocks, MakeNextBlock}
 use Rattle.t_text.specs.GrammarTable.{instr_after, steps_tail, block_owed, blocks_tail}
 use Rattle.t_text.specs.Text.{most_open}
-use Rattle.t_grammar.specs.Cursor.{Next, Misses}
-use Rattle.t_grammar.proofs.Stepping.{Moves, is_next, is_of, as_token, by_none}
+use Rattle.t_shapes.specs.Cursor.{Next, Misses}
+use Rattle.t_shapes.proofs.Stepping.{Moves, is_next, is_of, as_token, by_none}
 use Rattle.t_shapes.specs.Raw.{raw_step, raw_block, raw_item, raw_items}
 use Rattle.t_shapes.specs.Reads.{step_next}
 use Rattle.t_shapes.specs.declared.raw.RawInstr.{RawInstr}

@@ -5,11 +5,11 @@ use Rattle.t_text.specs.declared.token.Token.{Token}
 use Rattle.t_text.specs.declared.wanted.Wanted.{Wanted}
 use Rattle.t_text.specs.declared.wanted.Wanted.TheVariants as want
 use Rattle.t_text.specs.GrammarTable.{Stack, Val, Line, LTo, MakeTo, LAt, MakeAt, LIndex, OfToken, Act, act}
-use Rattle.t_grammar.specs.declared.cursor.Stopped.{Stopped}
-use Rattle.t_grammar.specs.Reads.{Reads, Fails}
-use Rattle.t_grammar.specs.Cursor.{Next, IsMissed, TwoMissed}
-use Rattle.t_grammar.proofs.Stepping.{Moves, within, as_token, by_two, by_do, by_mark, by_same, stop_two, Opens}
-use Rattle.t_grammar.proofs.Stepping.{opening}
+use Rattle.t_shapes.specs.declared.cursor.Stopped.{Stopped}
+use Rattle.t_shapes.specs.ReadsTypes.{Reads, Fails}
+use Rattle.t_shapes.specs.Cursor.{Next, IsMissed, TwoMissed}
+use Rattle.t_shapes.proofs.Stepping.{Moves, within, as_token, by_two, by_do, by_mark, by_same, stop_two, Opens}
+use Rattle.t_shapes.proofs.Stepping.{opening}
 use Rattle.t_shapes.proofs.Lines.{to_begins, at_begins}
 
 pub starting : (ts : List Token) (d i : ℕ) (owed : Stack) (vs : List Val) → Moves ts d i owed vs i owed vs

@@ -19,12 +19,12 @@ use Rattle.t_text.specs.GrammarTable.{LFirst, LItem, MakeTuple, MakeBlock, MakeB
 use Rattle.t_text.specs.GrammarTable.{MakeProgram, OfToken, OfEnd, OfSteps, OfFile, OfNames, OfBlock, OfItem, OfItems}
 use Rattle.t_text.specs.GrammarTable.{items_tail, blocks_owed, items_owed, header_after}
 use Rattle.t_text.specs.Text.{most_open}
-use Rattle.t_grammar.specs.declared.cursor.Stopped.{Stopped}
-use Rattle.t_grammar.specs.declared.cursor.Stopped.TheVariants.{Memory, Unexpected, TooDeep}
-use Rattle.t_grammar.specs.Reads.{Fails}
-use Rattle.t_grammar.specs.Cursor.{Misses}
-use Rattle.t_grammar.proofs.Stepping.{Moves, is_next, is_of, begins, as_token, by_none, by_do, by_mark, by_call}
-use Rattle.t_grammar.proofs.Stepping.{stop_call}
+use Rattle.t_shapes.specs.declared.cursor.Stopped.{Stopped}
+use Rattle.t_shapes.specs.declared.cursor.Stopped.TheVariants.{Memory, Unexpected, TooDeep}
+use Rattle.t_shapes.specs.ReadsTypes.{Fails}
+use Rattle.t_shapes.specs.Cursor.{Misses}
+use Rattle.t_shapes.proofs.Stepping.{Moves, is_next, is_of, begins, as_token, by_none, by_do, by_mark, by_call}
+use Rattle.t_shapes.proofs.Stepping.{stop_call}
 use Rattle.t_shapes.specs.declared.data.FoundTuple.{FoundTuple}
 use Rattle.t_shapes.specs.declared.items.FoundItems.{FoundItems}
 use Rattle.t_shapes.specs.declared.raw.RawItem.{RawItem}

@@ -1,3 +1,7 @@
+pub mod Empty
+pub mod TypeLines
+pub mod Raws
+pub mod Stepping
 pub mod Lines
 pub mod Bracketed
 pub mod Based

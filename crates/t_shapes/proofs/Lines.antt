@@ -17,8 +17,8 @@ use Rattle.t_text.specs.GrammarTable.{value_after, base_owed, instr_after, block
 use Rattle.t_text.specs.GrammarTable.{word_after, word_owed, datums_after, datums_tail, tuple_after, items_tail}
 use Rattle.t_text.specs.GrammarTable.{item_after}
 use Rattle.t_text.specs.Text.{most_open}
-use Rattle.t_grammar.specs.Cursor.{Misses}
-use Rattle.t_grammar.proofs.Stepping.{Moves, not_fits, Opens, ListLine}
+use Rattle.t_shapes.specs.Cursor.{Misses}
+use Rattle.t_shapes.proofs.Stepping.{Moves, not_fits, Opens, ListLine}
 use Rattle.t_shapes.specs.Raw.{is_base, is_word_base}
 use Rattle.t_shapes.specs.Reads.{datum_owed, items_line}
 

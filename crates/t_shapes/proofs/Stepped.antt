@@ -5,9 +5,9 @@ use Rattle.text_core.specs.Table.{Nt, marks}
 use Rattle.t_text.specs.declared.token.Token.{Token}
 use Rattle.t_text.specs.GrammarTable.{table, Stack, LI, OfToken, OfStep, instr_after}
 use Rattle.t_text.specs.Text.{most_open}
-use Rattle.t_grammar.specs.declared.cursor.Stopped.{Stopped}
-use Rattle.t_grammar.specs.Reads.{Reads, Fails}
-use Rattle.t_grammar.proofs.Stepping.{begins, after_moves}
+use Rattle.t_shapes.specs.declared.cursor.Stopped.{Stopped}
+use Rattle.t_shapes.specs.ReadsTypes.{Reads, Fails}
+use Rattle.t_shapes.proofs.Stepping.{begins, after_moves}
 use Rattle.text_core.proofs.Going as step
 use Rattle.t_shapes.specs.Raw.{raw_step}
 use Rattle.t_shapes.specs.Reads.{ReadsStep}

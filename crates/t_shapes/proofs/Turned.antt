@@ -15,9 +15,9 @@ use Rattle.t_text.specs.GrammarTable.{table, Stack, LHeader, LMoreBlocks, LSomeI
 use Rattle.t_text.specs.GrammarTable.{MakeNoItems, MakeNextItem, MakeHeaded, MakeProgram, header_after, OfItems}
 use Rattle.t_text.specs.GrammarTable.{blocks_owed, items_owed}
 use Rattle.t_text.specs.Text.{most_open}
-use Rattle.t_grammar.specs.Cursor.{Next, Misses}
-use Rattle.t_grammar.specs.Reads.{ReadsOwed}
-use Rattle.t_grammar.proofs.Stepping.{Moves, start, begins, by_token, by_call, by_do}
+use Rattle.t_shapes.specs.Cursor.{Next, Misses}
+use Rattle.t_shapes.specs.ReadsTypes.{ReadsOwed}
+use Rattle.t_shapes.proofs.Stepping.{Moves, start, begins, by_token, by_call, by_do}
 use Rattle.t_shapes.specs.Raw.{raw_block, raw_item, is_block}
 use Rattle.t_shapes.specs.declared.whole.Version.{Version}
 use Rattle.t_shapes.specs.declared.whole.Version.TheVariants.{Blocks, Items}

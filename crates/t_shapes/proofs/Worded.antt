@@ -10,12 +10,12 @@ use Rattle.t_text.specs.Raw.{RawTy, RPlain, ending, up_to}
 use Rattle.t_text.specs.GrammarTable.{LW, LWordArgs, LSomeTypes, LDatums, MakeNoDatums, MakeWord, MakeWordApply}
 use Rattle.t_text.specs.GrammarTable.{base_of, OfToken, OfWord, OfList, OfTuple}
 use Rattle.t_text.specs.Text.{most_open}
-use Rattle.t_grammar.specs.declared.cursor.Stopped.{Stopped}
-use Rattle.t_grammar.specs.declared.cursor.Stopped.TheVariants.{TooDeep}
-use Rattle.t_grammar.specs.Reads.{Reads, Fails}
-use Rattle.t_grammar.specs.Cursor.{Next, Misses}
-use Rattle.t_grammar.proofs.Stepping.{Moves, within, is_next, is_of, begins, by_row, by_none, by_call, by_do, by_mark}
-use Rattle.t_grammar.proofs.Stepping.{stop_call, stop_deep, lacks}
+use Rattle.t_shapes.specs.declared.cursor.Stopped.{Stopped}
+use Rattle.t_shapes.specs.declared.cursor.Stopped.TheVariants.{TooDeep}
+use Rattle.t_shapes.specs.ReadsTypes.{Reads, Fails}
+use Rattle.t_shapes.specs.Cursor.{Next, Misses}
+use Rattle.t_shapes.proofs.Stepping.{Moves, within, is_next, is_of, begins, by_row, by_none, by_call, by_do, by_mark}
+use Rattle.t_shapes.proofs.Stepping.{stop_call, stop_deep, lacks}
 use Rattle.t_shapes.specs.declared.raw.RawDatum.{RawDatum}
 use Rattle.t_shapes.specs.Raw.{is_word_base, raw_datum}
 use Rattle.t_shapes.proofs.Lines.{opens_word_args, word_begins, no_datums}

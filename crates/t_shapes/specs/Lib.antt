@@ -1,2 +1,5 @@
+pub mod Cursor
+pub mod RawTypes
+pub mod ReadsTypes
 pub mod Raw
 pub mod Reads

@@ -6,7 +6,7 @@ use Rattle.t_text.specs.declared.token.Kind.TheVariants as k
 use Rattle.t_text.specs.Raw as tree
 use Rattle.t_text.specs.Raw.{RReg, RNum, RLabel, RPlain, RPack, RArith, RBnz, RLd, RMalloc, RMov, RSt, RUnpack, RJmp}
 use Rattle.t_text.specs.Raw.{RHalt, BlockItem, DataItem}
-use Rattle.t_grammar.specs.Raw.{raw, raw_file}
+use Rattle.t_shapes.specs.RawTypes.{raw, raw_file}
 use Rattle.t_shapes.specs.declared.raw.RawBase.{RawBase}
 use Rattle.t_shapes.specs.declared.raw.RawBase.TheVariants as B
 use Rattle.t_shapes.specs.declared.raw.RawValue.{RawValue}

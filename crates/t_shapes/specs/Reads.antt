@@ -20,10 +20,10 @@ use Rattle.t_text.specs.GrammarTable.{MakeUnpack, MakeNoSteps, MakeFirstBlock, M
 use Rattle.t_text.specs.GrammarTable.{items_owed, instr_after, OfToken, OfType, OfStep, OfSteps, OfFile, OfNames}
 use Rattle.t_text.specs.GrammarTable.{OfBlocks, OfList, OfIndex, OfAt, OfTarget, OfPlace, OfReg, OfValue, OfPacked}
 use Rattle.t_text.specs.GrammarTable.{OfEnd, OfBlock, OfWord, OfTuple, OfItem, OfItems}
-use Rattle.t_grammar.specs.Raw.{raw, raw_file}
-use Rattle.t_grammar.specs.Reads.{ReadsOwed, Fails, IsLine}
-use Rattle.t_grammar.specs.declared.cursor.Stopped.{Stopped}
-use Rattle.t_grammar.specs.declared.cursor.Stopped.TheVariants.{Memory, Unexpected, TooDeep}
+use Rattle.t_shapes.specs.RawTypes.{raw, raw_file}
+use Rattle.t_shapes.specs.ReadsTypes.{ReadsOwed, Fails, IsLine}
+use Rattle.t_shapes.specs.declared.cursor.Stopped.{Stopped}
+use Rattle.t_shapes.specs.declared.cursor.Stopped.TheVariants.{Memory, Unexpected, TooDeep}
 use Rattle.t_shapes.specs.Raw.{raw_value, raw_step, raw_last, raw_block, raw_datum, raw_item, raw_items, is_block}
 use Rattle.t_shapes.specs.declared.raw.RawItem.{RawItem}
 use Rattle.t_shapes.specs.declared.lists.FoundTypes.{FoundTypes}

@@ -1,17 +1,16 @@
 // The reading of blocks.
 ghost use Rattle.std.specs.Prelude.{◌≤◌, length};
 ghost use Rattle.t_shapes.specs.Reads.{AreSteps, IsBlock, IsCode};
-ghost use Rattle.t_lexer.specs.Kept.{tokens_of};
+ghost use Rattle.t_text.specs.Kept.{tokens_of};
 
 use crate::ends::end;
 use crate::heads::head;
 use crate::raw::{RawBlock, RawInstr};
 use crate::steps::{begins_step, step};
+use crate::{Stopped, expect, expect_two};
 use idx_core::Span;
 use std::alloc::Global;
-use t_grammar::{Stopped, expect, expect_two};
-use t_lexer::Tokens;
-use t_text::Wanted;
+use t_text::{Tokens, Wanted};
 
 /// Instructions that were read, and the number of the token after them.
 #[derive(Drop)]

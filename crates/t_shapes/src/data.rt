@@ -1,14 +1,13 @@
 // The reading of data tuples. Around them no construct is open.
 ghost use Rattle.std.specs.Prelude.{◌≤◌, length};
 ghost use Rattle.t_shapes.specs.Reads.{IsTuple, AreDatums, IsDatum};
-ghost use Rattle.t_lexer.specs.Kept.{tokens_of};
+ghost use Rattle.t_text.specs.Kept.{tokens_of};
 
 use crate::raw::RawDatum;
 use crate::words::word;
+use crate::{Stopped, expect, peek, take, whole_type};
 use std::alloc::Global;
-use t_grammar::{Stopped, expect, peek, take, whole_type};
-use t_lexer::Tokens;
-use t_text::{Kind, Wanted};
+use t_text::{Kind, Tokens, Wanted};
 
 /// The fields of a data tuple that were read, and the number of the token after them.
 #[derive(Drop)]

@@ -1,17 +1,16 @@
 // The reading of the ends of blocks.
 ghost use Rattle.std.specs.Prelude.{◌≤◌, length};
 ghost use Rattle.t_shapes.specs.Reads.{IsEnd};
-ghost use Rattle.t_lexer.specs.Kept.{tokens_of};
+ghost use Rattle.t_text.specs.Kept.{tokens_of};
 
 use crate::parts::int;
 use crate::raw::RawEnd;
 use crate::steps::up_to;
 use crate::values::value;
+use crate::{Stopped, peek};
 use idx_core::Span;
 use std::alloc::Global;
-use t_grammar::{Stopped, peek};
-use t_lexer::Tokens;
-use t_text::Kind;
+use t_text::{Kind, Tokens};
 
 /// The end of a block that was read, with its place, and the number of the token after it.
 #[derive(Drop)]

@@ -1,13 +1,12 @@
 // The reading of the heads of blocks.
 ghost use Rattle.std.specs.Prelude.{◌≤◌, length};
 ghost use Rattle.t_shapes.specs.Reads.{IsHead};
-ghost use Rattle.t_lexer.specs.Kept.{tokens_of};
+ghost use Rattle.t_text.specs.Kept.{tokens_of};
 
+use crate::{RawFile, Stopped, binds, expect, file};
 use idx_core::Span;
 use std::alloc::Global;
-use t_grammar::{RawFile, Stopped, binds, expect, file};
-use t_lexer::Tokens;
-use t_text::Wanted;
+use t_text::{Tokens, Wanted};
 
 /// What was read of a block before its instructions: its names and its file, and the number of the token after them.
 #[derive(Drop)]

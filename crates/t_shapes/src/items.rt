@@ -5,15 +5,14 @@ ghost use Rattle.t_text.specs.GrammarTable.{table};
 ghost use Rattle.t_text.specs.declared.wanted.Wanted.TheVariants as want;
 ghost use Rattle.t_shapes.specs.Raw.{raw_item, is_block};
 ghost use Rattle.t_shapes.specs.Reads.{IsItem, AreItems};
-ghost use Rattle.t_lexer.specs.Kept.{tokens_of};
+ghost use Rattle.t_text.specs.Kept.{tokens_of};
 
 use crate::blocks::code;
 use crate::data::tuple;
 use crate::raw::{RawData, RawItem};
+use crate::{Stopped, expect, peek, take};
 use std::alloc::Global;
-use t_grammar::{Stopped, expect, peek, take};
-use t_lexer::Tokens;
-use t_text::{Kind, Wanted};
+use t_text::{Kind, Tokens, Wanted};
 
 /// An item that was read, and the number of the token after it.
 #[derive(Drop)]

@@ -2,12 +2,11 @@
 ghost use Rattle.std.specs.Prelude.{◌≤◌, length};
 ghost use Rattle.t_text.specs.Text.{most_open};
 ghost use Rattle.t_shapes.specs.Reads.{IsTypes, IsTypeList, IsSomeTypes};
-ghost use Rattle.t_lexer.specs.Kept.{tokens_of};
+ghost use Rattle.t_text.specs.Kept.{tokens_of};
 
+use crate::{RawType, Stopped, expect, opened, take, whole_type};
 use std::alloc::Global;
-use t_grammar::{RawType, Stopped, expect, opened, take, whole_type};
-use t_lexer::Tokens;
-use t_text::Wanted;
+use t_text::{Tokens, Wanted};
 
 /// Types in brackets that were read, the end of the closing bracket, and the number of the token after it.
 #[derive(Drop)]

@@ -1,12 +1,11 @@
 // The reading of what stands in brackets of instructions. There no construct is open around.
 ghost use Rattle.std.specs.Prelude.{◌≤◌, length};
 ghost use Rattle.t_shapes.specs.Reads.{IsIndex, IsPlace, IsTarget, IsInt, IsOperand};
-ghost use Rattle.t_lexer.specs.Kept.{tokens_of};
+ghost use Rattle.t_text.specs.Kept.{tokens_of};
 
+use crate::{Stopped, expect, expect_index, expect_register, expect_two};
 use idx_core::Span;
-use t_grammar::{Stopped, expect, expect_index, expect_register, expect_two};
-use t_lexer::Tokens;
-use t_text::Wanted;
+use t_text::{Tokens, Wanted};
 
 /// A number in brackets, and the end of the closing bracket.
 #[derive(Drop)]

@@ -1,7 +1,7 @@
 // Values, instructions, blocks and data before names are resolved.
 
+use crate::{RawFile, RawType};
 use idx_core::{Op, Span};
-use t_grammar::{RawFile, RawType};
 
 /// What a value begins with: a register, an integer, or the place of a label.
 #[derive(Clone, Copy, Debug, Drop)]

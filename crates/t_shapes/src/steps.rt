@@ -3,17 +3,16 @@ ghost use Rattle.std.specs.Prelude.{◌≡◌, ◌≤◌, ◌<◌, length, slice
 ghost use Rattle.t_text.specs.GrammarTable.{instr_after};
 ghost use Rattle.t_shapes.specs.Reads.{IsRest, IsStep, step_next, arith_left, bnz_left, ld_left, malloc_left, mov_left};
 ghost use Rattle.t_shapes.specs.Reads.{st_left, unpack_left};
-ghost use Rattle.t_lexer.specs.Kept.{tokens_of};
+ghost use Rattle.t_text.specs.Kept.{tokens_of};
 
 use crate::lists::types;
 use crate::parts::{operand, place, target};
 use crate::raw::RawInstr;
 use crate::values::value;
+use crate::{Stopped, expect, expect_register, peek};
 use idx_core::{Op, Span};
 use std::alloc::Global;
-use t_grammar::{Stopped, expect, expect_register, peek};
-use t_lexer::Tokens;
-use t_text::{Kind, Token, Wanted};
+use t_text::{Kind, Token, Tokens, Wanted};
 
 /// An instruction that was read, with its place, and the number of the token after it.
 #[derive(Drop)]

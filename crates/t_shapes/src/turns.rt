@@ -1,6 +1,6 @@
 // The reading of a program an item at a time.
 ghost use Rattle.std.specs.Prelude.{◌≡◌, List, [], ◌∷◌, ◌++◌, Bool, true, IfSome, IfOk};
-ghost use Rattle.t_lexer.specs.Kept.{tokens_of};
+ghost use Rattle.t_text.specs.Kept.{tokens_of};
 ghost use Rattle.t_text.specs.Raw as tree;
 ghost use Rattle.t_shapes.specs.Raw.{raw_item};
 ghost use Rattle.t_shapes.specs.Reads.{HasReadAs, HasRead, AreProgram};
@@ -10,10 +10,9 @@ use crate::blocks::block;
 use crate::items::{item, wants_item, with_block};
 use crate::raw::RawItem;
 use crate::whole::{Version, version_of};
+use crate::{Stopped, peek, take};
 use std::alloc::Global;
-use t_grammar::{Stopped, peek, take};
-use t_lexer::Tokens;
-use t_text::Wanted;
+use t_text::{Tokens, Wanted};
 
 /// How far a program is read: what its header heads, whether a block was read, and the number of the next token.
 #[derive(Clone, Copy)]

@@ -3,18 +3,17 @@ ghost use Rattle.std.specs.Prelude.{◌≡◌, ◌≤◌, length, slice_get, Som
 ghost use Rattle.t_text.specs.Raw.{RPack};
 ghost use Rattle.t_text.specs.GrammarTable.{base_of};
 ghost use Rattle.t_text.specs.Text.{most_open};
-ghost use Rattle.t_grammar.specs.Raw.{raw};
-ghost use Rattle.t_grammar.specs.declared.cursor.Stopped.TheVariants as stopped;
+ghost use Rattle.t_shapes.specs.RawTypes.{raw};
+ghost use Rattle.t_shapes.specs.declared.cursor.Stopped.TheVariants as stopped;
 ghost use Rattle.t_shapes.specs.Raw.{raw_base, raw_value, is_base};
 ghost use Rattle.t_shapes.specs.Reads.{IsValue, IsPacked};
-ghost use Rattle.t_lexer.specs.Kept.{tokens_of};
+ghost use Rattle.t_text.specs.Kept.{tokens_of};
 
 use crate::lists::some_types;
 use crate::raw::{RawBase, RawPack, RawValue};
+use crate::{RawType, Stopped, expect, opened, peek, take, whole_type};
 use std::alloc::Global;
-use t_grammar::{RawType, Stopped, expect, opened, peek, take, whole_type};
-use t_lexer::Tokens;
-use t_text::{Kind, Token, Wanted};
+use t_text::{Kind, Token, Tokens, Wanted};
 
 /// A value that was read, the end of its last token, and the number of the token after it.
 #[derive(Drop)]

@@ -2,15 +2,14 @@
 ghost use Rattle.std.specs.Prelude.{◌≡◌, ◌≤◌, length, MatchResult};
 ghost use Rattle.t_text.specs.GrammarTable.{header_after};
 ghost use Rattle.t_shapes.specs.Reads.{AreBlocks, version_owed, IsHeaded, IsProgram, IsStop};
-ghost use Rattle.t_lexer.specs.Kept.{tokens_of};
+ghost use Rattle.t_text.specs.Kept.{tokens_of};
 
 use crate::blocks::block;
 use crate::items::{FoundItems, items};
 use crate::raw::RawItem;
+use crate::{Stopped, expect, peek, take};
 use std::alloc::Global;
-use t_grammar::{Stopped, expect, peek, take};
-use t_lexer::Tokens;
-use t_text::{Kind, Wanted};
+use t_text::{Kind, Tokens, Wanted};
 
 // Block .. Block, one or more
 fn blocks(alloc: Global, tokens: &Tokens, at: usize) -> Result<FoundItems, Stopped>

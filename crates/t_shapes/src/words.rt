@@ -4,17 +4,16 @@ ghost use Rattle.t_text.specs.GrammarTable.{base_of};
 ghost use Rattle.t_text.specs.Text.{most_open};
 ghost use Rattle.t_shapes.specs.Raw.{raw_base, is_word_base};
 ghost use Rattle.t_shapes.specs.Reads.{IsWord, IsWordPacked};
-ghost use Rattle.t_lexer.specs.Kept.{tokens_of};
+ghost use Rattle.t_text.specs.Kept.{tokens_of};
 
 use crate::lists::some_types;
 use crate::raw::{RawBase, RawValue};
 use crate::steps::up_to;
 use crate::values::{FoundPacked, package};
+use crate::{Stopped, expect, opened, peek, take, whole_type};
 use idx_core::Span;
 use std::alloc::Global;
-use t_grammar::{Stopped, expect, opened, peek, take, whole_type};
-use t_lexer::Tokens;
-use t_text::{Kind, Token, Wanted};
+use t_text::{Kind, Token, Tokens, Wanted};
 
 /// The value of a data field that was read, with its place, and the number of the token after it.
 #[derive(Drop)]

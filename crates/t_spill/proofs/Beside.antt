@@ -8,11 +8,11 @@ use Rattle.t_types.specs.declared.types.TType.{TType}
 use Rattle.t_types.specs.WellFormed.{max_names, RegsAbove, WellFormedFile}
 use Rattle.t_types.specs.Tree.{NoRegs, MoreRegs}
 use Rattle.t_terms.specs.Tree.{TInstr, TEnd, Jmp, Halt, TSeq, Then, Ends, TProg, names_after}
-use Rattle.spill_law.specs.Spill.{Layout, live, next, numbers, layout, slots, code, target, end_target, end_reads}
-use Rattle.spill_law.specs.Spill.{defines}
-use Rattle.spill_law.proofs.Files.{RisesFrom, Ascends}
-use Rattle.spill_law.proofs.Live.{Agree, among_left, end_alike}
-use Rattle.t_frames.specs.Homes.{has_in, layout_of, text}
+use Rattle.t_spill_rules.specs.Spill.{Layout, live, next, numbers, layout, slots, code, target, end_target, end_reads}
+use Rattle.t_spill_rules.specs.Spill.{defines}
+use Rattle.t_spill_laws.proofs.Files.{RisesFrom, Ascends}
+use Rattle.t_spill_laws.proofs.Live.{Agree, among_left, end_alike}
+use Rattle.t_spill_code.specs.Homes.{has_in, layout_of, text}
 use Rattle.t_spill.specs.Finishing.{used}
 use Rattle.t_spill.specs.Known.{Knows, alone, subject}
 use Rattle.t_spill.specs.Moving.{Before, Between, Moves, Reaches, Starts, low, whole}

@@ -7,8 +7,8 @@ use Rattle.t_terms.specs.Spanned.{plain_fields}
 use Rattle.t_terms.specs.declared.block.Block.{Block}
 use Rattle.t_terms.specs.declared.data.Data.{Data}
 use Rattle.t_types.specs.Read.{file}
-use Rattle.t_rules.specs.Rules.{label_type, data_type, data_fields}
-use Rattle.spill_law.specs.Spill.{or_int}
+use Rattle.t_terms.specs.Labels.{label_type, data_type, data_fields}
+use Rattle.t_spill_rules.specs.Spill.{or_int}
 use Rattle.t_terms.proofs.Items.{block_at, data_at}
 
 pub label_is : (bs : List Block) (l : ℕ) (x : Block) → l < length bs → x ≡ get_or bs l x →

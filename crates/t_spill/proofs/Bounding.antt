@@ -7,8 +7,8 @@ use Rattle.t_types.specs.Fits.{lookup}
 use Rattle.t_types.specs.WellFormed.{RegsAbove, WellFormedFile}
 use Rattle.t_terms.specs.Tree.{TBase, Reg, Int, Label, Data, Plain, TBlock, TData, TProg}
 use Rattle.t_terms.specs.Whole.{WellFormedBlocks, WellFormedHeap, Whole}
-use Rattle.t_rules.specs.Rules.{label_type, data_type}
-use Rattle.spill_law.specs.Spill.{or_int, base_type}
+use Rattle.t_terms.specs.Labels.{label_type, data_type}
+use Rattle.t_spill_rules.specs.Spill.{or_int, base_type}
 use Rattle.t_types.specs.Bounds.{Bounded}
 use Rattle.t_spill.specs.Ready.{Typable}
 use Rattle.t_spill.specs.Applying.{MayApply}

@@ -8,7 +8,7 @@ use Rattle.t_types.specs.Read.{tree, flag, fields}
 use Rattle.t_terms.specs.declared.value.Value.{Value}
 use Rattle.t_terms.specs.Read.{data_fields as data_items}
 use Rattle.t_terms.specs.Spanned.{plain_fields}
-use Rattle.t_rules.specs.Rules.{data_fields}
+use Rattle.t_terms.specs.Labels.{data_fields}
 
 abbrev pub filled_flag : Value × TType × Span → Ty × Bool
 filled_flag x = (tree x.1, true)

@@ -10,12 +10,12 @@ use Rattle.t_types.specs.Fits.{lookup}
 use Rattle.t_types.specs.Read.{file, types}
 use Rattle.t_terms.specs.Tree.{TSeq}
 use Rattle.t_terms.specs.declared.instr.Instr.{Instr}
-use Rattle.spill_law.specs.Spill.{Held, homed, into, keep, among, numbers, high_part, gather, gathered}
-use Rattle.t_frames.specs.Homes.{home_in, has_in, Sets, Lists, text, with_slots}
-use Rattle.t_frames.specs.Onto.{onto, front, gathers}
-use Rattle.t_frames.specs.declared.homes.Homes.{Homes}
-use Rattle.t_frames.proofs.Made.{front_none}
-use Rattle.t_frames.proofs.Steps.{gather_is}
+use Rattle.t_spill_rules.specs.Spill.{Held, homed, into, keep, among, numbers, high_part, gather, gathered}
+use Rattle.t_spill_code.specs.Homes.{home_in, has_in, Sets, Lists, text, with_slots}
+use Rattle.t_spill_code.specs.Onto.{onto, front, gathers}
+use Rattle.t_spill_code.specs.declared.homes.Homes.{Homes}
+use Rattle.t_spill_code.proofs.Made.{front_none}
+use Rattle.t_spill_code.proofs.Steps.{gather_is}
 use Rattle.t_spill.specs.Finishing.{Frames, Gathered}
 use Rattle.t_spill.specs.Picking.{wanted, picked_one, picked}
 use Rattle.t_spill.specs.declared.finish.Code.{Code}

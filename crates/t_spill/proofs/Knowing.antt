@@ -19,10 +19,11 @@ use Rattle.t_types.specs.Fits.{lookup}
 use Rattle.t_types.specs.WellFormed.{max_names, max_number, WellFormed, RegsAbove, WellFormedFile, WellFormedFields}
 use Rattle.t_terms.specs.Tree.{Reg, Int, Label, Data, TBase, TValue, Plain, Pack, TInstr, Arith, Bnz, Ld, Malloc, Mov}
 use Rattle.t_terms.specs.Tree.{St, Unpack, TEnd, Jmp, Halt, TProg, names_after}
-use Rattle.spill_law.specs.Spill.{or_int, ins, base_type, applied_type, type_of, field_type, filled_type, hidden_type}
-use Rattle.spill_law.specs.Spill.{target_file, target, end_target, next}
-use Rattle.spill_law.proofs.Files.{lookup_ins, raised_lookup, look_same, look_other}
-use Rattle.t_frames.proofs.Gathered.{other_at}
+use Rattle.t_spill_rules.specs.Spill.{or_int, ins, base_type, applied_type, type_of, field_type, filled_type}
+use Rattle.t_spill_rules.specs.Spill.{hidden_type}
+use Rattle.t_spill_rules.specs.Spill.{target_file, target, end_target, next}
+use Rattle.t_spill_laws.proofs.Files.{lookup_ins, raised_lookup, look_same, look_other}
+use Rattle.t_spill_code.proofs.Gathered.{other_at}
 use Rattle.t_spill.specs.Known.{seen, Knows, FitsNow, MayShow, one, alone, base_subject, value_subject, subject}
 use Rattle.t_spill.specs.Known.{end_subject, given}
 use Rattle.t_spill.specs.Ready.{Enough, Applies, InstrApplies, ReadyInstr, ReadyEnd, InstrTypable}

@@ -8,8 +8,8 @@ use Rattle.std.specs.Ordering.{nat_cmp}
 use Rattle.std.proofs.Math.Logic.{⊎_elim}
 use Rattle.std.proofs.lemmas.List.{take_more, drop_all, drop-append-le, length-take, length-append}
 use Rattle.std.proofs.lemmas.Bool.{cases_lt, cases_eq, eq-eqb, ne_eqb, lt-ltb, le-ltb}
-use Rattle.spill_law.specs.Spill.{among}
-use Rattle.t_frames.proofs.Gathered.{other_at}
+use Rattle.t_spill_rules.specs.Spill.{among}
+use Rattle.t_spill_code.proofs.Gathered.{other_at}
 use Rattle.t_spill.specs.Wants.{last_of, Tells}
 use Rattle.t_spill.specs.declared.ahead.Ahead.{Ahead}
 

@@ -11,14 +11,15 @@ use Rattle.t_terms.specs.Tree.{Reg, Int, Label, Data, TValue, Plain, Pack, TInst
 use Rattle.t_terms.specs.Tree.{Unpack, TEnd, Jmp, Halt, TSeq, Then, TProg}
 use Rattle.t_terms.specs.Whole.{WellFormedValue, WellFormedInstr}
 use Rattle.t_terms.specs.declared.instr.Instr.{Instr}
-use Rattle.spill_law.specs.Spill.{or_int, field_type, filled_type, hidden_type, ins, live, numbers, target, reads}
-use Rattle.spill_law.specs.Spill.{next, kept, among, slots, finish, after, way, defines, step, code, high_part, Layout}
-use Rattle.spill_law.proofs.Files.{lookup_ins, raised_lookup}
-use Rattle.spill_law.proofs.Live.{Agree, among_left, among_right, among_first, value_same, next_alike, target_alike}
-use Rattle.t_frames.specs.Onto.{onto, computed, ValueFits, InstrFits, EndFits}
-use Rattle.t_frames.specs.Homes.{home_in, has_in, with_slots}
-use Rattle.t_frames.specs.declared.homes.Homes.{Homes}
-use Rattle.t_frames.proofs.Steps.{step_is}
+use Rattle.t_spill_rules.specs.Spill.{or_int, field_type, filled_type, hidden_type, ins, live, numbers, target, reads}
+use Rattle.t_spill_rules.specs.Spill.{next, kept, among, slots, finish, after, way, defines, step, code, high_part}
+use Rattle.t_spill_rules.specs.Spill.{Layout}
+use Rattle.t_spill_laws.proofs.Files.{lookup_ins, raised_lookup}
+use Rattle.t_spill_laws.proofs.Live.{Agree, among_left, among_right, among_first, value_same, next_alike, target_alike}
+use Rattle.t_spill_code.specs.Onto.{onto, computed, ValueFits, InstrFits, EndFits}
+use Rattle.t_spill_code.specs.Homes.{home_in, has_in, with_slots}
+use Rattle.t_spill_code.specs.declared.homes.Homes.{Homes}
+use Rattle.t_spill_code.proofs.Steps.{step_is}
 use Rattle.t_spill.specs.Known.{given}
 use Rattle.t_spill.specs.Picking.{Homed}
 use Rattle.t_spill.specs.Ready.{ReadyInstr, ReadyEnd}

@@ -10,8 +10,8 @@ use Rattle.t_terms.specs.Spanned.{plain_fields}
 use Rattle.t_terms.specs.declared.block.Block.{Block}
 use Rattle.t_terms.specs.declared.data.Data.{Data}
 use Rattle.t_terms.specs.declared.value.Value.{Value}
-use Rattle.spill_law.specs.Spill.{sp_block, sp_blocks, sp_datum, sp_data, entry}
-use Rattle.t_frames.specs.Onto.{ValueFits}
+use Rattle.t_spill_rules.specs.Spill.{sp_block, sp_blocks, sp_datum, sp_data, entry}
+use Rattle.t_spill_code.specs.Onto.{ValueFits}
 use Rattle.t_spill.specs.Ready.{BlockReady, BlocksReady, DataReady, HeapReady}
 use Rattle.t_terms.proofs.Items.{blocks_more}
 use Rattle.std.proofs.lemmas.List.{append-nil as no_more}

@@ -7,12 +7,12 @@ use Rattle.t_types.specs.Tree.{Ty, TFile, NoRegs, MoreRegs}
 use Rattle.t_types.specs.Fits.{lookup}
 use Rattle.t_types.specs.Read.{tree, file}
 use Rattle.t_types.specs.declared.types.TType.{TType}
-use Rattle.spill_law.specs.Spill.{among, keep, numbers, high_part, with_if}
-use Rattle.spill_law.proofs.Files.{RisesFrom, Ascends, rises_ascends, CaseOf, case_of}
-use Rattle.spill_law.proofs.Live.{Agree, keep_at, ascends_keep, nothing as no_type, rises_less as less}
-use Rattle.t_frames.specs.Homes.{Lists, Above, Ascending}
-use Rattle.t_frames.specs.Onto.{front}
-use Rattle.t_frames.specs.declared.homes.Homes.{Homes}
+use Rattle.t_spill_rules.specs.Spill.{among, keep, numbers, high_part, with_if}
+use Rattle.t_spill_laws.proofs.Files.{RisesFrom, Ascends, rises_ascends, CaseOf, case_of}
+use Rattle.t_spill_laws.proofs.Live.{Agree, keep_at, ascends_keep, nothing as no_type, rises_less as less}
+use Rattle.t_spill_code.specs.Homes.{Lists, Above, Ascending}
+use Rattle.t_spill_code.specs.Onto.{front}
+use Rattle.t_spill_code.specs.declared.homes.Homes.{Homes}
 use Rattle.t_spill.specs.Known.{one}
 use Rattle.t_spill.specs.Picking.{wanted, picked_one, picked, Homed}
 

@@ -6,7 +6,7 @@ use Rattle.t_types.specs.WellFormed.{well_formed_prop, regs_above_prop, types_pr
 use Rattle.t_terms.specs.Tree.{TBase, Reg, Int, Label, Data, TValue, Plain, Pack, TInstr, Arith, Bnz, Ld, Malloc}
 use Rattle.t_terms.specs.Tree.{Mov, St, Unpack, TEnd, Jmp, Halt, TSeq, Then, Ends, TBlock, TProg, names_after}
 use Rattle.t_terms.specs.Whole.{WellFormedBase, WellFormedValue, WellFormedInstr}
-use Rattle.spill_law.specs.Spill.{base_type, next}
+use Rattle.t_spill_rules.specs.Spill.{base_type, next}
 use Rattle.t_spill.specs.Ready.{Enough, Applies, InstrApplies, ReadyInstr, ReadyEnd, Ready, BlocksReady}
 
 base_prop : (p q : ℕ) (b : TBase) → IsProp (WellFormedBase p q b)

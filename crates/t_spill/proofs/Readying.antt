@@ -7,10 +7,10 @@ use Rattle.t_terms.specs.Tree.{TValue, Plain, Pack, TInstr, Arith, Bnz, Ld, Mall
 use Rattle.t_terms.specs.Tree.{Halt, TSeq, Then, Ends, TBlock, TData, TProg, names_after}
 use Rattle.t_terms.specs.Whole.{WellFormedEnd, WellFormedSeq, WellFormedBlocks, WellFormedData, WellFormedHeap, Whole}
 use Rattle.t_rules.specs.Rules.{Has, Typed, EndTyped, SeqAccepted, BlocksAccepted, Accepted}
-use Rattle.spill_law.specs.Spill.{next, SeqFew, BlocksFew, TypesFew}
-use Rattle.spill_law.proofs.Computed.{base_is, next_is}
-use Rattle.spill_law.proofs.Scopes.{scoped_regs, regs_above, LabelsScoped, DataScoped, scoped_next, labels_scoped}
-use Rattle.spill_law.proofs.Scopes.{data_scoped}
+use Rattle.t_spill_rules.specs.Spill.{next, SeqFew, BlocksFew, TypesFew}
+use Rattle.t_spill_laws.proofs.Computed.{base_is, next_is}
+use Rattle.t_spill_laws.proofs.Scopes.{scoped_regs, regs_above, LabelsScoped, DataScoped, scoped_next, labels_scoped}
+use Rattle.t_spill_laws.proofs.Scopes.{data_scoped}
 use Rattle.t_spill.specs.Ready.{Enough, Applies, InstrApplies, ReadyEnd, Ready, BlocksReady, DataReady, HeapReady}
 use Rattle.t_spill.proofs.Onward.{some_value_fits}
 

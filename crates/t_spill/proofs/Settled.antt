@@ -7,14 +7,15 @@ use Rattle.std.proofs.lemmas.Bool.{cases_lt, lt-ltb, le-ltb, ne_eqb}
 use Rattle.t_types.specs.Tree.{Ty, TFile, shift_file}
 use Rattle.t_types.specs.Fits.{lookup}
 use Rattle.t_terms.specs.Tree.{TInstr, Arith, Bnz, Ld, Malloc, Mov, St, Unpack, TSeq, TProg, names_after}
-use Rattle.spill_law.specs.Spill.{Held, Layout, Way, Stays, Fills, Gathers, homed, into, sp, or_int, ins, next, kept}
-use Rattle.spill_law.specs.Spill.{keep, live, among, numbers, high_part, layout, gather, defines, way, way_of}
-use Rattle.spill_law.specs.Spill.{after_way}
-use Rattle.spill_law.specs.Spill.{slots_by, used_by, slots, finish, fill_slot, code, most_slots}
-use Rattle.spill_law.proofs.Files.{lookup_ins, look_same}
-use Rattle.spill_law.proofs.Live.{kept_wants, kept_agrees, kept_sub, kept_ascends}
-use Rattle.spill_law.proofs.Computed.{ascends_next}
-use Rattle.t_frames.specs.Homes.{home_in, has_in, layout_of, text}
+use Rattle.t_spill_rules.specs.Spill.{Held, Layout, Way, Stays, Fills, Gathers, homed, into, sp, or_int, ins, next}
+use Rattle.t_spill_rules.specs.Spill.{kept}
+use Rattle.t_spill_rules.specs.Spill.{keep, live, among, numbers, high_part, layout, gather, defines, way, way_of}
+use Rattle.t_spill_rules.specs.Spill.{after_way}
+use Rattle.t_spill_rules.specs.Spill.{slots_by, used_by, slots, finish, fill_slot, code, most_slots}
+use Rattle.t_spill_laws.proofs.Files.{lookup_ins, look_same}
+use Rattle.t_spill_laws.proofs.Live.{kept_wants, kept_agrees, kept_sub, kept_ascends}
+use Rattle.t_spill_laws.proofs.Computed.{ascends_next}
+use Rattle.t_spill_code.specs.Homes.{home_in, has_in, layout_of, text}
 use Rattle.t_spill.specs.Finishing.{used, Filled, Frames, Gathered}
 use Rattle.t_spill.specs.Known.{Knows, given}
 use Rattle.t_spill.specs.Moving.{Before, Between, Settles, low, finished}

@@ -8,7 +8,7 @@ use Rattle.t_types.specs.declared.types.TType.{TType}
 use Rattle.t_types.specs.Tree.{Ty, IntTy, MoreFields, flagged}
 use Rattle.t_types.specs.Fields.{field, filled, empty_fields}
 use Rattle.t_types.specs.Read.{tree, flag, fields, types}
-use Rattle.spill_law.specs.Spill.{type_in}
+use Rattle.t_spill_rules.specs.Spill.{type_in}
 use Rattle.std.proofs.Math.Bool.{or-false as or_false}
 use Rattle.idx_core.proofs.Bools.{or_true}
 

@@ -8,8 +8,8 @@ use Rattle.t_terms.specs.Spanned.{seq_of}
 use Rattle.t_terms.specs.Read.{instr, body, end_of}
 use Rattle.t_terms.specs.declared.instr.Instr.{Instr}
 use Rattle.t_terms.specs.declared.instr.End.{End}
-use Rattle.spill_law.specs.Spill.{live, numbers, target, end_target, reads, end_reads, next}
-use Rattle.t_frames.specs.Onto.{onto}
+use Rattle.t_spill_rules.specs.Spill.{live, numbers, target, end_target, reads, end_reads, next}
+use Rattle.t_spill_code.specs.Onto.{onto}
 use Rattle.t_spill.specs.Tails.{tail_of}
 use Rattle.t_spill.specs.Wants.{join}
 use Rattle.t_spill.specs.Ready.{ReadyInstr, ReadyEnd, Ready}

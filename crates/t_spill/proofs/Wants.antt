@@ -3,7 +3,7 @@ use Rattle.std.proofs.Common.{◌≡◌, ℕ, zero, suc, ◌<◌, ◌≤◌, Lis
 use Rattle.std.proofs.Common.{get_or, arith}
 use Rattle.t_types.specs.declared.types.TType.{TType}
 use Rattle.t_types.specs.Read.{file}
-use Rattle.spill_law.specs.Spill.{numbers}
+use Rattle.t_spill_rules.specs.Spill.{numbers}
 use Rattle.t_spill.specs.Wants.{join}
 
 pub join_snoc : (xs : List ℕ) (r : ℕ) (rest : List ℕ) → join (xs ++ r ∷ []) rest ≡ join xs (r ∷ rest)

@@ -3,12 +3,12 @@ use Rattle.std.specs.Prelude.{◌≡◌, ℕ, suc, ◌<◌, true, cond, nat_eq, 
 use Rattle.t_types.specs.Tree.{Ty, TFile}
 use Rattle.t_types.specs.Fits.{lookup}
 use Rattle.t_terms.specs.Tree.{TSeq}
-use Rattle.spill_law.specs.Spill.{Held, InSlot, homed, into, keep, layout, gather, fill_slot, among, numbers}
-use Rattle.spill_law.specs.Spill.{high_part}
-use Rattle.spill_law.proofs.Files.{Ascends}
-use Rattle.spill_law.proofs.Live.{Agree}
-use Rattle.t_frames.specs.Homes.{home_in, has_in, Sets, text}
-use Rattle.t_frames.specs.declared.homes.Homes.{Homes}
+use Rattle.t_spill_rules.specs.Spill.{Held, InSlot, homed, into, keep, layout, gather, fill_slot, among, numbers}
+use Rattle.t_spill_rules.specs.Spill.{high_part}
+use Rattle.t_spill_laws.proofs.Files.{Ascends}
+use Rattle.t_spill_laws.proofs.Live.{Agree}
+use Rattle.t_spill_code.specs.Homes.{home_in, has_in, Sets, text}
+use Rattle.t_spill_code.specs.declared.homes.Homes.{Homes}
 use Rattle.t_spill.specs.declared.finish.Code.{Code}
 
 abbrev pub used : Code → ℕ

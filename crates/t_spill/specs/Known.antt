@@ -9,7 +9,7 @@ use Rattle.t_types.specs.Fits.{lookup}
 use Rattle.t_types.specs.WellFormed.{max_names, WellFormedFile}
 use Rattle.t_terms.specs.Tree.{TBase, Reg, Int, Label, Data, TValue, Plain, Pack, TInstr, Arith, Bnz, Ld, Malloc, Mov}
 use Rattle.t_terms.specs.Tree.{St, Unpack, TEnd, Jmp, Halt, TProg}
-use Rattle.spill_law.specs.Spill.{or_int, type_of, field_type, filled_type, hidden_type}
+use Rattle.t_spill_rules.specs.Spill.{or_int, type_of, field_type, filled_type, hidden_type}
 use Rattle.t_spill.specs.declared.known.Entry.{Entry}
 use Rattle.t_spill.specs.declared.known.Known.{Known}
 

@@ -2,9 +2,9 @@
 use Rattle.std.specs.Prelude.{◌≡◌, ℕ, ◌<◌, Bool, true, false, cond, nat_lt, List, [], ◌∷◌, Option, Some, None}
 use Rattle.t_types.specs.Tree.{Ty, TFile, NoRegs, MoreRegs}
 use Rattle.t_types.specs.Fits.{lookup}
-use Rattle.spill_law.specs.Spill.{among}
-use Rattle.t_frames.specs.Homes.{has_in}
-use Rattle.t_frames.specs.declared.homes.Homes.{Homes}
+use Rattle.t_spill_rules.specs.Spill.{among}
+use Rattle.t_spill_code.specs.Homes.{has_in}
+use Rattle.t_spill_code.specs.declared.homes.Homes.{Homes}
 
 abbrev pub wanted : ℕ → List ℕ → ℕ → Bool
 wanted m ws r = cond (nat_lt m r) (among r ws) false

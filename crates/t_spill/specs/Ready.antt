@@ -5,8 +5,8 @@ use Rattle.t_types.specs.WellFormed.{max_names, WellFormedFile}
 use Rattle.t_terms.specs.Tree.{TValue, Plain, Pack, TInstr, Arith, Bnz, Ld, Malloc, Mov, St, Unpack, TEnd, Jmp, Halt}
 use Rattle.t_terms.specs.Tree.{TSeq, Then, Ends, TBlock, TData, TProg, names_after}
 use Rattle.t_terms.specs.Whole.{WellFormedValue, WellFormedInstr}
-use Rattle.spill_law.specs.Spill.{base_type, next}
-use Rattle.t_frames.specs.Onto.{ValueFits}
+use Rattle.t_spill_rules.specs.Spill.{base_type, next}
+use Rattle.t_spill_code.specs.Onto.{ValueFits}
 
 -- code owes as many types as go to it, at least
 abbrev pub Enough : Ty → List Ty → Type 0

@@ -3,7 +3,7 @@ use Rattle.std.specs.Prelude.{◌≡◌, ℕ, ◌+◌, ◌<◌, ◌^◌, nat_lt,
 use Rattle.std.specs.BTreeMap.{BTreeMap, get}
 use Rattle.std.specs.Option.{unwrap_or}
 use Rattle.std.specs.Ordering.{nat_cmp}
-use Rattle.spill_law.specs.Spill.{among}
+use Rattle.t_spill_rules.specs.Spill.{among}
 use Rattle.t_spill.specs.declared.ahead.Ahead.{Ahead}
 
 abbrev pub join : List ℕ → List ℕ → List ℕ

@@ -1,5 +1,5 @@
 -- What becomes of a word, by the value that tells it.
-use Rattle.spill_law.specs.Spill.{Way as TheWay, Stays as ToStay, Fills as ToFill, Gathers as ToGather}
+use Rattle.t_spill_rules.specs.Spill.{Way as TheWay, Stays as ToStay, Fills as ToFill, Gathers as ToGather}
 use Rattle.t_spill.specs.declared.way.Way.{Way}
 use Rattle.t_spill.specs.declared.way.Way.TheVariants.{Stays, Fills, Gathers}
 

@@ -1,6 +1,6 @@
 // The registers that are wanted ahead of a place of a block.
 ghost use Rattle.std.specs.Prelude.{◌≡◌, ◌≤◌, ℕ, List, IfOk, drop, length};
-ghost use Rattle.spill_law.specs.Spill.{among};
+ghost use Rattle.t_spill_rules.specs.Spill.{among};
 ghost use Rattle.t_spill.specs.Wants.{Tells};
 
 use idx_core::OutOfMemory;

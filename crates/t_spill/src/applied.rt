@@ -1,8 +1,8 @@
 // Code that types go to.
 ghost use Rattle.std.specs.Prelude.{◌≡◌, IfOk};
 ghost use Rattle.t_types.specs.Read.{tree, file, types as type_trees};
-ghost use Rattle.t_rules.specs.Registers.{inst_file};
-ghost use Rattle.spill_law.specs.Spill.{applied_type};
+ghost use Rattle.t_terms.specs.Registers.{inst_file};
+ghost use Rattle.t_spill_rules.specs.Spill.{applied_type};
 ghost use Rattle.t_spill.specs.Applying.{CanApply, MayApply};
 
 use idx_core::{OutOfMemory, Scoped};

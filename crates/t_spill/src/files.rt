@@ -5,7 +5,7 @@ ghost use Rattle.t_types.specs.Read.{tree, file, file_tree};
 ghost use Rattle.t_types.specs.WellFormed.{max_names};
 ghost use Rattle.t_terms.specs.Read.{instr as instr_tree};
 ghost use Rattle.t_terms.specs.ReadProgram.{program as program_tree};
-ghost use Rattle.spill_law.specs.Spill.{next as next_file};
+ghost use Rattle.t_spill_rules.specs.Spill.{next as next_file};
 ghost use Rattle.t_spill.specs.Ready.{InstrTypable};
 ghost use Rattle.t_spill.specs.Known.{Knows, alone, subject, given as given_type};
 ghost use Rattle.t_terms.specs.Tree.{names_after};

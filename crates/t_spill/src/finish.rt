@@ -12,7 +12,7 @@ use crate::known::Known;
 use crate::picking::picked;
 use idx_core::OutOfMemory;
 use std::alloc::Global;
-use t_frames::{Body, Homes, gather};
+use t_spill_code::{Body, Homes, gather};
 use t_types::TType;
 
 /// The code of a block so far, and where the words of registers stand after it.

@@ -3,7 +3,7 @@ ghost use Rattle.std.specs.Prelude.{◌≡◌, ◌+◌, ◌<◌, ◌≤◌, ℕ,
 ghost use Rattle.t_types.specs.Tree.{TFile, shift_file};
 ghost use Rattle.t_types.specs.Read.{tree, file, file_tree};
 ghost use Rattle.t_types.specs.WellFormed.{max_names};
-ghost use Rattle.spill_law.specs.Spill.{ins};
+ghost use Rattle.t_spill_rules.specs.Spill.{ins};
 ghost use Rattle.t_spill.specs.Known.{Knows, FitsNow, MayShow, seen, one, alone};
 
 use idx_core::{OutOfMemory, Scoped};

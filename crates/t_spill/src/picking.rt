@@ -4,8 +4,8 @@ ghost use Rattle.t_types.specs.Tree.{TFile};
 ghost use Rattle.t_types.specs.Read.{file};
 ghost use Rattle.t_types.specs.Fits.{lookup};
 ghost use Rattle.t_types.specs.WellFormed.{max_names, WellFormedFile};
-ghost use Rattle.t_frames.specs.Onto.{front};
-ghost use Rattle.t_frames.specs.Homes.{Lists};
+ghost use Rattle.t_spill_code.specs.Onto.{front};
+ghost use Rattle.t_spill_code.specs.Homes.{Lists};
 ghost use Rattle.t_spill.specs.Known.{Knows};
 ghost use Rattle.t_spill.specs.Picking.{wanted, picked_one, picked as picked_of};
 ghost use Rattle.t_spill.specs.Wants.{Tells};
@@ -14,7 +14,7 @@ use crate::ahead::Ahead;
 use crate::known::Known;
 use idx_core::OutOfMemory;
 use std::alloc::Global;
-use t_frames::{Homes, Split};
+use t_spill_code::{Homes, Split};
 use t_types::TType;
 
 // Whether a register is above the split and wanted.

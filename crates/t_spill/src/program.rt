@@ -4,15 +4,15 @@ ghost use Rattle.t_terms.specs.Read.{block as block_tree, blocks_of, data_of, da
 ghost use Rattle.t_terms.specs.Spanned.{plain_fields};
 ghost use Rattle.t_terms.specs.ReadProgram.{program as program_tree};
 ghost use Rattle.t_rules.specs.Rules.{Accepted};
-ghost use Rattle.spill_law.specs.Spill.{sp_blocks, sp_data, entry, spilled, TypesFew};
-ghost use Rattle.spill_law.specs.Correct.{origin};
-ghost use Rattle.spill_law.specs.Bounded.{Spills};
+ghost use Rattle.t_spill_rules.specs.Spill.{sp_blocks, sp_data, entry, spilled, TypesFew};
+ghost use Rattle.t_spill_laws.specs.Correct.{origin};
+ghost use Rattle.t_spill_laws.specs.Bounded.{Spills};
 ghost use Rattle.t_spill.specs.Ready.{BlocksReady, DataReady, HeapReady};
 
 use crate::block::spilled_block;
 use idx_core::{OutOfMemory, Span};
 use std::alloc::Global;
-use t_frames::{NOWHERE, Split, base_of, moved_base, spilled_type, spilled_value};
+use t_spill_code::{NOWHERE, Split, base_of, moved_base, spilled_type, spilled_value};
 use t_terms::{Base, Block, Data, End, Instr, TProgram, Value};
 use t_types::{RegFile, TType};
 
@@ -114,7 +114,7 @@ fn spilled_program(alloc: Global, program: &TProgram, k: u64) -> Result<TProgram
     requires names { ∥ TypesFew (program_tree program.now) ∥₁ }
     ensures { IfOk result (λ q. program_tree q ≡ spilled k (program_tree program.now)) }
 {
-    spill_law::programs_are_whole();
+    t_spill_laws::programs_are_whole();
     let split = Split::within(k);
     let blocks = spilled_blocks(alloc, program, split, &program.blocks)?;
     let heap = spilled_heap(alloc, split, &program.heap)?;
@@ -133,7 +133,7 @@ pub fn spill(alloc: Global, program: &TProgram, k: u64) -> Result<TProgram, OutO
     ensures spills { IfOk result (λ q.
         ∥ Spills k (program_tree program.now) (program_tree q) (origin k (program_tree program.now)) ∥₁) }
 {
-    spill_law::registers_are_bounded();
+    t_spill_laws::registers_are_bounded();
     let made = spilled_program(alloc, program, k)?;
     Ok(made)
 }

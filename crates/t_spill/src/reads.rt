@@ -2,7 +2,7 @@
 ghost use Rattle.std.specs.Prelude.{◌≡◌, ◌≤◌, ◌∷◌, ℕ, List, OnOk, length};
 ghost use Rattle.t_types.specs.Read.{file};
 ghost use Rattle.t_terms.specs.Read.{value as value_tree, instr as instr_tree, end_of as end_tree};
-ghost use Rattle.spill_law.specs.Spill.{numbers, value_reads, reads, end_reads};
+ghost use Rattle.t_spill_rules.specs.Spill.{numbers, value_reads, reads, end_reads};
 ghost use Rattle.t_spill.specs.Wants.{join};
 
 use idx_core::OutOfMemory;

@@ -4,7 +4,7 @@ ghost use Rattle.t_types.specs.Tree.{TupleTy};
 ghost use Rattle.t_types.specs.Fields.{field, filled, empty_fields};
 ghost use Rattle.t_types.specs.Fits.{lookup};
 ghost use Rattle.t_types.specs.Read.{tree, file, fields, types as type_trees};
-ghost use Rattle.spill_law.specs.Spill.{or_int, type_in, field_type, filled_type, hidden_type};
+ghost use Rattle.t_spill_rules.specs.Spill.{or_int, type_in, field_type, filled_type, hidden_type};
 
 use idx_core::OutOfMemory;
 use std::alloc::Global;

@@ -7,8 +7,9 @@ ghost use Rattle.t_terms.specs.Read.{data_fields as data_items};
 ghost use Rattle.t_terms.specs.Spanned.{plain_fields};
 ghost use Rattle.t_terms.specs.ReadProgram.{program as program_tree};
 ghost use Rattle.t_types.specs.Fits.{lookup};
-ghost use Rattle.t_rules.specs.Rules.{data_fields, label_type, data_type};
-ghost use Rattle.spill_law.specs.Spill.{or_int, base_type, type_of, target_file, target as instr_target, end_target};
+ghost use Rattle.t_terms.specs.Labels.{data_fields, label_type, data_type};
+ghost use Rattle.t_spill_rules.specs.Spill.{or_int, base_type, type_of, target_file, target as instr_target};
+ghost use Rattle.t_spill_rules.specs.Spill.{end_target};
 ghost use Rattle.t_spill.specs.Ready.{Typable, InstrTypable, ReadyEnd};
 
 use crate::applied::applied;

@@ -3,7 +3,7 @@ ghost use Rattle.std.specs.Prelude.{◌≡◌, ℕ, List, OnOk, IfOk};
 ghost use Rattle.t_types.specs.Read.{file_tree};
 ghost use Rattle.t_terms.specs.Read.{instr as instr_tree};
 ghost use Rattle.t_terms.specs.ReadProgram.{program as program_tree};
-ghost use Rattle.spill_law.specs.Spill.{numbers, target as instr_target, reads, live};
+ghost use Rattle.t_spill_rules.specs.Spill.{numbers, target as instr_target, reads, live};
 ghost use Rattle.t_spill.specs.Ready.{InstrTypable, Ready};
 ghost use Rattle.t_spill.specs.Tails.{tail_of};
 ghost use Rattle.t_spill.specs.Wants.{join};

@@ -1,10 +1,10 @@
 // What becomes of the word that an instruction computes.
 ghost use Rattle.std.specs.Prelude.{◌≡◌};
 ghost use Rattle.t_terms.specs.Read.{instr as instr_tree};
-ghost use Rattle.spill_law.specs.Spill.{way as way_at, way_of as way_of_register, defines};
+ghost use Rattle.t_spill_rules.specs.Spill.{way as way_at, way_of as way_of_register, defines};
 ghost use Rattle.t_spill.specs.Ways.{way_tree};
 
-use t_frames::Split;
+use t_spill_code::Split;
 use t_terms::Instr;
 
 // Where so many slots are filled, a new frame is made.

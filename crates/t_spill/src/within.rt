@@ -5,8 +5,9 @@ ghost use Rattle.t_terms.specs.Spanned.{plain_fields, seq_of};
 ghost use Rattle.t_terms.specs.Read.{base as base_tree, value as value_tree, instr as instr_tree, end_of as end_tree};
 ghost use Rattle.t_terms.specs.Read.{body as body_trees, blocks_of, data_of, data_fields as data_items};
 ghost use Rattle.t_terms.specs.ReadProgram.{program as program_tree};
-ghost use Rattle.spill_law.specs.Bound.{InType, InFile, InFields, InTypes, InBase, InValue, InInstr, InSeq, InBlocks};
-ghost use Rattle.spill_law.specs.Bound.{InData, InHeap, RegistersUpTo};
+ghost use Rattle.t_spill_laws.specs.Bound.{InType, InFile, InFields, InTypes, InBase, InValue, InInstr, InSeq};
+ghost use Rattle.t_spill_laws.specs.Bound.{InBlocks};
+ghost use Rattle.t_spill_laws.specs.Bound.{InData, InHeap, RegistersUpTo};
 ghost use Rattle.t_spill.specs.Within.{EndWithin};
 
 use idx_core::Span;

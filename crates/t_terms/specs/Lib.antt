@@ -9,3 +9,5 @@ pub mod SpannedLaws
 pub mod Tree
 pub mod TreeLaws
 pub mod Whole
+pub mod Registers
+pub mod Labels

@@ -10,3 +10,8 @@ pub mod TableRows
 pub mod TextExact
 pub mod TokenLaws
 pub mod Worked
+pub mod Exact
+pub mod Finding
+pub mod Keeping
+mod First
+mod Rows

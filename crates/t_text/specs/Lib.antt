@@ -6,3 +6,7 @@ pub mod NestingLaws
 pub mod Raw
 pub mod Text
 pub mod Tokens
+pub mod Cut
+pub mod Kept
+pub mod Scan
+pub mod Kind

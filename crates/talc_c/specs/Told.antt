@@ -2,8 +2,8 @@
 use Rattle.std.specs.Prelude.{◌≡◌, ◌==◌, ◌<◌, ◌≤◌, ◌++◌, if◌then◌else◌, ℕ, List, length, drop}
 use Rattle.std.specs.Prelude.{Option, Some, None, Result, Ok, Err, Vec}
 use Rattle.std.specs.declared.alloc.Global.{Global}
-use Rattle.words.specs.declared.form.Form.{Form}
-use Rattle.words.specs.declared.form.Form.TheVariants as form
+use Rattle.talc_words.specs.declared.form.Form.{Form}
+use Rattle.talc_words.specs.declared.form.Form.TheVariants as form
 use Rattle.talc_core.specs.declared.status.Status.TheVariants.{Done}
 use Rattle.talc_core.specs.declared.refusal.Refusal.{Refusal}
 use Rattle.talc_core.specs.declared.refusal.Refusal.TheVariants as refusal

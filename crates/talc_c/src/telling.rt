@@ -5,7 +5,7 @@ ghost use Rattle.talc_c.specs.Told.{IsPut, Tells, made_as, form_at};
 
 use crate::answer::{MEMORY, Made, SMALL, of_fault, put};
 use talc_core::{Ending, Refusal, Reply, Status};
-use words::Form;
+use talc_words::Form;
 
 // Puts what is made into the host's memory, where there is room for all of it.
 fn put_into(room: &mut [u8], made: &[u8], status: Status) -> Made

@@ -13,7 +13,7 @@ use Rattle.t_terms.specs.Whole.{Whole}
 use Rattle.t_rules.specs.Rules.{Accepted}
 use Rattle.t_rules.specs.Machine.{HaltsWithin, GoesOnAfter}
 use Rattle.t_rules.specs.Times.{program_size}
-use Rattle.spill_law.specs.Bound.{RegistersUpTo}
+use Rattle.t_spill_laws.specs.Bound.{RegistersUpTo}
 use Rattle.pipeline.specs.Meaning.{SameMeaning, RunsSeldom, HaltsSoon}
 use Rattle.t_machine.specs.Seldom.{SeldomRunsAreCovered}
 use Rattle.talc_core.specs.FirstFault.{IsChecked, IsAcceptedText}

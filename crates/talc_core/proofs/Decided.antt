@@ -7,7 +7,7 @@ use Rattle.f_terms.specs.Ty.{Ty, TInt, TVar, TArrow, TAll, TTuple, TSome, TRef, 
 use Rattle.f_terms.specs.Tm.{Tm, Spn, plain, span_of}
 use Rattle.f_terms.specs.Cells.{has_cells}
 use Rattle.f_terms.specs.Faults as typing
-use Rattle.f_parser.specs.Text as parser
+use Rattle.f_grammar.specs.Text as parser
 use Rattle.t_terms.specs.declared.fault.TCode.{TCode}
 use Rattle.t_terms.specs.Spanned.{SProg, plain_program}
 use Rattle.t_text.specs.Text as assembly

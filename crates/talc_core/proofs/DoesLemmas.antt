@@ -20,7 +20,7 @@ use Rattle.talc_core.specs.Explained.{ShowsExplained}
 use Rattle.talc_core.specs.Headline.{Unwritten, WrittenAlone, SeedWrittenAlone}
 use Rattle.talc_core.specs.Headline.{TextAnswer, LineAnswer, SeedAnswer, Does}
 use Rattle.talc_core.specs.Binding.{ShowsTypes}
-use Rattle.seeds.specs.Source.{source as source_of}
+use Rattle.f_seeds.specs.Source.{source as source_of}
 use Rattle.io_core.specs.Outside.{with_file}
 use Rattle.talc_core.specs.OnTexts.{Making, status_at}
 use Rattle.talc_core.specs.Steps.{MakesFile, ShowsFile, ShowsSeed, Performs, Reports}

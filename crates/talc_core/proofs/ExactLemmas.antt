@@ -18,7 +18,7 @@ use Rattle.talc_core.specs.CompiledText.{CompiledText, CompiledTextWithin}
 use Rattle.talc_core.specs.Upgraded.{IsUpgraded}
 use Rattle.talc_core.specs.Shown.{Showing, ShowsType, ShowsValue, ValueShown, ShowsAccepted, ShowsRun, ShowsTrace}
 use Rattle.talc_core.specs.Shown.{HaltedShown, ShowsCost}
-use Rattle.words.specs.declared.form.Form.{Form}
+use Rattle.talc_words.specs.declared.form.Form.{Form}
 use Rattle.talc_core.specs.FormShown.{ShowsForm}
 use Rattle.talc_core.specs.Explained.{ShowsExplained}
 use Rattle.talc_core.specs.Binding.{ShowsTypes}

@@ -11,7 +11,7 @@ use Rattle.f_terms.specs.Ty.{NoTys}
 use Rattle.f_terms.specs.Tm.{plain}
 use Rattle.f_terms.specs.Read.{place}
 use Rattle.f_terms.specs.Accepted.{IsAccepted}
-use Rattle.f_parser.specs.Text as reading
+use Rattle.f_grammar.specs.Text as reading
 use Rattle.f_terms.specs.Faults.{FaultWith}
 use Rattle.t_terms.specs.declared.fault.TCode.{TCode}
 use Rattle.t_terms.specs.declared.fault.TFault.{TFault}
@@ -32,11 +32,11 @@ use Rattle.t_text.specs.declared.token.Token.{Token}
 use Rattle.t_text.specs.Tokens.{IsCut}
 use Rattle.t_text.specs.Text as assembly
 use Rattle.t_text.specs.Text.{in_tokens, unexpected, cut_short, too_deep, in_names, code_of}
-use Rattle.t_lexer.specs.Cut.{NoTokenFaultWhereCut}
-use Rattle.t_wanted.specs.Text as assembly_wanted
+use Rattle.t_text.specs.Cut.{NoTokenFaultWhereCut}
+use Rattle.talc_wanted.specs.AssemblyText as assembly_wanted
 use Rattle.talc_core.specs.AtOdds.{Told, AtOdds, unread_told, source_told, whole_told, assembly_told}
 use Rattle.talc_core.specs.Wanted.{by_grammar, IsWanted, CouldStand}
-use Rattle.text_kind.specs.Kind.{AssemblyBeginsSo, begins_with_tal}
+use Rattle.t_text.specs.Kind.{AssemblyBeginsSo, begins_with_tal}
 use Rattle.talc_core.specs.Explained.{looked_for, explained, IsExplainedBy, IsExplainedAsChecked}
 use Rattle.talc_core.specs.Explained.{CheckedIsExplained, OneExplanation, TakenIsExplained}
 use Rattle.talc_core.specs.Steps.{IsFinding, IsBare, told_of}

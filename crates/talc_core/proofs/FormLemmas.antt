@@ -7,13 +7,13 @@ use Rattle.std.specs.Str.{bytes_eq}
 use Rattle.f_terms.specs.Ty.{TInt}
 use Rattle.f_terms.specs.Tm.{Tm, plain}
 use Rattle.f_terms.specs.Accepted.{IsAccepted}
-use Rattle.f_parser.specs.Text.{Source as StandsFor, FewBytes}
+use Rattle.f_grammar.specs.Text.{Source as StandsFor, FewBytes}
 use Rattle.f_writer.specs.Laws.{WrittenTwiceIsWrittenOnce, WrittenTextsAreWithin}
-use Rattle.words.specs.declared.form.Form.{Form}
-use Rattle.words.specs.declared.form.Form.TheVariants.{Source, Assembly}
+use Rattle.talc_words.specs.declared.form.Form.{Form}
+use Rattle.talc_words.specs.declared.form.Form.TheVariants.{Source, Assembly}
 use Rattle.pipeline.specs.Made.{IsMade, compiled_program}
-use Rattle.forms.specs.Forms.{assembly_text, form_text}
-use Rattle.forms.specs.Translated.{FormsAreOfTranslations, IsFormOf}
+use Rattle.pipeline.specs.Forms.{assembly_text, form_text}
+use Rattle.pipeline.specs.Translated.{FormsAreOfTranslations, IsFormOf}
 use Rattle.talc_core.specs.FirstFault.{AProgram, IsChecked, IsTaken}
 use Rattle.talc_core.specs.FormShown.{FormShown}
 use Rattle.talc_core.specs.Composition.{OneCompiledText, OneForm, ShownAssemblyIsCompiled, ShownSourceIsTheSame}

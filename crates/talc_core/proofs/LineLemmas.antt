@@ -13,7 +13,7 @@ use Rattle.t_rules.specs.Machine.{State, At, Spot, After}
 use Rattle.t_rules.specs.LawsSound.{heap_of, regs_of, OneRun, OneKnown}
 use Rattle.t_rules.specs.Erase.{EWord, ERegs, erase_blocks, erase_regs, erase_seq, erase_word}
 use Rattle.t_rules.specs.Kinds.{HasKind, KnownWordsHaveKinds}
-use Rattle.t_registers.specs.Fitted.{RisesFrom}
+use Rattle.t_known.specs.Fitted.{RisesFrom}
 use Rattle.t_machine.specs.Words.{shown_word}
 use Rattle.t_trace.specs.Line.{line_text}
 use Rattle.talc_core.specs.Traced.{AreOfKinds, HaveWords, LinesShowKinds, OneLine}

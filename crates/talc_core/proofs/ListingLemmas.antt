@@ -11,7 +11,7 @@ use Rattle.t_rules.specs.LawsSound.{OneKnown}
 use Rattle.listing.specs.Listing.{file_row, register_row, set_by, text_row, label_end, line_end}
 use Rattle.listing.specs.Listing.{IsFileRow, IsSetRow, AreSteps, IsLastRow, IsBegun, IsBlock, AreBlocks}
 use Rattle.listing.specs.Listing.{IsListing}
-use Rattle.t_cut.specs.Before.{is_before_blocks, in_block, steps_to}
+use Rattle.listing.specs.Before.{is_before_blocks, in_block, steps_to}
 use Rattle.listing.specs.Begun.{AreBlocksTo, IsListingTo}
 use Rattle.talc_core.specs.declared.fault.Fault.{Fault}
 use Rattle.talc_core.specs.declared.fault.Fault.TheVariants.{Source, Tal}

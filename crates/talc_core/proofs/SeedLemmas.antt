@@ -18,8 +18,8 @@ use Rattle.f_check.specs.Typed.{program_term}
 use Rattle.f_check.specs.declared.typed.Program.{Program}
 use Rattle.t_check.specs.Checked.{checked_program}
 use Rattle.t_check.specs.declared.checked.Checked.{Checked}
-use Rattle.seeds.specs.Source.{source as source_of}
-use Rattle.seeds.specs.Laws.{SourcesArePrograms}
+use Rattle.f_seeds.specs.Source.{source as source_of}
+use Rattle.f_seeds.specs.Laws.{SourcesArePrograms}
 use Rattle.talc_core.specs.declared.fault.Fault.{Fault}
 use Rattle.talc_core.specs.declared.refusal.Refusal.{Refusal}
 use Rattle.talc_core.specs.declared.refusal.Refusal.TheVariants as refusal

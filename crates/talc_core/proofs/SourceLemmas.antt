@@ -7,7 +7,7 @@ use Rattle.f_terms.specs.Tm.{Tm, plain, span_of}
 use Rattle.f_terms.specs.Cells.{has_cells}
 use Rattle.f_terms.specs.Limits.{nodes}
 use Rattle.f_terms.specs.Scope.{IsClosed}
-use Rattle.f_parser.specs.Text.{ClosedTerms}
+use Rattle.f_grammar.specs.Text.{ClosedTerms}
 use Rattle.f_terms.specs.Read.{place}
 use Rattle.talc_core.specs.declared.fault.Fault.TheVariants.{Source}
 use Rattle.talc_core.specs.declared.refusal.Refusal.TheVariants as refusal

@@ -13,12 +13,12 @@ use Rattle.t_terms.specs.Spanned.{SProg}
 use Rattle.t_text.specs.Text as assembly
 use Rattle.t_rules.specs.Mismatch.{Mismatch}
 use Rattle.t_rules.specs.Faults.{ProgramFaultWith}
-use Rattle.mismatch_text.specs.Line.{not_int_line}
-use Rattle.mismatch_text.specs.Apart.{source_lines, assembly_lines}
-use Rattle.mismatch_text.specs.Form.{form_of, found_form}
-use Rattle.mismatch_text.specs.Value.{of_spn, value_place}
-use Rattle.fault_hint.specs.declared.form.Form.{Form}
-use Rattle.fault_hint.specs.declared.form.Form.TheVariants.{Untold}
+use Rattle.talc_faults.specs.Line.{not_int_line}
+use Rattle.talc_faults.specs.Apart.{source_lines, assembly_lines}
+use Rattle.talc_faults.specs.Form.{form_of, found_form}
+use Rattle.talc_faults.specs.Value.{of_spn, value_place}
+use Rattle.talc_faults.specs.declared.type_form.Form.{Form}
+use Rattle.talc_faults.specs.declared.type_form.Form.TheVariants.{Untold}
 use Rattle.talc_core.specs.declared.fault.Fault.{Fault}
 use Rattle.talc_core.specs.declared.fault.Fault.TheVariants.{Source, Tal}
 use Rattle.talc_core.specs.FirstFault.{IsParsed, IsChecked, IsAssembly, ReadingFault}

@@ -1,9 +1,9 @@
 -- What the words of the command line ask for: see the crate of the words, where it is a definition over `clap`'s rules.
 use Rattle.std.specs.Prelude.{List, ℕ, Option, Some, None}
 use Rattle.talc_core.specs.FirstFault.{Need, AnyText, AnyTerm, AProgram, CellFree, AnAssembly}
-pub use Rattle.words.specs.Command.{Asked, Compiles, CompilesWithin, Types, Evaluates, Checks, Runs, Generates}
-pub use Rattle.words.specs.Command.{Upgrades, Traces, Shows, Explains, Lists, Costs, TypesNames}
-pub use Rattle.words.specs.Command.{command_of}
+pub use Rattle.talc_words.specs.Command.{Asked, Compiles, CompilesWithin, Types, Evaluates, Checks, Runs, Generates}
+pub use Rattle.talc_words.specs.Command.{Upgrades, Traces, Shows, Explains, Lists, Costs, TypesNames}
+pub use Rattle.talc_words.specs.Command.{command_of}
 
 -- what the command needs of the text that it works on: of the one that it reads, or of the source that it makes
 abbrev pub need_of : Asked → Need

@@ -5,7 +5,7 @@ use Rattle.f_terms.specs.Tm.{Tm, plain}
 use Rattle.t_terms.specs.Tree.{TProg}
 use Rattle.t_terms.specs.Whole.{Whole}
 use Rattle.t_rules.specs.Rules.{Accepted}
-use Rattle.spill_law.specs.Bound.{RegistersUpTo}
+use Rattle.t_spill_laws.specs.Bound.{RegistersUpTo}
 use Rattle.pipeline.specs.Meaning.{SameMeaning, RunsSeldom, HaltsSoon}
 use Rattle.talc_core.specs.FirstFault.{IsChecked}
 use Rattle.talc_core.specs.Written.{IsWritten}

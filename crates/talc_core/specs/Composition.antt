@@ -11,11 +11,11 @@ use Rattle.t_rules.specs.Machine.{NeverSticks, GoesOnAfter}
 use Rattle.t_rules.specs.Times.{program_size}
 use Rattle.t_machine.specs.Room.{Covers}
 use Rattle.t_machine.specs.Seldom.{mallocs, malloc_fields}
-use Rattle.spill_law.specs.Bound.{RegistersUpTo}
+use Rattle.t_spill_laws.specs.Bound.{RegistersUpTo}
 use Rattle.pipeline.specs.Meaning.{SameMeaning}
-use Rattle.f_parser.specs.Text.{Source as StandsFor, FewBytes}
-use Rattle.words.specs.declared.form.Form.{Form}
-use Rattle.words.specs.declared.form.Form.TheVariants.{Source, Assembly}
+use Rattle.f_grammar.specs.Text.{Source as StandsFor, FewBytes}
+use Rattle.talc_words.specs.declared.form.Form.{Form}
+use Rattle.talc_words.specs.declared.form.Form.TheVariants.{Source, Assembly}
 use Rattle.talc_core.specs.FirstFault.{AProgram, AnAssembly, IsChecked, IsAssembly, IsAcceptedText, IsTaken}
 use Rattle.talc_core.specs.Written.{IsWritten}
 use Rattle.talc_core.specs.Compiled.{IsCompiled, IsCompiledWithin}

@@ -13,7 +13,7 @@ use Rattle.f_terms.specs.Cells.{has_cells}
 use Rattle.f_terms.specs.Eval.{IsSpent}
 use Rattle.t_terms.specs.Spanned.{SProg, plain_program}
 use Rattle.t_rules.specs.Machine.{GoesOnAfter}
-use Rattle.seeds.specs.Source.{source}
+use Rattle.f_seeds.specs.Source.{source}
 use Rattle.talc_core.specs.FirstFault.{Need, FirstFault, IsChecked, IsAcceptedText, IsTaken}
 use Rattle.talc_core.specs.Command.{Asked, Compiles, CompilesWithin, Evaluates, Runs, Costs, Generates, Upgrades}
 use Rattle.talc_core.specs.Command.{Traces, Explains}

@@ -1,12 +1,12 @@
 -- What `explain` shows of a text.
 use Rattle.std.specs.Prelude.{◌≡◌, ◌⊎◌, ◌↔◌, ℕ, List, true, if◌then◌else◌, codes}
-use Rattle.fault_page.specs.Page.{page}
-use Rattle.text_kind.specs.Kind.{begins_with_tal}
+use Rattle.page_core.specs.Page.{page}
+use Rattle.t_text.specs.Kind.{begins_with_tal}
 use Rattle.talc_core.specs.declared.fault.Fault.{Fault}
 use Rattle.talc_core.specs.declared.fault.Fault.TheVariants.{Source, Tal}
 use Rattle.talc_core.specs.declared.status.Status.TheVariants.{Done}
 use Rattle.talc_core.specs.Lines.{source_code, source_words, tal_code, tal_words}
-use Rattle.fault_hint.specs.Hints.{source_hint_at, tal_hint_at}
+use Rattle.talc_faults.specs.Hints.{source_hint_at, tal_hint_at}
 use Rattle.talc_core.specs.FirstFault.{Need, AProgram, AnAssembly, FirstFault, IsTaken}
 use Rattle.talc_core.specs.AtOdds.{Told, AtOdds}
 use Rattle.talc_core.specs.Shown.{Showing}

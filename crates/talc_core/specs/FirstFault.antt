@@ -9,7 +9,7 @@ use Rattle.f_terms.specs.Cells.{has_cells}
 use Rattle.f_terms.specs.Read.{place}
 use Rattle.f_terms.specs.Accepted.{IsAccepted}
 use Rattle.f_terms.specs.Faults as typing
-use Rattle.f_parser.specs.Text as parser
+use Rattle.f_grammar.specs.Text as parser
 use Rattle.t_types.specs.WellFormed.{max_number}
 use Rattle.t_terms.specs.declared.fault.TCode.{TCode}
 use Rattle.t_terms.specs.Spanned.{SProg, plain_program}

@@ -2,9 +2,9 @@
 use Rattle.std.specs.Prelude.{◌≡◌, ℕ, List}
 use Rattle.f_terms.specs.Ty.{TInt}
 use Rattle.f_terms.specs.Tm.{Tm, plain}
-use Rattle.words.specs.declared.form.Form.{Form}
-use Rattle.forms.specs.Forms.{form_text}
-use Rattle.forms.specs.Translated.{IsFormOf}
+use Rattle.talc_words.specs.declared.form.Form.{Form}
+use Rattle.pipeline.specs.Forms.{form_text}
+use Rattle.pipeline.specs.Translated.{IsFormOf}
 use Rattle.talc_core.specs.declared.status.Status.TheVariants.{Done}
 use Rattle.talc_core.specs.FirstFault.{IsChecked}
 use Rattle.talc_core.specs.Shown.{Showing}

@@ -10,7 +10,7 @@ use Rattle.talc_core.specs.Fault.{status_of}
 use Rattle.talc_core.specs.FirstFault.{Need, AnyText, AnyTerm, AProgram, CellFree, AnAssembly, FirstFault}
 use Rattle.talc_core.specs.CompiledText.{CompiledText, CompiledTextWithin}
 use Rattle.talc_core.specs.Upgraded.{IsUpgraded}
-use Rattle.seeds.specs.Source.{source}
+use Rattle.f_seeds.specs.Source.{source}
 use Rattle.talc_core.specs.Shown.{Showing, ShowsType, ShowsValue, ShowsAccepted, ShowsRun, ShowsTrace, ShowsCost}
 use Rattle.talc_core.specs.Shown.{SeedShown}
 use Rattle.talc_core.specs.FormShown.{ShowsForm}

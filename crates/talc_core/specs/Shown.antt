@@ -8,7 +8,7 @@ use Rattle.talc_core.specs.declared.status.Status.{Status}
 use Rattle.talc_core.specs.declared.status.Status.TheVariants.{Done, Budget}
 use Rattle.t_terms.specs.Spanned.{SProg, plain_program}
 use Rattle.t_rules.specs.Machine.{HaltsWithin, Halts, GoesOnAfter, NeverSticks}
-use Rattle.seeds.specs.Source.{source as source_of}
+use Rattle.f_seeds.specs.Source.{source as source_of}
 use Rattle.talc_core.specs.FirstFault.{IsChecked, IsAcceptedText}
 use Rattle.talc_core.specs.Compiled.{IsCompiled}
 use Rattle.talc_core.specs.Costed.{HaltedCost, RunningCost}

@@ -44,7 +44,7 @@ use Rattle.talc_core.specs.FirstFault.{Need, AnyText, AnyTerm, AProgram, CellFre
 use Rattle.talc_core.specs.FirstFault.{IsChecked, IsAcceptedText, IsTaken, FirstFault}
 use Rattle.talc_core.specs.CompiledText.{CompiledText, CompiledTextWithin}
 use Rattle.talc_core.specs.Upgraded.{IsUpgraded}
-use Rattle.seeds.specs.Source.{source as source_of}
+use Rattle.f_seeds.specs.Source.{source as source_of}
 use Rattle.talc_core.specs.Shown.{Showing, ShowsType, ShowsValue, ShowsAccepted, ShowsRun, ShowsTrace, ShowsCost}
 use Rattle.talc_core.specs.Shown.{SeedShown, seed_turns}
 use Rattle.talc_core.specs.FormShown.{ShowsForm}

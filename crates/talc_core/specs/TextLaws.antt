@@ -1,10 +1,10 @@
 -- The laws of the crates below on which the laws of texts stand.
-use Rattle.f_parser.specs.Text as reading
+use Rattle.f_grammar.specs.Text as reading
 use Rattle.f_terms.specs.Laws as typing
 use Rattle.t_text.specs.Text as assembly
 use Rattle.t_rules.specs.LawsFaults as checking
-use Rattle.f_wanted.specs.Text as source_wanted
-use Rattle.t_wanted.specs.Text as assembly_wanted
+use Rattle.talc_wanted.specs.SourceText as source_wanted
+use Rattle.talc_wanted.specs.AssemblyText as assembly_wanted
 use Rattle.t_rules.specs.LawsSound.{OneRun, HaltingIsLast, HaltedOrOneStep, RunsOn, NothingSticks}
 
 pub record TextLaws : Type 0 where

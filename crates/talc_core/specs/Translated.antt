@@ -3,8 +3,8 @@ use Rattle.std.specs.Prelude.{◌≡◌, ℕ, List}
 use Rattle.f_terms.specs.Ty.{TInt}
 use Rattle.f_terms.specs.Tm.{Term, Tm, plain}
 use Rattle.t_terms.specs.Tree.{TProg}
-use Rattle.spill_law.specs.Bound.{RegistersUpTo}
-use Rattle.spill_law.specs.Spill.{spilled}
+use Rattle.t_spill_laws.specs.Bound.{RegistersUpTo}
+use Rattle.t_spill_rules.specs.Spill.{spilled}
 use Rattle.pipeline.specs.Compilation.{IsTranslation}
 use Rattle.pipeline.specs.Made.{IsMade}
 use Rattle.pipeline.specs.Work.{WorkByBound}

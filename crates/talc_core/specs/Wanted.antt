@@ -3,8 +3,8 @@ use Rattle.std.specs.Prelude.{◌≡◌, ℕ, List, [], Bool, true, false}
 use Rattle.std.specs.Bool.{MatchBool}
 use Rattle.f_terms.specs.declared.fault.Code.TheVariants.{E03, E04}
 use Rattle.t_terms.specs.declared.fault.TCode.TheVariants.{T03}
-use Rattle.f_wanted.specs.Text as source_wanted
-use Rattle.t_wanted.specs.Text as assembly_wanted
+use Rattle.talc_wanted.specs.SourceText as source_wanted
+use Rattle.talc_wanted.specs.AssemblyText as assembly_wanted
 use Rattle.talc_core.specs.declared.fault.Fault.{Fault}
 use Rattle.talc_core.specs.declared.fault.Fault.TheVariants.{Source, Tal}
 

@@ -1,7 +1,7 @@
 // What the commands do: one module for each.
 ghost use Rattle.talc_core.specs.Steps.{Performs, PutsReply};
-ghost use Rattle.words.specs.Command.{EnoughRegisters};
-ghost use Rattle.words.specs.Reads.{asked_by};
+ghost use Rattle.talc_words.specs.Command.{EnoughRegisters};
+ghost use Rattle.talc_words.specs.Reads.{asked_by};
 
 use crate::commands::check::show_acceptance;
 use crate::commands::compile::{compile_file, compile_file_within};
@@ -21,7 +21,7 @@ use crate::reply::{Ending, Reply};
 use crate::report::Failure;
 use io_core::{Files, Sink};
 use std::alloc::Global;
-use words::Command;
+use talc_words::Command;
 
 mod check;
 mod compile;

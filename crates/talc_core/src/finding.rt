@@ -19,15 +19,17 @@ use crate::fault::Fault;
 use crate::fault::wanted::could_stand;
 use crate::refusal::Refusal;
 use f_check::{Typed, check, mismatch_of};
-use f_parser::{closed_terms, parse};
+use f_grammar::closed_terms;
+use f_parser::parse;
 use f_terms::{Code, FFault, FTerm};
-use fault_hint::Form;
 use idx_core::{OutOfMemory, Span};
-use mismatch_text::{assembly_lines, form_of, found_form, not_int_line, source_lines, value_place};
 use std::alloc::Global;
 use t_check::check_salted;
 use t_reader::{read_salted, salt_of};
 use t_terms::{TFault, TProgram};
+use talc_faults::{
+    Form, assembly_lines, form_of, found_form, not_int_line, source_lines, value_place,
+};
 
 /// What is told of a fault besides its code and its place.
 #[derive(Drop)]

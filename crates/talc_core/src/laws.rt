@@ -21,7 +21,7 @@ ghost use Rattle.talc_core.specs.TextLaws.{MismatchLaws, TextLaws};
 ghost use Rattle.talc_core.specs.Traced.{LinesShowKinds, OneLine};
 ghost use Rattle.talc_core.specs.TraceLaws.{OneTrace, TraceEndsAsRun};
 
-use f_parser::{closed_terms, one_term, term_or_fault};
+use f_grammar::{closed_terms, one_term, term_or_fault};
 use f_terms::{
     evaluation_leaves_at_most_its_turns, no_fault_beside_a_pass, one_answer, one_type,
     pass_or_fault, passes_where_typed, programs_are_never_stuck,
@@ -41,8 +41,8 @@ pub(crate) fn texts_keep_laws()
     one_term();
     closed_terms();
     term_or_fault();
-    f_parser::no_fault_where_read();
-    f_parser::one_fault();
+    f_grammar::no_fault_where_read();
+    f_grammar::one_fault();
     one_type();
     passes_where_typed();
     pass_or_fault();
@@ -69,8 +69,8 @@ fn mismatches_keep_laws()
 {
     f_terms::one_mismatch();
     t_rules::at_most_one_mismatch();
-    f_wanted::one_line();
-    t_wanted::one_line();
+    talc_wanted::source_laws::one_line();
+    talc_wanted::assembly_laws::one_line();
 }
 
 /// Two first faults of one text are equal, where the same is needed of it.
@@ -312,7 +312,7 @@ pub fn cost_ends_as_run()
 pub fn taken_is_explained()
     ensures { TakenIsExplained }
 {
-    text_kind::assembly_begins_so();
+    t_text::assembly_begins_so();
 }
 
 /// Of each text whose first token is the word `tal`, `explain` shows that there is no fault where `check` takes it, and
@@ -320,7 +320,7 @@ pub fn taken_is_explained()
 pub fn checked_is_explained()
     ensures { CheckedIsExplained }
 {
-    t_lexer::no_token_fault_where_cut();
+    t_text::no_token_fault_where_cut();
 }
 
 /// What `explain` shows of a text is told by its name and the text.

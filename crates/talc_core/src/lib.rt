@@ -20,6 +20,7 @@ pub use commands::{
     form_of_text, listed_text, listing_text, run_text, trace_text, type_of_text, types_text,
     upgrade_text,
 };
+pub use f_seeds::source_of;
 pub use fault::Fault;
 pub use laws::{
     bounded_has_few_registers, bounded_is_taken, bounded_means_the_same, bounded_shows_the_same,
@@ -37,6 +38,5 @@ pub use laws::{
 pub use lines::fault_line;
 pub use refusal::Refusal;
 pub use reply::{Ending, Reply, TextListing};
-pub use seeds::source_of;
 pub use status::Status;
 pub use top::talc;

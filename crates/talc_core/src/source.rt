@@ -11,7 +11,8 @@ ghost use Rattle.talc_core.specs.Steps.{ChecksSource, ReadsProgram, ReadsCellFre
 use crate::fault::Fault;
 use crate::refusal::Refusal;
 use f_check::{Program, Typed, check};
-use f_parser::{closed_terms, parse};
+use f_grammar::closed_terms;
+use f_parser::parse;
 use f_terms::{Code, FTerm, has_cells};
 use idx_core::Span;
 use std::alloc::Global;

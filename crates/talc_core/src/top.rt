@@ -1,7 +1,7 @@
 // The top call.
 ghost use Rattle.std.specs.Prelude.{map, string_bytes};
-ghost use Rattle.words.specs.Command.{EnoughRegisters};
-ghost use Rattle.words.specs.Reads.{asked_by};
+ghost use Rattle.talc_words.specs.Command.{EnoughRegisters};
+ghost use Rattle.talc_words.specs.Reads.{asked_by};
 ghost use Rattle.talc_core.specs.Headline.{Does, Headline};
 ghost use Rattle.talc_core.specs.Exact.{Exactly};
 
@@ -11,7 +11,7 @@ use crate::report::{Failure, report, show};
 use crate::status::Status;
 use io_core::{Files, Sink};
 use std::alloc::Global;
-use words::{Command, NoCommand, read, registers_are_enough};
+use talc_words::{Command, NoCommand, read, registers_are_enough};
 
 // Does a command, and tells the user why where it fails.
 fn run_command<F: Files, O: Sink, E: Sink>(

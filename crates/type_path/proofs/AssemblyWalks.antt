@@ -11,8 +11,10 @@ use Rattle.t_types.specs.Fits.{lookup, FieldsFit, Fits}
 use Rattle.t_types.proofs.FitsLaws.{fields_fit_same}
 use Rattle.t_types.specs.WellFormed.{WellFormed, RegsAbove, WellFormedFields}
 use Rattle.type_path.specs.Paths.{Path, place, and_then, follow, IsFirst, or_else, inside}
-use Rattle.type_path.specs.Assembly.{Part, Whole, FlagOf, type_head, head, type_of_field, flag_of_field, type_into, into}
-use Rattle.type_path.specs.Assembly.{part, heads, flag_difference, difference, in_files, in_fields, taken, asked, misfit}
+use Rattle.type_path.specs.Assembly.{Part, Whole, FlagOf, type_head, head, type_of_field, flag_of_field, type_into}
+use Rattle.type_path.specs.Assembly.{into}
+use Rattle.type_path.specs.Assembly.{part, heads, flag_difference, difference, in_files, in_fields, taken, asked}
+use Rattle.type_path.specs.Assembly.{misfit}
 use Rattle.type_path.specs.declared.step.Step.{Step}
 use Rattle.type_path.specs.declared.step.Step.TheVariants.{Body, Field, Flag, Register}
 use Rattle.type_path.proofs.Walks as walks
@@ -435,7 +437,8 @@ IsFine (Whole t) = (n : ℕ) × WellFormed n t
 IsFine (FlagOf flag) = Unit {0}
 
 code_behind : (m n : ℕ) (f g : TFile) (s : Step) (p : Path) → IsFine (Whole (CodeTy m f)) →
-    IsFine (Whole (CodeTy n g)) → difference (CodeTy m f) (CodeTy n g) ≡ Some (s ∷ p) → Goes (Whole (CodeTy m f)) (Whole (CodeTy n g)) s p
+    IsFine (Whole (CodeTy n g)) → difference (CodeTy m f) (CodeTy n g) ≡ Some (s ∷ p) → Goes (Whole (CodeTy m f))
+    (Whole (CodeTy n g)) s p
 code_behind m n f g s p fa fb e =
     let h = chosen_more (m == n) (in_files f g) s p e in
     subst (λ z. Goes (Whole (CodeTy m f)) (Whole (CodeTy z g)) s p) (eqb-true m n h.0)

@@ -1,5 +1,6 @@
 -- Paths as the code holds them, the last step first.
-use Rattle.std.proofs.Common.{◌≡◌, ℕ, suc, ◌<◌, List, [], ◌∷◌, ◌++◌, length, get_or, take, Option, Some, None, Vec, Global, refl}
+use Rattle.std.proofs.Common.{◌≡◌, ℕ, suc, ◌<◌, List, [], ◌∷◌, ◌++◌, length, get_or, take, Option, Some, None, Vec}
+use Rattle.std.proofs.Common.{Global, refl}
 use Rattle.std.proofs.Common.{sym, ap, ◌∙◌}
 use Rattle.std.proofs.Math.Seq.{take-suc}
 use Rattle.type_path.specs.Paths.{Path, and_then, follow, inside, onto, path_of, read}

@@ -5,7 +5,7 @@ use Rattle.std.proofs.Common.{ap, ◌∙◌, arith, nat_lt, true, false, if◌th
 use Rattle.std.proofs.lemmas.Bool.Decides.{nat_tests}
 use Rattle.std.proofs.lemmas.List.{take_more, drop_more, drop_all, length-take}
 use Rattle.std.proofs.lemmas.List.Sums.{count_by_more_yes, count_by_more_no}
-use Rattle.fault_page.specs.Spot.{last_begin, ends_line}
+use Rattle.page_core.specs.Spot.{last_begin, ends_line}
 use Rattle.f_lexer.specs.declared.token.Token.{Token}
 use Rattle.types_page.specs.Page.{bytes_of, from_byte, word}
 use Rattle.types_page.specs.Writing.{Counted}

@@ -5,7 +5,7 @@
 use Rattle.std.specs.Prelude.{◌≡◌, ℕ, zero, suc, ◌+◌, ◌-◌, nat_lt, List, [], ◌∷◌, ◌++◌, codes, decimal, drop, take}
 use Rattle.std.specs.Prelude.{if◌then◌else◌}
 use Rattle.idx_core.specs.declared.span.Span.{Span}
-use Rattle.fault_page.specs.Spot.{line_number, column}
+use Rattle.page_core.specs.Spot.{line_number, column}
 use Rattle.f_terms.specs.Ty.{Ty, NoTys}
 use Rattle.f_terms.specs.Tm.{Tm}
 use Rattle.f_terms.specs.Text.{name_text, text_at}

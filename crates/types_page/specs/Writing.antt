@@ -1,6 +1,6 @@
 -- How far the writing of a page has come in a text and in its tokens.
 use Rattle.std.specs.Prelude.{◌≡◌, ◌≤◌, ℕ, ◌+◌, List, length, take, drop}
-use Rattle.fault_page.specs.Spot.{lines, last_begin}
+use Rattle.page_core.specs.Spot.{lines, last_begin}
 use Rattle.f_lexer.specs.declared.token.Token.{Token}
 use Rattle.types_page.specs.Page.{from_byte}
 use Rattle.types_page.specs.declared.place.Place.{Place}

@@ -12,7 +12,7 @@ use f_lexer::Token;
 use f_terms::FType;
 use f_writer::type_at;
 use idx_core::{OutOfMemory, sum};
-use page_text::write_natural;
+use page_core::write_natural;
 use std::alloc::Global;
 
 /// A form in a text: the tokens from its first one on, and how many type names are around it.

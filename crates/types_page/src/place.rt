@@ -1,6 +1,6 @@
 // Lines and columns of bytes that mostly follow one another.
 ghost use Rattle.std.specs.Prelude.{◌≡◌, ◌<◌, ◌≤◌, ◌+◌, length, if◌then◌else◌};
-ghost use Rattle.fault_page.specs.Spot.{line_number, column, ends_line};
+ghost use Rattle.page_core.specs.Spot.{line_number, column, ends_line};
 ghost use Rattle.types_page.specs.Writing.{IsPlace, Counted};
 
 // How far a text has been gone through; the number of the line there, from 1 on, and where it begins.

@@ -10,7 +10,7 @@ use crate::place::Place;
 use crate::words::Cursor;
 use f_lexer::Token;
 use idx_core::OutOfMemory;
-use page_text::write_natural;
+use page_core::write_natural;
 use std::alloc::Global;
 
 // Where the writing of a page stands, in the text and in its tokens.

@@ -6,10 +6,9 @@ use std::cmp::max;
 use std::process::Abort;
 use std::test::Fail;
 use t_check::Checked;
-use t_lexer::{Tokens, tokens};
 use t_reader::read;
 use t_spill::spill;
-use t_text::{Kind, Token};
+use t_text::{Kind, Token, Tokens, tokens};
 use t_writer::write2;
 
 const REGISTERS: &str = "\

@@ -5,7 +5,7 @@ ghost use Rattle.t_terms.specs.Spanned.{plain_fields, seq_of};
 ghost use Rattle.t_terms.specs.Read.{value as value_tree, instr as instr_tree, end_of as end_tree, block as block_tree};
 ghost use Rattle.t_terms.specs.Read.{body as body_trees, blocks_of, data_of, data_fields as data_items};
 ghost use Rattle.t_terms.specs.ReadProgram.{program as program_tree};
-ghost use Rattle.spill_law.specs.Spill.{TypesFew};
+ghost use Rattle.t_spill_rules.specs.Spill.{TypesFew};
 ghost use Rattle.assembly_rows.specs.FewNames.{FewInType, FewInFile, FewInFields, FewInTypes, FewInValue, FewInInstr};
 ghost use Rattle.assembly_rows.specs.FewNames.{FewInEnd, FewInSeq, FewInBlock, FewInBlocks, FewInData, FewInHeap};
 

@@ -2,7 +2,7 @@
 ghost use Rattle.std.specs.Prelude.{◌≡◌, IfOk};
 ghost use Rattle.talc_core.specs.FirstFault.{AnyText};
 ghost use Rattle.talc_core.specs.Lines.{source_code, source_words, tal_code, tal_words};
-ghost use Rattle.fault_hint.specs.Hints.{source_hint_at, tal_hint_at};
+ghost use Rattle.talc_faults.specs.Hints.{source_hint_at, tal_hint_at};
 ghost use Rattle.talc_core.specs.Explained.{ExplainShown, ShowsExplained, explained, looked_for};
 ghost use Rattle.talc_core.specs.OnTexts.{ShowsText};
 ghost use Rattle.talc_core.specs.Steps.{IsFinding, ShowsFile, told_of};
@@ -16,13 +16,13 @@ use crate::refusal::Refusal;
 use crate::reply::{Ending, Reply};
 use crate::report::Failure;
 use f_terms::Code;
-use fault_hint::{source_hint, tal_hint};
-use fault_page::{Note, page_of};
 use idx_core::{OutOfMemory, Span};
 use io_core::{Files, Sink};
+use page_core::{Note, page_of};
 use std::alloc::Global;
 use t_terms::TCode;
-use text_kind::is_assembly;
+use t_text::is_assembly;
+use talc_faults::{source_hint, tal_hint};
 
 // Looks for the first fault of a text.
 fn find_fault(alloc: Global, text: &[u8]) -> Result<Finding, OutOfMemory>

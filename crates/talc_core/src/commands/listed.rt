@@ -112,8 +112,8 @@ fn page_of_fault(alloc: Global, name: &[u8], text: &[u8]) -> Result<Vec<u8>, Out
 }
 
 /// What `listing` shows of an assembly text of this name (own choice): the listing of its accepted program; or, where
-/// the text has a first fault, the listing up to the place of the fault, as far as it stands for a program, and then the
-/// page that `explain` has of the fault. Only want of memory is an error.
+/// the text has a first fault, the listing up to the place of the fault, as far as it stands for a program, and then
+/// the page that `explain` has of the fault. Only want of memory is an error.
 pub fn listed_text(alloc: Global, name: &[u8], text: &[u8]) -> Result<TextListing, OutOfMemory>
     ensures { IfOk result (IsListed name.now text.now) }
 {

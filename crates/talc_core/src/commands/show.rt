@@ -10,10 +10,10 @@ use crate::refusal::Refusal;
 use crate::reply::{Ending, Reply};
 use crate::report::Failure;
 use crate::source::read_program;
-use forms::{form_of, forms_are_of_translations};
 use io_core::{Files, Sink};
+use pipeline::{form_of, forms_are_of_translations};
 use std::alloc::Global;
-use words::Form;
+use talc_words::Form;
 
 /// What `show` shows of a source text: its program in a form on the way to the assembly program (the passes of the
 /// paper of 1999 in turn), in that form's notation (own choice). Refuses a text by its first fault, or for want of

@@ -4,11 +4,10 @@ ghost use Rattle.talc_core.specs.Wanted.{by_grammar, CouldStand};
 
 use crate::fault::Fault;
 use f_terms::Code;
-use f_wanted::source_wanted;
 use idx_core::OutOfMemory;
 use std::alloc::Global;
 use t_terms::TCode;
-use t_wanted::tal_wanted;
+use talc_wanted::{source_wanted, tal_wanted};
 
 // Whether a fault is by the grammar.
 fn by_grammar(fault: Fault) -> bool

@@ -1,7 +1,7 @@
 use Rattle.std.proofs.Common.{◌∙◌}
 use Rattle.a_terms.specs.Read.{atree}
 use Rattle.a_terms.specs.declared.types.AType.{AType}
-use Rattle.a_law.specs.Allocate.{closed}
+use Rattle.a_laws.specs.Allocate.{closed}
 use Rattle.a_pass.proofs.Every.{closed_every, every_all, every_next, every_not}
 use Rattle.a_pass.proofs.constants.all_closed.Goals as goal
 

@@ -1,5 +1,5 @@
 use Rattle.std.proofs.Common.{◌≡◌, take, true}
-use Rattle.a_law.specs.Allocate.{is_some}
+use Rattle.a_laws.specs.Allocate.{is_some}
 use Rattle.a_pass.specs.Scope.{constant_in, knowns}
 use Rattle.a_pass.specs.declared.state.Seen.{Seen}
 use Rattle.a_pass.proofs.Every.{every}

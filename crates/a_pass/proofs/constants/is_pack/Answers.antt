@@ -1,6 +1,6 @@
 use Rattle.std.proofs.Common.{◌∙◌, ap}
 use Rattle.a_terms.specs.NodeTrees.{base, wrapped}
-use Rattle.a_law.specs.Allocate.{is_pack}
+use Rattle.a_laws.specs.Allocate.{is_pack}
 use Rattle.a_pass.proofs.Every.{no_pack}
 use Rattle.a_pass.proofs.constants.is_pack.Goals as goal
 

@@ -1,7 +1,7 @@
 use Rattle.std.proofs.Common.{◌∙◌, ap, sym, refl}
 use Rattle.std.proofs.lemmas.List.{take_all}
 use Rattle.a_terms.specs.NodeTrees.{wrapped}
-use Rattle.a_law.specs.Allocate.{is_pack}
+use Rattle.a_laws.specs.Allocate.{is_pack}
 use Rattle.a_pass.proofs.Every.{packs_at, packs_next}
 use Rattle.a_pass.proofs.constants.some_pack.Goals as goal
 

@@ -1,7 +1,7 @@
 use Rattle.std.proofs.Common.{◌≡◌, take, false}
 use Rattle.a_terms.specs.Tree.{AVal}
 use Rattle.a_terms.specs.NodeTrees.{wrapped}
-use Rattle.a_law.specs.Allocate.{is_pack}
+use Rattle.a_laws.specs.Allocate.{is_pack}
 use Rattle.a_pass.proofs.constants.some_pack.Given as goal
 
 abbrev pub invariant-loop-wrap : goal.invariant-loop-wrap

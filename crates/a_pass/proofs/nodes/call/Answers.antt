@@ -1,6 +1,6 @@
 use Rattle.std.proofs.Common.{ap, ◌∙◌, refl}
 use Rattle.c_terms.specs.Read.{ctys}
-use Rattle.a_law.specs.Allocate.{atypes}
+use Rattle.a_laws.specs.Allocate.{atypes}
 use Rattle.a_pass.proofs.Stepping.{call_stepped}
 use Rattle.a_pass.proofs.nodes.call.Goals as goal
 

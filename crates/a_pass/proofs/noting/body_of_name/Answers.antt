@@ -4,7 +4,7 @@ use Rattle.a_terms.specs.TypeLaws.{body_shift}
 use Rattle.a_terms.specs.Typing.{body_of}
 use Rattle.a_terms.specs.Read.{atree}
 use Rattle.c_terms.specs.Read.{ctree}
-use Rattle.a_law.specs.Allocate.{atype}
+use Rattle.a_laws.specs.Allocate.{atype}
 use Rattle.a_pass.specs.declared.state.Kept.{Kept}
 use Rattle.a_pass.specs.Scope.{kept, Stands}
 use Rattle.a_pass.proofs.noting.body_of_name.Goals as goal

@@ -2,7 +2,7 @@ use Rattle.std.proofs.Common.{◌∙◌, ap, sym, Some}
 use Rattle.c_terms.specs.Read.{ctree}
 use Rattle.a_terms.specs.Tree.{ashift}
 use Rattle.a_terms.specs.Typing.{body_of}
-use Rattle.a_law.specs.Allocate.{atype}
+use Rattle.a_laws.specs.Allocate.{atype}
 use Rattle.a_pass.proofs.noting.body_under.Goals as goal
 
 pub returns-in_ok-made-in-Exists : goal.returns-in_ok-made-in-Exists

@@ -1,6 +1,6 @@
 use Rattle.std.proofs.Common.{arith}
 use Rattle.c_terms.specs.Read.{ctree}
-use Rattle.a_law.specs.Allocate.{atype}
+use Rattle.a_laws.specs.Allocate.{atype}
 use Rattle.a_pass.proofs.Keeping.{cell_in, cell_out}
 use Rattle.a_pass.proofs.noting.cell_field.Goals as goal
 

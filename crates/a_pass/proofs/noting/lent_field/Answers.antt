@@ -2,8 +2,8 @@ use Rattle.std.proofs.Common.{◌∙◌, ap, sym, Some}
 use Rattle.c_terms.specs.C.{TCRef}
 use Rattle.c_terms.specs.Read.{ctree}
 use Rattle.a_terms.specs.Typing.{field_of}
-use Rattle.a_law.specs.Allocate.{atype}
-use Rattle.term_core.proofs.Trees.{tree_is_tuple}
+use Rattle.a_laws.specs.Allocate.{atype}
+use Rattle.calc_core.proofs.Trees.{tree_is_tuple}
 use Rattle.a_pass.proofs.noting.lent_field.Goals as goal
 
 pub returns-in-Tuple : goal.returns-in-Tuple

@@ -4,7 +4,7 @@ use Rattle.a_terms.specs.TreeLaws.{a_over}
 use Rattle.a_terms.specs.Tree.{ashift}
 use Rattle.c_terms.specs.Read.{ctree}
 use Rattle.a_terms.specs.Typing.{body_of}
-use Rattle.a_law.specs.Allocate.{atype}
+use Rattle.a_laws.specs.Allocate.{atype}
 use Rattle.a_pass.specs.Scope.{Stands}
 use Rattle.a_pass.proofs.Terms.{shown_now}
 use Rattle.a_pass.proofs.noting.lent_or_made.Goals as goal

@@ -3,7 +3,7 @@ use Rattle.h_terms.specs.H.{HApply}
 use Rattle.c_terms.specs.Read.{ctys}
 use Rattle.a_terms.specs.Tree as a
 use Rattle.a_terms.specs.Typing.{aapply, or_int}
-use Rattle.a_law.specs.Allocate.{atypes}
+use Rattle.a_laws.specs.Allocate.{atypes}
 use Rattle.a_pass.specs.Scope.{of_apply, scope}
 use Rattle.a_pass.proofs.Steps.{apply_const, reads_deep, reads_wrap}
 use Rattle.a_pass.proofs.parts.apply.Goals as goal

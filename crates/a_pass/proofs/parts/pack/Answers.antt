@@ -2,7 +2,7 @@ use Rattle.std.proofs.Common.{◌∙◌, refl, sym}
 use Rattle.h_terms.specs.H.{HPack}
 use Rattle.c_terms.specs.Read.{ctree}
 use Rattle.a_terms.specs.Tree as a
-use Rattle.a_law.specs.Allocate.{atype}
+use Rattle.a_laws.specs.Allocate.{atype}
 use Rattle.a_pass.specs.Scope.{knowns, of_pack}
 use Rattle.a_pass.proofs.Steps.{pack_const, reads_deep, reads_wrap}
 use Rattle.a_pass.proofs.parts.pack.Goals as goal

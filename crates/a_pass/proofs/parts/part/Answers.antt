@@ -4,7 +4,7 @@ use Rattle.h_terms.specs.H.{HVar, HInt, HLabel, HApply}
 use Rattle.h_terms.specs.Nodes.{h_blocks, at_last}
 use Rattle.c_terms.specs.Read.{ctys}
 use Rattle.a_terms.specs.Tree.{Num}
-use Rattle.term_core.specs.declared.types.CoreType.{CoreType as CType}
+use Rattle.calc_core.specs.declared.types.CoreType.{CoreType as CType}
 use Rattle.a_pass.specs.Scope.{knowns, scope}
 use Rattle.a_pass.specs.Emits.{Reads}
 use Rattle.a_pass.proofs.Steps.{reads_deep, reads_leaf, reads_for, var_const}

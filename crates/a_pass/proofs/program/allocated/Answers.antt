@@ -1,6 +1,6 @@
 use Rattle.std.proofs.Common.{◌++◌, [], length, ap, ◌∙◌}
 use Rattle.std.proofs.Math.Logic.{∥∥₁_map}
-use Rattle.a_law.specs.Allocate.{data_t}
+use Rattle.a_laws.specs.Allocate.{data_t}
 use Rattle.h_terms.specs.Nodes.{h_blocks, h_tree}
 use Rattle.a_pass.proofs.Blocks.{count_is}
 use Rattle.a_pass.proofs.Bounded.{bounded, main_is, program_is}

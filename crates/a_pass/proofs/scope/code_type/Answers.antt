@@ -2,7 +2,7 @@ use Rattle.std.proofs.Common.{ap, ◌∙◌}
 use Rattle.c_terms.specs.Read.{ctys}
 use Rattle.a_terms.specs.Tree.{ACode}
 use Rattle.a_terms.specs.ReadLaws.{a_code}
-use Rattle.a_law.specs.Allocate.{atypes}
+use Rattle.a_laws.specs.Allocate.{atypes}
 use Rattle.a_pass.proofs.scope.code_type.Goals as goal
 
 pub returns : goal.returns

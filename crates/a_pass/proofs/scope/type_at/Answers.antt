@@ -1,6 +1,6 @@
 use Rattle.std.proofs.Common.{sym, ap, ◌∙◌, arith, Some}
 use Rattle.h_terms.specs.Nodes.{h_block}
-use Rattle.a_law.specs.Allocate.{h_code}
+use Rattle.a_laws.specs.Allocate.{h_code}
 use Rattle.a_pass.proofs.Places.{block_in, block_out}
 use Rattle.a_pass.proofs.scope.type_at.Goals as goal
 

@@ -1,5 +1,5 @@
 use Rattle.std.proofs.Common.{◌∙◌, ap, sym}
-use Rattle.a_law.specs.Allocate.{level_of, var_of}
+use Rattle.a_laws.specs.Allocate.{level_of, var_of}
 use Rattle.a_pass.proofs.scope.variable.Goals as goal
 
 pub returns-in-Some : goal.returns-in-Some

@@ -1,5 +1,5 @@
 use Rattle.std.proofs.Common.{◌∷◌, [], ◌++◌, drop, length}
-use Rattle.a_law.specs.Allocate.{alloc_t, data_t}
+use Rattle.a_laws.specs.Allocate.{alloc_t, data_t}
 use Rattle.a_terms.specs.NodeTrees.{a_data}
 use Rattle.h_terms.specs.Nodes.{h_blocks, h_tree}
 use Rattle.a_pass.specs.Scope.{knowns, scope}

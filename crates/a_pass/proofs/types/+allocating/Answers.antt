@@ -8,8 +8,8 @@ use Rattle.a_terms.specs.Tree as a
 use Rattle.a_terms.specs.Tree.{AVar, over, over_types, over_fields}
 use Rattle.a_terms.specs.Read.{atree, afields}
 use Rattle.a_terms.specs.ReadLaws.{a_tuple, a_code, at_types, at_type}
-use Rattle.a_law.specs.Allocate.{atype, atypes, afull}
-use Rattle.term_core.proofs.Trees.{tree_is_tuple, tree_is_code}
+use Rattle.a_laws.specs.Allocate.{atype, atypes, afull}
+use Rattle.calc_core.proofs.Trees.{tree_is_tuple, tree_is_code}
 use Rattle.a_pass.proofs.CTrees.{atrees_push, afields_push}
 use Rattle.a_pass.proofs.types.+allocating.Goals as goal
 

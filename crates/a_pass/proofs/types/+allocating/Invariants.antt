@@ -3,7 +3,7 @@ use Rattle.idx_core.specs.Over.{shifted}
 use Rattle.c_terms.specs.Read.{ctys}
 use Rattle.a_terms.specs.Tree.{AVar, over_types, over_fields}
 use Rattle.a_terms.specs.Read.{atrees, afields}
-use Rattle.a_law.specs.Allocate.{atypes, afull}
+use Rattle.a_laws.specs.Allocate.{atypes, afull}
 use Rattle.a_pass.proofs.types.+allocating.Given as goal
 
 abbrev pub invariant-a_types_under-loop-t : goal.invariant-a_types_under-loop-t

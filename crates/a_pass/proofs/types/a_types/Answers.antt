@@ -2,7 +2,7 @@ use Rattle.std.proofs.Common.{◌∙◌}
 use Rattle.idx_core.specs.Laws.{shift_zero_law}
 use Rattle.a_terms.specs.TreeLaws.{a_types_over}
 use Rattle.c_terms.specs.Read.{ctys}
-use Rattle.a_law.specs.Allocate.{atypes}
+use Rattle.a_laws.specs.Allocate.{atypes}
 use Rattle.a_pass.proofs.types.a_types.Goals as goal
 
 pub returns : goal.returns

@@ -1,5 +1,5 @@
 use Rattle.std.proofs.Common.{◌≡◌, [], drop, map}
-use Rattle.c_walk.specs.Emit as E
+use Rattle.c_rules.specs.Emit as E
 use Rattle.k_terms.specs.Read.{knode}
 use Rattle.c_emit.specs.Read.{frame, infos_of, notes_of}
 use Rattle.c_emit.specs.Walked.{walked}

@@ -1,6 +1,6 @@
 use Rattle.std.proofs.Common.{◌≡◌, ◌+◌, ◌-◌, List}
 use Rattle.c_terms.specs.Stream as S
-use Rattle.c_walk.specs.Emit as E
+use Rattle.c_rules.specs.Emit as E
 use Rattle.c_terms.specs.Read.{written}
 use Rattle.c_emit.proofs.put.put_fields.Given as goal
 

@@ -1,6 +1,6 @@
 use Rattle.std.proofs.Common.{ap, ◌∙◌, sym}
 use Rattle.c_terms.specs.Read.{written}
-use Rattle.c_walk.specs.Emit as E
+use Rattle.c_rules.specs.Emit as E
 use Rattle.c_emit.proofs.Writes.{after_true, after_false, own_is}
 use Rattle.c_emit.proofs.put.put_own.Goals as goal
 

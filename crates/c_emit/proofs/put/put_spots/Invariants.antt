@@ -1,6 +1,6 @@
 use Rattle.std.proofs.Common.{◌≡◌, List, drop}
 use Rattle.c_terms.specs.Stream as S
-use Rattle.c_walk.specs.Emit as E
+use Rattle.c_rules.specs.Emit as E
 use Rattle.c_terms.specs.Read.{written}
 use Rattle.c_emit.specs.Read.{frame}
 use Rattle.c_emit.proofs.put.put_spots.Given as goal

@@ -1,5 +1,5 @@
 use Rattle.std.proofs.Common.{◌∙◌, ◌++◌, ◌∷◌, [], ap, List}
-use Rattle.c_walk.specs.Know as W
+use Rattle.c_rules.specs.Know as W
 use Rattle.c_pass.specs.declared.state.Bound.{Bound}
 use Rattle.c_pass.specs.Read.{bound, bounds}
 use Rattle.c_pass.proofs.Bounding.{bounds_take, bounds_push}

@@ -1,5 +1,5 @@
 use Rattle.std.proofs.Common.{◌≡◌, ◌++◌, drop}
-use Rattle.c_walk.specs.Know as W
+use Rattle.c_rules.specs.Know as W
 use Rattle.c_pass.specs.Read.{bounds}
 use Rattle.c_pass.proofs.bounds.bound_levels.Given as goal
 

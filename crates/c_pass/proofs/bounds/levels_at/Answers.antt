@@ -1,5 +1,5 @@
 use Rattle.std.proofs.Common.{◌∙◌, ◌++◌, ap, sym}
-use Rattle.c_walk.specs.Know as W
+use Rattle.c_rules.specs.Know as W
 use Rattle.c_pass.proofs.Bounding.{at_in, at_out}
 use Rattle.c_pass.proofs.bounds.levels_at.Goals as goal
 use Rattle.std.proofs.lemmas.List.{append-nil as append_nil}

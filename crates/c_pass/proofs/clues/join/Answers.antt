@@ -1,8 +1,8 @@
 use Rattle.std.proofs.Common.{rules, ◌≡◌, ◌∙◌, ap, ap₂, sym, List, []}
-use Rattle.c_walk.specs.TSweep as T
-use Rattle.c_free.specs.declared.state.Found.{Found}
-use Rattle.c_walk.specs.declared.levels.Levels.{Levels}
-use Rattle.c_free.specs.Swept.{founds, lists}
+use Rattle.c_rules.specs.TSweep as T
+use Rattle.c_emit.specs.declared.free_state.Found.{Found}
+use Rattle.c_rules.specs.declared.levels.Levels.{Levels}
+use Rattle.c_emit.specs.Swept.{founds, lists}
 use Rattle.c_pass.specs.declared.state.Clue.{Clue}
 use Rattle.c_pass.specs.Read.{clues_onto}
 use Rattle.c_pass.proofs.Joins.{clues_push, clues_all}

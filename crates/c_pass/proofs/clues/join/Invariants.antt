@@ -1,7 +1,7 @@
 use Rattle.std.proofs.Common.{◌≡◌}
 use Rattle.std.specs.VecDeque.{deque_len}
-use Rattle.c_walk.specs.TSweep as T
-use Rattle.c_free.specs.Swept.{founds, lists}
+use Rattle.c_rules.specs.TSweep as T
+use Rattle.c_emit.specs.Swept.{founds, lists}
 use Rattle.c_pass.specs.Read.{clues_onto}
 use Rattle.c_pass.proofs.clues.join.Given as goal
 

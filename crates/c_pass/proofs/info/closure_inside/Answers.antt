@@ -3,10 +3,10 @@ use Rattle.k_terms.specs.K.{TKCode}
 use Rattle.k_terms.specs.Read.{ktys}
 use Rattle.c_terms.specs.C as C
 use Rattle.c_terms.specs.Read.{ctys}
-use Rattle.term_core.specs.declared.types.CoreType.{CoreType as CType}
-use Rattle.c_law.specs.Close as L
-use Rattle.c_walk.specs.Know as W
-use Rattle.c_free.specs.Names.{side}
+use Rattle.calc_core.specs.declared.types.CoreType.{CoreType as CType}
+use Rattle.c_rules.specs.Close as L
+use Rattle.c_rules.specs.Know as W
+use Rattle.c_emit.specs.Names.{side}
 use Rattle.c_pass.specs.Read.{bounds}
 use Rattle.c_pass.proofs.info.closure_inside.Goals as goal
 

@@ -1,6 +1,6 @@
 use Rattle.std.proofs.Common.{◌∙◌, ap}
 use Rattle.c_terms.specs.C as C
-use Rattle.term_core.proofs.Trees.{tree_Tuple}
+use Rattle.calc_core.proofs.Trees.{tree_Tuple}
 use Rattle.c_pass.proofs.info.env.Goals as goal
 
 pub returns : goal.returns

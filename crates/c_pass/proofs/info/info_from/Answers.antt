@@ -1,14 +1,14 @@
 use Rattle.std.proofs.Common.{◌≡◌, ◌∙◌, ◌+◌, ap, sym, List, ℕ, rules, length}
 use Rattle.c_terms.specs.C as C
-use Rattle.c_law.specs.Close as L
-use Rattle.c_walk.specs.Know as W
+use Rattle.c_rules.specs.Close as L
+use Rattle.c_rules.specs.Know as W
 use Rattle.k_terms.specs.Read.{ktys}
 use Rattle.c_terms.specs.Read.{ctree, ctys}
-use Rattle.c_free.specs.Names.{side}
+use Rattle.c_emit.specs.Names.{side}
 use Rattle.c_pass.specs.Read.{bounds, info_parts, told}
 use Rattle.c_pass.proofs.info.info_from.Goals as goal
-use Rattle.term_core.proofs.Lifts.{lift_add}
-use Rattle.c_walk.proofs.Knowing.{packed_same}
+use Rattle.calc_core.proofs.Lifts.{lift_add}
+use Rattle.c_laws.proofs.Knowing.{packed_same}
 
 pub returns : goal.returns
 returns c =

@@ -1,9 +1,9 @@
 use Rattle.std.proofs.Common.{◌∙◌, ap, sym}
-use Rattle.c_walk.specs.Know as W
+use Rattle.c_rules.specs.Know as W
 use Rattle.k_terms.specs.Read.{ktree}
 use Rattle.c_pass.specs.Read.{bounds}
 use Rattle.c_pass.proofs.know.bind_now.Goals as goal
-use Rattle.term_core.proofs.Lifts.{lift_add}
+use Rattle.calc_core.proofs.Lifts.{lift_add}
 
 pub returns : goal.returns
 returns c =

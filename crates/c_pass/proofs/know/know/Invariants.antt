@@ -1,7 +1,7 @@
 use Rattle.std.proofs.Common.{◌≡◌, [], drop, map}
-use Rattle.c_walk.specs.Know as W
+use Rattle.c_rules.specs.Know as W
 use Rattle.k_terms.specs.Read.{knode}
-use Rattle.c_walk.specs.Walks.{top_side}
+use Rattle.c_laws.specs.Walks.{top_side}
 use Rattle.c_pass.specs.Read.{clues_of, told_known, total}
 use Rattle.c_pass.proofs.know.know.Given as goal
 

@@ -2,10 +2,10 @@ use Rattle.std.proofs.Common.{◌∙◌, ◌+◌, ◌*◌, ap, sym, subst, []}
 use Rattle.std.proofs.Math.Logic.{∥∥₁_map}
 use Rattle.k_terms.specs.Whole as K
 use Rattle.c_terms.specs.Bound.{CFits}
-use Rattle.c_terms.specs.Each.{CGoodP}
+use Rattle.c_terms.specs.Each.{CTypedWith}
 use Rattle.c_terms.specs.Meaning.{crun}
 use Rattle.c_terms.specs.Reach.{CWithin}
-use Rattle.c_terms.specs.Typing.{CGood}
+use Rattle.c_terms.specs.Typing.{CTyped}
 use Rattle.c_pass.proofs.Meant.{same_run}
 use Rattle.c_pass.proofs.program.close.Goals as goal
 
@@ -14,12 +14,12 @@ returns-clause-types c =
     let p = c.args.program.now in
     let t = K.term_of p in
     ∥∥₁_map p.fits
-    (λ b. subst (CGood 0 []) (sym c.in_ok-made.ensures.same)
+    (λ b. subst (CTyped 0 []) (sym c.in_ok-made.ensures.same)
     (c.types_law.ensures.typed t (c.within_is_typed_law.ensures 1099511627776 1600 1099511627776 t b.0)))
 
 pub returns-clause-reach : goal.returns-clause-reach
 returns-clause-reach c = λ N R B h.
-    subst (CGoodP (CWithin (N + 1) (R + 4) (N + B + 1)) 0 []) (sym c.in_ok-made.ensures.same)
+    subst (CTypedWith (CWithin (N + 1) (R + 4) (N + B + 1)) 0 []) (sym c.in_ok-made.ensures.same)
     (c.types_law.ensures.reach N R B (K.term_of c.args.program.now) h)
 
 pub returns-clause-bound : goal.returns-clause-bound

@@ -1,7 +1,7 @@
 use Rattle.std.proofs.Common.{◌∙◌, ap, ap₂, List, [], map}
 use Rattle.k_terms.specs.Read.{knode}
-use Rattle.c_walk.specs.Emit as E
-use Rattle.c_walk.specs.Walks.{all_known, top_frame}
+use Rattle.c_rules.specs.Emit as E
+use Rattle.c_laws.specs.Walks.{all_known, top_frame}
 use Rattle.c_emit.specs.Read.{infos_of, notes_of}
 use Rattle.c_pass.proofs.Telling.{emitted}
 use Rattle.c_pass.proofs.program.converted.Goals as goal

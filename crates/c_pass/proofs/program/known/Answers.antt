@@ -1,8 +1,8 @@
 use Rattle.std.proofs.Common.{◌≡◌, ◌∙◌, ap, ap₂, sym, List, [], map}
 use Rattle.k_terms.specs.Read.{knode}
-use Rattle.c_walk.specs.TSweep as T
-use Rattle.c_walk.specs.Know as W
-use Rattle.c_walk.specs.Walks.{top_side, all_known}
+use Rattle.c_rules.specs.TSweep as T
+use Rattle.c_rules.specs.Know as W
+use Rattle.c_laws.specs.Walks.{top_side, all_known}
 use Rattle.c_pass.specs.Read.{told_known, total}
 use Rattle.c_pass.proofs.Joins.{infos_all, notes_all}
 use Rattle.c_pass.proofs.program.known.Goals as goal

@@ -2,9 +2,9 @@ use Rattle.std.proofs.Common.{◌∙◌, ap, sym, subst, List}
 use Rattle.std.proofs.Math.Logic.{∥∥₁_map}
 use Rattle.k_terms.specs.Stream.{KNd}
 use Rattle.k_terms.specs.Whole as K
-use Rattle.c_law.specs.Close.{close_of}
-use Rattle.c_law.specs.Row.{IsTranslation}
-use Rattle.c_walk.specs.Walks.{walks}
+use Rattle.c_rules.specs.Close.{close_of}
+use Rattle.c_laws.specs.Row.{IsTranslation}
+use Rattle.c_laws.specs.Walks.{walks}
 use Rattle.c_pass.proofs.Meant.{nothing_free}
 use Rattle.c_pass.proofs.program.translated.Goals as goal
 

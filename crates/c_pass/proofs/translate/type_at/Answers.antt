@@ -1,9 +1,9 @@
 use Rattle.std.proofs.Common.{rules, ◌≡◌, ◌∙◌, ◌-◌, ap, sym, ℕ}
-use Rattle.term_core.specs.Ends.{lift}
+use Rattle.calc_core.specs.Ends.{lift}
 use Rattle.k_terms.specs.Read.{ktree}
-use Rattle.c_law.specs.Close as L
-use Rattle.c_walk.specs.Know as W
-use Rattle.c_free.specs.Names.{side}
+use Rattle.c_rules.specs.Close as L
+use Rattle.c_rules.specs.Know as W
+use Rattle.c_emit.specs.Names.{side}
 use Rattle.c_pass.specs.Read.{var_of}
 use Rattle.c_pass.proofs.Bounding.{at_in, at_out}
 use Rattle.c_pass.proofs.translate.type_at.Goals as goal

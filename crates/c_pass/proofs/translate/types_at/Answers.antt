@@ -1,10 +1,10 @@
 use Rattle.std.proofs.Common.{◌∙◌, ◌+◌, ap, sym, List, ℕ, drop}
 use Rattle.c_terms.specs.C as C
-use Rattle.c_walk.specs.Know as W
-use Rattle.term_core.specs.declared.types.CoreType.{CoreType as CType}
-use Rattle.term_core.specs.Read.{joined}
-use Rattle.c_free.specs.Names.{side}
-use Rattle.term_core.proofs.Trees.{joined_push, joined_nil}
+use Rattle.c_rules.specs.Know as W
+use Rattle.calc_core.specs.declared.types.CoreType.{CoreType as CType}
+use Rattle.calc_core.specs.Read.{joined}
+use Rattle.c_emit.specs.Names.{side}
+use Rattle.calc_core.proofs.Trees.{joined_push, joined_nil}
 use Rattle.c_pass.specs.Read.{bounds, var_of}
 use Rattle.c_pass.proofs.Bounding.{drop_plus, drop_end}
 use Rattle.c_pass.proofs.translate.types_at.Goals as goal

@@ -1,7 +1,7 @@
 use Rattle.std.proofs.Common.{◌≡◌, drop}
-use Rattle.c_walk.specs.Know as W
-use Rattle.term_core.specs.Read.{joined}
-use Rattle.c_free.specs.Names.{side}
+use Rattle.c_rules.specs.Know as W
+use Rattle.calc_core.specs.Read.{joined}
+use Rattle.c_emit.specs.Names.{side}
 use Rattle.c_pass.specs.Read.{var_of}
 use Rattle.c_pass.proofs.translate.variables.Given as goal
 

@@ -6,7 +6,7 @@ use Rattle.f_terms.specs.declared.stack.FStep.TheVariants as form
 use Rattle.f_grammar.specs.declared.raw.RawShape.TheVariants as S
 use Rattle.f_parser.specs.Parts.{part_tree}
 use Rattle.f_parser.proofs.Nodes.{form_is}
-use Rattle.f_parser.specs.Scope.{of_var}
+use Rattle.f_grammar.specs.Scope.{of_var}
 use Rattle.f_parser.specs.Binding.{todos}
 use Rattle.f_parser.proofs.Resolving.{name_stop, number_bound}
 use Rattle.f_parser.proofs.Tasks.{stopped, leaf, stacked_leaf}

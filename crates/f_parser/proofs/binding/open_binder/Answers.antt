@@ -5,7 +5,7 @@ use Rattle.f_grammar.specs.Read.{type_of}
 use Rattle.f_grammar.specs.declared.raw.RawShape.TheVariants as S
 use Rattle.f_parser.specs.Parts.{part_tree}
 use Rattle.f_parser.specs.Binding.{todos}
-use Rattle.f_parser.proofs.Bound.{type_bound}
+use Rattle.f_grammar.proofs.Bound.{type_bound}
 use Rattle.f_parser.proofs.Resolving.{stops_left, stops_right}
 use Rattle.f_parser.proofs.Nodes.{inside, form_is}
 use Rattle.f_parser.proofs.Tasks.{stopped, by_parts, fix, gen}

@@ -1,6 +1,6 @@
 use Rattle.std.proofs.Common.{Ok, Err, arith}
 use Rattle.std.proofs.lemmas.Result.{err_from_is_err_and}
-use Rattle.f_parser.proofs.Exact.{only_term, only_fault, passed_on, token_fault, long_fault}
+use Rattle.f_grammar.proofs.Exact.{only_term, only_fault, passed_on, token_fault, long_fault}
 use Rattle.f_parser.proofs.reader.parse.Goals as goal
 
 pub returns-then-text-gt-BYTES : goal.returns-then-text-gt-BYTES

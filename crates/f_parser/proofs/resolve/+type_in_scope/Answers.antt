@@ -1,7 +1,7 @@
 use Rattle.std.proofs.Common.{◌∙◌, refl}
 use Rattle.std.proofs.lemmas.Result.{err_from_is_err_and}
-use Rattle.f_parser.specs.Scope.{of_int, of_name, of_arrow, of_all, of_some, of_ref, of_no_types}
-use Rattle.f_parser.proofs.Bound.{type_bound}
+use Rattle.f_grammar.specs.Scope.{of_int, of_name, of_arrow, of_all, of_some, of_ref, of_no_types}
+use Rattle.f_grammar.proofs.Bound.{type_bound}
 use Rattle.f_parser.proofs.Resolving.{stops_left, stops_right, type_name_stop, type_parts_stop, type_parts_whole}
 use Rattle.f_parser.proofs.Resolving.{type_parts_more}
 use Rattle.f_parser.proofs.resolve.+type_in_scope.Goals as goal

@@ -3,7 +3,7 @@ use Rattle.f_terms.specs.Ty.{tys}
 use Rattle.f_terms.specs.Read.{tree}
 use Rattle.f_grammar.specs.Raw.{raw_tys}
 use Rattle.f_grammar.specs.Read.{type_of}
-use Rattle.f_parser.specs.Scope.{TypesOf}
+use Rattle.f_grammar.specs.Scope.{TypesOf}
 use Rattle.f_parser.proofs.resolve.+type_in_scope.Given as goal
 
 abbrev pub invariant-loop-part : goal.invariant-loop-part

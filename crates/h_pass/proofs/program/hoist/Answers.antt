@@ -7,7 +7,7 @@ use Rattle.c_terms.specs.Read.{written}
 use Rattle.c_terms.specs.Term.{term_of}
 use Rattle.c_terms.specs.declared.node.CNode.{CNode}
 use Rattle.h_terms.specs.Bound.{HFits}
-use Rattle.h_terms.specs.Each.{HProgramP}
+use Rattle.h_terms.specs.Each.{HProgramWith}
 use Rattle.h_terms.specs.Meaning.{hrun}
 use Rattle.h_pass.proofs.Finishing.{begins, bound_of, goes_on, hoisted_whole}
 use Rattle.h_pass.specs.Back.{IsHoisted}
@@ -95,7 +95,7 @@ returns-clause-reach c =
     let past : length (into_iter_items c.loop-node.node-iterator) ≡ 0 = search rules in
     let all = hoisted_whole t _ c.loop-node.walk c.finish_call.new.self past c.loop-node.invariant
     c.in_ok-finish_call.ensures.none c.in_ok-finish_call.ensures.goes in
-    λ N R B h. subst₂ (HProgramP (CWithin N R B)) (sym (c.made.ensures.blocks ∙ all.blocks))
+    λ N R B h. subst₂ (HProgramWith (CWithin N R B)) (sym (c.made.ensures.blocks ∙ all.blocks))
     (sym (c.made.ensures.main ∙ all.main)) (c.hoist_types_law.ensures.reach N R B t h)
 
 pub returns-clause-bound : goal.returns-clause-bound

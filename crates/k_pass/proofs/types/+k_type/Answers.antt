@@ -1,4 +1,4 @@
-use Rattle.term_core.specs.Ends.{under}
+use Rattle.calc_core.specs.Ends.{under}
 use Rattle.f_terms.proofs.Trees.{tree_parts}
 use Rattle.k_laws.specs.Cps.{spot}
 use Rattle.k_pass.specs.Machine.{levels as levels_of}

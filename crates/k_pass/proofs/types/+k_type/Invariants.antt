@@ -1,5 +1,5 @@
 use Rattle.std.proofs.Common.{◌≡◌, take, map}
-use Rattle.term_core.specs.Ends.{under}
+use Rattle.calc_core.specs.Ends.{under}
 use Rattle.f_terms.specs.Read.{tree}
 use Rattle.k_terms.specs.Read.{ktree}
 use Rattle.k_laws.specs.Cps.{kty, spot}

@@ -2,8 +2,8 @@ use Rattle.std.proofs.Common.{◌∙◌, ◌++◌, ◌∷◌, List, [], ap}
 use Rattle.k_terms.specs.K as K
 use Rattle.k_terms.specs.K.{TKCode, NoKTys, MoreKTys}
 use Rattle.k_terms.specs.Read.{ktree, ktys}
-use Rattle.term_core.specs.declared.types.CoreType.{CoreType as KType}
-use Rattle.term_core.proofs.Trees.{tree_Code}
+use Rattle.calc_core.specs.declared.types.CoreType.{CoreType as KType}
+use Rattle.calc_core.proofs.Trees.{tree_Code}
 use Rattle.k_pass.proofs.types.arrow_type.Goals as goal
 
 pub returns : goal.returns

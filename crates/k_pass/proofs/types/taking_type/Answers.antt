@@ -1,8 +1,8 @@
 use Rattle.std.proofs.Common.{◌∙◌, ◌++◌, ◌∷◌, List, [], ap}
 use Rattle.k_terms.specs.K.{TKCode}
 use Rattle.k_terms.specs.Read.{ktys}
-use Rattle.term_core.specs.declared.types.CoreType.{CoreType as KType}
-use Rattle.term_core.proofs.Trees.{tree_Code}
+use Rattle.calc_core.specs.declared.types.CoreType.{CoreType as KType}
+use Rattle.calc_core.proofs.Trees.{tree_Code}
 use Rattle.k_pass.proofs.types.taking_type.Goals as goal
 
 pub returns : goal.returns

@@ -1,5 +1,5 @@
 use Rattle.std.proofs.Common.{◌≡◌, ◌+◌, ◌≤◌, take}
-use Rattle.fault_page.specs.Spot.{lines}
+use Rattle.page_core.specs.Spot.{lines}
 use Rattle.listing.proofs.place.number_at.Given as goal
 
 abbrev pub invariant-loop-i : goal.invariant-loop-i

@@ -1,6 +1,6 @@
 use Rattle.std.proofs.Common.{◌≡◌, ◌++◌, ◌∙◌, ℕ, List, ap, append_assoc, length, take, nat_lt, min}
 use Rattle.std.proofs.lemmas.List.{take_min}
-use Rattle.fault_page.specs.Page.{dots}
+use Rattle.page_core.specs.Page.{dots}
 use Rattle.listing.specs.Listing.{cut}
 use Rattle.listing.proofs.rows.write_cut.Goals as goal
 

@@ -7,7 +7,7 @@ use Rattle.c_terms.specs.Term as C
 use Rattle.h_terms.specs.Program as H
 use Rattle.a_terms.specs.Program as A
 use Rattle.t_terms.specs.ReadProgram.{program}
-use Rattle.gen_law.specs.Rules.{Generates}
+use Rattle.t_gen_laws.specs.Rules.{Generates}
 use Rattle.pipeline.proofs.Compiled.{compilation, enters_seldom, is_made}
 use Rattle.pipeline.proofs.Weighing.{blocks_counted, same_weights}
 use Rattle.pipeline.proofs.compiling.assemble.Goals as goal

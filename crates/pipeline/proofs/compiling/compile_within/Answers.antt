@@ -7,8 +7,8 @@ use Rattle.t_terms.specs.Nesting.{nesting, most_open}
 use Rattle.t_terms.specs.ReadProgram.{program}
 use Rattle.t_terms.specs.declared.program.TProgram.{TProgram}
 use Rattle.t_rules.specs.Machine.{Place}
-use Rattle.spill_law.specs.Bound.{RegistersUpTo}
-use Rattle.spill_law.specs.Correct.{origin}
+use Rattle.t_spill_laws.specs.Bound.{RegistersUpTo}
+use Rattle.t_spill_laws.specs.Correct.{origin}
 use Rattle.pipeline.specs.Compilation.{IsCompilationWithin}
 use Rattle.pipeline.specs.Work.{WorkWithin}
 use Rattle.pipeline.proofs.Bounded.{bounded}

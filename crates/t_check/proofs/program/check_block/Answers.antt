@@ -12,13 +12,13 @@ use Rattle.t_terms.specs.declared.instr.Instr.{Instr}
 use Rattle.t_terms.specs.declared.program.TProgram.{TProgram}
 use Rattle.t_rules.specs.Faults.{InstrFaultWith, BlockFaultWith}
 use Rattle.t_intern.proofs.Growing.{grown_next, grown_same}
-use Rattle.t_registers.specs.declared.labels.Labels.{Labels}
-use Rattle.t_registers.specs.Known.{known}
-use Rattle.t_registers.specs.Labels.{AreLabels}
-use Rattle.t_mismatch.specs.Refusals.{SaysWith}
+use Rattle.t_known.specs.declared.labels.Labels.{Labels}
+use Rattle.t_known.specs.Known.{known}
+use Rattle.t_known.specs.Labels.{AreLabels}
+use Rattle.t_known.specs.Refusals.{SaysWith}
 use Rattle.t_check.specs.Verdict.{FormedInstr, FormedEnd, IsEnd}
 use Rattle.t_rules.specs.Rules.{Typed}
-use Rattle.t_registers.proofs.Numbering.{labels_grown}
+use Rattle.t_known.proofs.Numbering.{labels_grown}
 use Rattle.t_check.proofs.Typing.{says_map}
 use Rattle.t_check.proofs.Bodies.{IsLeft, left_all, left_fault, left_more, formed_more, formed_instr, formed_names}
 use Rattle.t_check.proofs.Bodies.{end_formed, block_end}

@@ -6,7 +6,7 @@ use Rattle.t_terms.specs.Read.{body, end_of}
 use Rattle.t_terms.specs.ReadProgram.{program}
 use Rattle.t_terms.specs.Whole.{WellFormedSeq}
 use Rattle.t_intern.specs.Grown.{Grown}
-use Rattle.t_registers.specs.Known.{known, IsSound}
+use Rattle.t_known.specs.Known.{known, IsSound}
 use Rattle.t_check.proofs.Bodies.{IsLeft}
 use Rattle.t_check.proofs.program.check_block.Given as goal
 

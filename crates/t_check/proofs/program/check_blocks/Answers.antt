@@ -5,10 +5,10 @@ use Rattle.t_terms.specs.Read.{spanned, spanned_blocks}
 use Rattle.t_terms.specs.ReadProgram.{program}
 use Rattle.t_rules.specs.Faults.{BlockFaultWith, BlocksFaultWith}
 use Rattle.t_intern.proofs.Growing.{grown_next}
-use Rattle.t_registers.specs.Labels.{code_type}
+use Rattle.t_known.specs.Labels.{code_type}
 use Rattle.t_check.proofs.Blocks.{formed_at}
 use Rattle.t_check.proofs.Bodies.{block_fault, block_more, blocks_end}
-use Rattle.t_registers.proofs.Numbering.{labels_grown, numbered_at}
+use Rattle.t_known.proofs.Numbering.{labels_grown, numbered_at}
 use Rattle.t_check.proofs.Typing.{says_map}
 use Rattle.t_check.proofs.program.check_blocks.Goals as goal
 

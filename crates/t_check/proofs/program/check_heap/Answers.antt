@@ -7,10 +7,10 @@ use Rattle.t_terms.specs.ReadProgram.{program}
 use Rattle.t_rules.specs.Rules.{DataAccepted}
 use Rattle.t_rules.specs.Faults.{DataFaultWith, HeapFaultWith}
 use Rattle.t_intern.proofs.Growing.{grown_next}
-use Rattle.t_mismatch.specs.Refusals.{SaysWith}
+use Rattle.t_known.specs.Refusals.{SaysWith}
 use Rattle.t_check.specs.Verdict.{FormedData}
-use Rattle.t_registers.specs.Labels.{Field}
-use Rattle.t_registers.proofs.Numbering.{labels_grown}
+use Rattle.t_known.specs.Labels.{Field}
+use Rattle.t_known.proofs.Numbering.{labels_grown}
 use Rattle.t_check.proofs.Typing.{says_map}
 use Rattle.t_check.proofs.Blocks.{formed_data_at}
 use Rattle.t_check.proofs.Bodies.{data_fault, data_more, data_end}

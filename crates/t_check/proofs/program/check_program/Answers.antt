@@ -2,16 +2,16 @@ use Rattle.std.proofs.Common.{List, ◌<◌, length, arith, refl, sym, subst, Re
 use Rattle.std.proofs.lemmas.Result.{err_from_is_err_and}
 use Rattle.t_terms.specs.declared.block.Block.{Block}
 use Rattle.t_terms.specs.declared.data.Data.{Data}
-use Rattle.t_mismatch.specs.declared.refusal.Refusal.{Refusal}
+use Rattle.t_known.specs.declared.refusal.Refusal.{Refusal}
 use Rattle.t_terms.specs.Read.{spanned_blocks, spanned_heap, data_of}
 use Rattle.t_terms.specs.ReadProgram.{program, spanned_program}
 use Rattle.t_terms.proofs.Blocks.{blocks_count}
 use Rattle.t_rules.specs.Rules.{HeapAccepted}
 use Rattle.t_rules.specs.Faults.{HeapFaultWith}
-use Rattle.t_mismatch.specs.Refusals.{SaysWith}
+use Rattle.t_known.specs.Refusals.{SaysWith}
 use Rattle.t_check.specs.Verdict.{AreBlocks, IsProgram}
 use Rattle.t_check.proofs.Bodies.{first_takes, first_fault, heap_fault, program_is}
-use Rattle.t_registers.proofs.Numbering.{labels_grown}
+use Rattle.t_known.proofs.Numbering.{labels_grown}
 use Rattle.t_check.proofs.program.check_program.Goals as goal
 
 pub check_blocks-requires-clause-labels : goal.check_blocks-requires-clause-labels

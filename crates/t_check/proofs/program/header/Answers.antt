@@ -2,8 +2,8 @@ use Rattle.std.proofs.Common.{◌≡◌, ◌∙◌, sym, subst, ap, Option, List
 use Rattle.std.proofs.lemmas.Result.{IfOk-weaker}
 use Rattle.t_types.specs.Read.{file}
 use Rattle.t_intern.specs.Nodes.{regs_at, RegsBelow}
-use Rattle.t_registers.specs.declared.parts.CodeParts.{CodeParts}
-use Rattle.t_registers.specs.Parts.{IsCode}
+use Rattle.t_known.specs.declared.parts.CodeParts.{CodeParts}
+use Rattle.t_known.specs.Parts.{IsCode}
 use Rattle.t_check.proofs.program.header.Goals as goal
 
 pub unreachable-requires : goal.unreachable-requires

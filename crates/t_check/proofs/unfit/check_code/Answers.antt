@@ -1,10 +1,10 @@
 use Rattle.std.proofs.Common.{◌≡◌, ap, sym, ◌∙◌, subst, Option, List, ℕ, length}
 use Rattle.t_types.specs.Tree.{TFile, CodeTy}
 use Rattle.t_intern.specs.Nodes.{regs_at, RegsBelow}
-use Rattle.t_registers.specs.Known.{known}
+use Rattle.t_known.specs.Known.{known}
 use Rattle.t_check.specs.Verdict.{IsFileFit}
-use Rattle.t_registers.specs.Parts.{IsCode}
-use Rattle.t_registers.specs.declared.parts.CodeParts.{CodeParts}
+use Rattle.t_known.specs.Parts.{IsCode}
+use Rattle.t_known.specs.declared.parts.CodeParts.{CodeParts}
 use Rattle.t_check.proofs.unfit.check_code.Goals as goal
 
 pub unreachable-requires : goal.unreachable-requires

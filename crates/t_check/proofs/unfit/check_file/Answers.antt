@@ -2,9 +2,9 @@ use Rattle.std.proofs.Common.{length, get_or, refl, arith, Ok, Err}
 use Rattle.std.proofs.lemmas.Result.{err_from_is_err_and}
 use Rattle.t_intern.proofs.Growing.{grown_next, grown_same, grown_length}
 use Rattle.t_intern.proofs.Walked.{reg_below}
-use Rattle.t_registers.specs.Known.{known}
+use Rattle.t_known.specs.Known.{known}
 use Rattle.t_check.proofs.Missing.{file_left, reg_more, reg_fault, file_end, reg_grown}
-use Rattle.t_registers.proofs.Noting.{sound_grown}
+use Rattle.t_known.proofs.Noting.{sound_grown}
 use Rattle.t_check.proofs.unfit.check_file.Goals as goal
 use Rattle.idx_core.proofs.Lists.{item}
 

@@ -1,6 +1,6 @@
 use Rattle.std.proofs.Common.{drop}
 use Rattle.t_intern.specs.Grown.{Grown}
-use Rattle.t_registers.specs.Known.{known}
+use Rattle.t_known.specs.Known.{known}
 use Rattle.t_check.proofs.Missing.{FileLeft}
 use Rattle.t_check.proofs.unfit.check_file.Given as goal
 

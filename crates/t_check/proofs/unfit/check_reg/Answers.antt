@@ -3,10 +3,10 @@ use Rattle.t_types.specs.Tree.{Ty}
 use Rattle.t_types.specs.Fits.{Fits}
 use Rattle.t_intern.specs.Nodes.{at}
 use Rattle.t_intern.proofs.Growing.{grown_at, grown_length}
-use Rattle.t_registers.specs.Known.{known, seen}
+use Rattle.t_known.specs.Known.{known, seen}
 use Rattle.t_check.proofs.Missing.{missing, other_type}
 use Rattle.t_check.specs.Verdict.{IsRegFit}
-use Rattle.t_mismatch.specs.declared.refusal.Refusal.{Refusal}
+use Rattle.t_known.specs.declared.refusal.Refusal.{Refusal}
 use Rattle.t_check.proofs.unfit.check_reg.Goals as goal
 
 pub returns-in-None-clause-fit : goal.returns-in-None-clause-fit

@@ -1,9 +1,9 @@
 use Rattle.std.proofs.Common.{◌++◌, ◌∙◌, ap, refl, sym, subst, map, List, ℕ}
 use Rattle.t_types.specs.Read.{reg}
 use Rattle.t_types.specs.declared.types.TType.{TType}
-use Rattle.t_registers.specs.declared.registers.Entry.{Entry}
+use Rattle.t_known.specs.declared.registers.Entry.{Entry}
 use Rattle.t_intern.proofs.Growing.{grown_next, grown_same}
-use Rattle.t_registers.proofs.Noting.{entry_grown, seen_grown}
+use Rattle.t_known.proofs.Noting.{entry_grown, seen_grown}
 use Rattle.t_check.proofs.Walking.{Entries, AreEntries, shown, are_entries, file_is, next_entry, entry_made, all_made}
 use Rattle.t_check.proofs.walk.file_of.Goals as goal
 

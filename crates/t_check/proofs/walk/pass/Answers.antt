@@ -6,11 +6,11 @@ use Rattle.t_terms.specs.declared.program.TProgram.{TProgram}
 use Rattle.t_rules.specs.Known.{KnownAt}
 use Rattle.t_rules.specs.Rules.{Typed}
 use Rattle.t_intern.proofs.Growing.{grown_next, grown_same}
-use Rattle.t_registers.specs.declared.labels.Labels.{Labels}
-use Rattle.t_registers.specs.Known.{known}
-use Rattle.t_registers.specs.Labels.{AreLabels}
+use Rattle.t_known.specs.declared.labels.Labels.{Labels}
+use Rattle.t_known.specs.Known.{known}
+use Rattle.t_known.specs.Labels.{AreLabels}
 use Rattle.t_check.specs.Verdict.{FormedInstr}
-use Rattle.t_registers.proofs.Numbering.{labels_grown}
+use Rattle.t_known.proofs.Numbering.{labels_grown}
 use Rattle.t_check.proofs.Walking.{block_there, inside, formed_here, few_here, typed_here, code_here}
 use Rattle.t_check.proofs.walk.pass.Goals as goal
 

@@ -2,7 +2,7 @@ use Rattle.std.proofs.Common.{◌≡◌}
 use Rattle.t_terms.specs.ReadProgram.{program}
 use Rattle.t_rules.specs.Known.{KnownAt}
 use Rattle.t_intern.specs.Grown.{Grown}
-use Rattle.t_registers.specs.Known.{known, IsSound}
+use Rattle.t_known.specs.Known.{known, IsSound}
 use Rattle.t_check.proofs.walk.pass.Given as goal
 
 abbrev pub invariant-loop-i : goal.invariant-loop-i

@@ -1,6 +1,6 @@
 use Rattle.std.proofs.Common.{◌≡◌, ◌+◌, suc, [], ◌∙◌, ap, drop, arith}
 use Rattle.t_emit.specs.Code.{onto, places}
-use Rattle.gen_law.specs.Gen.{call_code, tys}
+use Rattle.t_gen_rules.specs.Gen.{call_code, tys}
 use Rattle.a_scope.specs.Scope.{homes}
 use Rattle.a_terms.specs.Tree.{AVal}
 use Rattle.a_terms.specs.Read.{atrees}

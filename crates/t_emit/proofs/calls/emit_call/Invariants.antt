@@ -1,7 +1,7 @@
 use Rattle.std.proofs.Common.{◌≡◌, List, drop}
 use Rattle.t_types.specs.Tree.{Ty}
 use Rattle.t_emit.specs.Code.{onto, places}
-use Rattle.gen_law.specs.Gen.{call_code}
+use Rattle.t_gen_rules.specs.Gen.{call_code}
 use Rattle.a_scope.specs.Scope.{homes}
 use Rattle.a_terms.specs.NodeTrees.{a_values, no_value}
 use Rattle.a_terms.specs.Row.{top, others}

@@ -1,6 +1,6 @@
 use Rattle.std.proofs.Common.{◌+◌, ◌∙◌, sym, ap, drop}
 use Rattle.std.specs.Prelude.{◌||◌}
-use Rattle.gen_law.specs.Gen.{reads, later}
+use Rattle.t_gen_rules.specs.Gen.{reads, later}
 use Rattle.t_emit.specs.Code.{places}
 use Rattle.a_terms.specs.NodeTrees.{a_values, no_value}
 use Rattle.a_terms.specs.Row.{top}

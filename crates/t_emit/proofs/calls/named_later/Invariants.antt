@@ -1,5 +1,5 @@
 use Rattle.std.proofs.Common.{◌≡◌, drop}
-use Rattle.gen_law.specs.Gen.{later}
+use Rattle.t_gen_rules.specs.Gen.{later}
 use Rattle.t_emit.specs.Code.{places}
 use Rattle.a_terms.specs.NodeTrees.{a_values, no_value}
 use Rattle.a_terms.specs.Row.{top}

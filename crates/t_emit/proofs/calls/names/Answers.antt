@@ -2,7 +2,7 @@ use Rattle.std.proofs.Common.{◌∙◌, sym, ap}
 use Rattle.std.specs.Prelude.{◌==◌}
 use Rattle.a_terms.specs.NodeTrees.{base}
 use Rattle.a_terms.specs.declared.nodes.ABase.{ABase}
-use Rattle.gen_law.specs.Gen.{reads}
+use Rattle.t_gen_rules.specs.Gen.{reads}
 use Rattle.t_emit.specs.Code.{places}
 use Rattle.t_emit.proofs.Emitted.{reads_base}
 use Rattle.t_emit.proofs.calls.names.Goals as goal

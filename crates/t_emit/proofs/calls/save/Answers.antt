@@ -1,6 +1,6 @@
 use Rattle.std.proofs.Common.{◌∙◌, sym, ap}
 use Rattle.t_emit.specs.Code.{after_saves}
-use Rattle.gen_law.specs.Gen.{places_saved}
+use Rattle.t_gen_rules.specs.Gen.{places_saved}
 use Rattle.t_emit.proofs.Emitted.{saves_push}
 use Rattle.t_emit.proofs.calls.save.Goals as goal
 

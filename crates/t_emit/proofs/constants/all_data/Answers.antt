@@ -1,7 +1,7 @@
 use Rattle.std.proofs.Common.{◌∙◌, ap}
 use Rattle.std.proofs.lemmas.List.{take_all}
 use Rattle.a_terms.specs.NodeTrees.{a_consts, a_data}
-use Rattle.gen_law.specs.Gen.{data_of, generated_heap}
+use Rattle.t_gen_rules.specs.Gen.{data_of, generated_heap}
 use Rattle.t_emit.proofs.Tuples.{heap_push}
 use Rattle.t_emit.proofs.constants.all_data.Goals as goal
 

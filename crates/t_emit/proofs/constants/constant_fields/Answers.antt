@@ -1,7 +1,7 @@
 use Rattle.std.proofs.Common.{◌∙◌, ap}
 use Rattle.std.proofs.lemmas.List.{take_all}
 use Rattle.a_terms.specs.NodeTrees.{a_consts}
-use Rattle.gen_law.specs.Gen.{data_of}
+use Rattle.t_gen_rules.specs.Gen.{data_of}
 use Rattle.t_emit.proofs.Tuples.{const_push}
 use Rattle.t_emit.proofs.constants.constant_fields.Goals as goal
 

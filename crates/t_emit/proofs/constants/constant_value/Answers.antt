@@ -1,7 +1,7 @@
 use Rattle.std.proofs.Common.{◌∙◌, ap}
 use Rattle.a_terms.specs.NodeTrees.{base, wrapped}
 use Rattle.a_scope.proofs.Scopes.{taken}
-use Rattle.gen_law.specs.Gen.{constant}
+use Rattle.t_gen_rules.specs.Gen.{constant}
 use Rattle.t_emit.proofs.Emitted.{const_next_of}
 use Rattle.t_emit.proofs.constants.constant_value.Goals as goal
 

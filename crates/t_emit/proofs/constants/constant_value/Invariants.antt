@@ -1,7 +1,7 @@
 use Rattle.std.proofs.Common.{◌≡◌, take}
 use Rattle.t_terms.specs.Read.{value}
 use Rattle.a_terms.specs.NodeTrees.{base, wrapped}
-use Rattle.gen_law.specs.Gen.{constant}
+use Rattle.t_gen_rules.specs.Gen.{constant}
 use Rattle.t_emit.proofs.constants.constant_value.Given as goal
 
 abbrev pub invariant-loop-w : goal.invariant-loop-w

@@ -2,7 +2,7 @@ use Rattle.std.proofs.Common.{◌≡◌, ◌-◌, ◌∙◌, ap, arith}
 use Rattle.t_terms.specs.Tree as T
 use Rattle.t_terms.specs.Tree.{Then}
 use Rattle.t_emit.specs.Code.{onto}
-use Rattle.gen_law.specs.Gen.{small, unnest, move, settle, home}
+use Rattle.t_gen_rules.specs.Gen.{small, unnest, move, settle, home}
 use Rattle.a_scope.specs.Scope.{homes}
 use Rattle.a_terms.specs.NodeTrees.{a_value}
 use Rattle.t_emit.proofs.decls.initialise.Goals as goal

@@ -1,7 +1,7 @@
 use Rattle.std.proofs.Common.{◌∙◌, sym, ap, cond}
 use Rattle.a_scope.specs.Scope.{homes}
 use Rattle.a_terms.specs.NodeTrees.{a_value}
-use Rattle.gen_law.specs.Gen.{place, free}
+use Rattle.t_gen_rules.specs.Gen.{place, free}
 use Rattle.t_emit.proofs.Emitted.{owner_none, owner_var}
 use Rattle.t_emit.proofs.decls.owner.Goals as goal
 

@@ -3,7 +3,7 @@ use Rattle.t_terms.specs.Tree as T
 use Rattle.t_terms.specs.Tree.{Then}
 use Rattle.t_terms.specs.Read.{blocks_of}
 use Rattle.t_emit.specs.Code.{onto, reserved}
-use Rattle.gen_law.specs.Gen.{small, unnest, settle, home, tvars}
+use Rattle.t_gen_rules.specs.Gen.{small, unnest, settle, home, tvars}
 use Rattle.a_scope.specs.Scope.{homes, scope}
 use Rattle.a_scope.proofs.Scopes.{length_homes, length_scope}
 use Rattle.a_terms.specs.NodeTrees.{a_value}

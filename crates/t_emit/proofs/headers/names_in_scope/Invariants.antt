@@ -1,6 +1,6 @@
 use Rattle.std.proofs.Common.{◌≡◌, ◌++◌, map}
 use Rattle.t_types.specs.Read.{tree}
-use Rattle.gen_law.specs.Gen.{tvars}
+use Rattle.t_gen_rules.specs.Gen.{tvars}
 use Rattle.t_emit.proofs.headers.names_in_scope.Given as goal
 
 abbrev pub invariant-loop-left : goal.invariant-loop-left

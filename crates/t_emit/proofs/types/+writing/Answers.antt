@@ -3,7 +3,7 @@ use Rattle.std.proofs.lemmas.List.{take_all}
 use Rattle.t_types.specs.Tree.{TupleTy, CodeTy, ExistsTy}
 use Rattle.t_types.specs.Read.{tree}
 use Rattle.t_types.proofs.Trees.{tree_Tuple, tree_Code}
-use Rattle.gen_law.specs.Gen.{ty, ty_args, ty_fields}
+use Rattle.t_gen_rules.specs.Gen.{ty, ty_args, ty_fields}
 use Rattle.a_terms.specs.Tree.{AExists}
 use Rattle.a_terms.specs.Read.{atree, atrees, afields}
 use Rattle.a_terms.specs.ReadLaws.{is_tuple, is_code}

@@ -1,6 +1,6 @@
 use Rattle.std.proofs.Common.{◌≡◌, take, ◌+◌}
 use Rattle.t_types.specs.Read.{file, fields}
-use Rattle.gen_law.specs.Gen.{ty_args, ty_fields}
+use Rattle.t_gen_rules.specs.Gen.{ty_args, ty_fields}
 use Rattle.a_terms.specs.Read.{atrees, afields}
 use Rattle.t_emit.proofs.types.+writing.Given as goal
 

@@ -1,7 +1,7 @@
 use Rattle.std.proofs.Common.{ap, ◌∙◌, ◌++◌}
 use Rattle.std.proofs.lemmas.List.{take_all}
 use Rattle.t_types.specs.Read.{types}
-use Rattle.gen_law.specs.Gen.{tys}
+use Rattle.t_gen_rules.specs.Gen.{tys}
 use Rattle.a_terms.specs.Read.{atrees}
 use Rattle.t_emit.proofs.Written.{types_push, types_none}
 use Rattle.t_emit.proofs.types.written_onto.Goals as goal

@@ -1,6 +1,6 @@
 use Rattle.std.proofs.Common.{◌≡◌, ◌++◌, take}
 use Rattle.t_types.specs.Read.{types}
-use Rattle.gen_law.specs.Gen.{tys}
+use Rattle.t_gen_rules.specs.Gen.{tys}
 use Rattle.a_terms.specs.Read.{atrees}
 use Rattle.t_emit.proofs.types.written_onto.Given as goal
 

@@ -1,6 +1,6 @@
 use Rattle.std.proofs.Common.{◌∙◌, ap}
 use Rattle.t_emit.specs.Code.{onto, places}
-use Rattle.gen_law.specs.Gen.{small, unnest}
+use Rattle.t_gen_rules.specs.Gen.{small, unnest}
 use Rattle.a_terms.specs.NodeTrees.{base, wrapped}
 use Rattle.a_scope.proofs.Scopes.{taken}
 use Rattle.t_emit.proofs.Emitted.{small_next, unnest_next}

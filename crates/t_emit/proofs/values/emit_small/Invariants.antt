@@ -2,7 +2,7 @@ use Rattle.std.proofs.Common.{◌≡◌, take}
 use Rattle.t_terms.specs.Tree.{TSeq}
 use Rattle.t_terms.specs.Read.{value}
 use Rattle.t_emit.specs.Code.{onto, places}
-use Rattle.gen_law.specs.Gen.{small, unnest}
+use Rattle.t_gen_rules.specs.Gen.{small, unnest}
 use Rattle.a_terms.specs.NodeTrees.{base, wrapped}
 use Rattle.t_emit.proofs.values.emit_small.Given as goal
 

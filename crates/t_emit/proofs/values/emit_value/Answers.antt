@@ -1,6 +1,6 @@
 use Rattle.std.proofs.Common.{◌∙◌, ap}
 use Rattle.t_emit.specs.Code.{onto, after_saves}
-use Rattle.gen_law.specs.Gen.{small, unnest}
+use Rattle.t_gen_rules.specs.Gen.{small, unnest}
 use Rattle.a_scope.specs.Scope.{homes}
 use Rattle.a_terms.specs.NodeTrees.{a_value}
 use Rattle.t_emit.proofs.values.emit_value.Goals as goal

@@ -1,7 +1,7 @@
 use Rattle.std.proofs.Common.{◌∙◌, ap, sym, get_or}
 use Rattle.std.proofs.lemmas.List.{take_all}
 use Rattle.t_emit.specs.Code.{seen}
-use Rattle.gen_law.specs.Gen.{instead}
+use Rattle.t_gen_rules.specs.Gen.{instead}
 use Rattle.t_emit.proofs.Emitted.{seen_next}
 use Rattle.t_emit.proofs.values.moved.Goals as goal
 

@@ -3,7 +3,7 @@ use Rattle.std.proofs.lemmas.List.{take_all}
 use Rattle.a_terms.specs.Typing.{types_of}
 use Rattle.a_terms.specs.Read.{atrees}
 use Rattle.a_terms.specs.Tree.{arity}
-use Rattle.gen_law.specs.Gen.{rows}
+use Rattle.t_gen_rules.specs.Gen.{rows}
 use Rattle.a_scope.specs.Scope.{Under}
 use Rattle.t_gen.proofs.Keeping.{under_push}
 use Rattle.a_scope.proofs.Scopes.{shown_own}

@@ -1,6 +1,6 @@
 use Rattle.std.proofs.Common.{◌≡◌, take, length, []}
 use Rattle.a_terms.specs.Tree.{arity}
-use Rattle.gen_law.specs.Gen.{rows}
+use Rattle.t_gen_rules.specs.Gen.{rows}
 use Rattle.a_terms.specs.Typing.{types_of}
 use Rattle.a_terms.specs.Read.{atrees}
 use Rattle.a_scope.specs.Scope.{scope, homes, Under}

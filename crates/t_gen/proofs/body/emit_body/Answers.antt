@@ -1,14 +1,14 @@
 use Rattle.std.proofs.Common.{ℕ, sym, subst, drop, ◌+◌, ◌≡◌, ◌∷◌, [], ◌++◌, ◌∙◌, ap, List, length, rules}
 use Rattle.std.proofs.lemmas.List.{drop_all}
 use Rattle.a_terms.specs.NodeTrees.{a_onto, a_tree}
-use Rattle.a_uses.proofs.Telling.{next_told}
+use Rattle.t_gen.proofs.Telling.{next_told}
 use Rattle.t_gen.specs.declared.state.Place.{Place}
 use Rattle.t_gen.proofs.Walking.{walk_begins, walk_arity, walk_fit, walk_keeps, walk_held, walk_count, walk_goes}
 use Rattle.t_gen.proofs.Walking.{walk_stuck, walk_ends, next_node}
 use Rattle.a_scope.specs.Scope.{homes}
 use Rattle.a_scope.specs.declared.scope.Entry.{Entry}
-use Rattle.gen_law.specs.Gen.{used}
-use Rattle.gen_law.specs.Registers.{Own}
+use Rattle.t_gen_rules.specs.Gen.{used}
+use Rattle.t_gen_laws.specs.Registers.{Own}
 use Rattle.t_gen.specs.Keeps.{among, each}
 use Rattle.t_gen.specs.Registers.{Holds}
 use Rattle.t_gen.proofs.InUse.{rows_own, keeps_of}

@@ -3,7 +3,7 @@ use Rattle.t_terms.specs.Read.{blocks_of}
 use Rattle.t_gen.specs.Filling.{finish}
 use Rattle.a_terms.specs.Program.{program_in}
 use Rattle.a_scope.specs.Scope.{scope, homes}
-use Rattle.a_uses.specs.Uses.{Told, back}
+use Rattle.t_gen.specs.Uses.{Told, back}
 use Rattle.t_gen.specs.Pending.{body_job}
 use Rattle.t_gen.proofs.Walking.{Walked}
 use Rattle.t_gen.proofs.body.emit_body.Given as goal

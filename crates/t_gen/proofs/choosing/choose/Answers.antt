@@ -3,7 +3,7 @@ use Rattle.std.proofs.Common.{◌≡◌, ℕ, suc, ◌+◌, List, subst, arith}
 use Rattle.std.specs.Prelude.{Bool, ◌&&◌, not}
 use Rattle.a_terms.specs.NodeTrees.{a_values, a_decl}
 use Rattle.a_scope.specs.Scope.{homes}
-use Rattle.gen_law.specs.Gen.{busy, used}
+use Rattle.t_gen_rules.specs.Gen.{busy, used}
 use Rattle.t_emit.specs.Code.{kept}
 use Rattle.t_gen.specs.Keeps.{among, each, is_one}
 use Rattle.t_gen.specs.Registers.{Holds}

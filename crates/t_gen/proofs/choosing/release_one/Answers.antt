@@ -1,6 +1,6 @@
 use Rattle.std.proofs.Common.{◌∙◌, ap, sym}
 use Rattle.std.specs.Prelude.{◌==◌, ◌&&◌, not}
-use Rattle.gen_law.specs.Gen.{place}
+use Rattle.t_gen_rules.specs.Gen.{place}
 use Rattle.a_scope.specs.Scope.{homes}
 use Rattle.t_gen.specs.Keeps.{is_one}
 use Rattle.t_gen.proofs.InUse.{holds_same, and_true}

@@ -1,8 +1,8 @@
 use Rattle.std.proofs.Common.{◌∙◌, ap, sym}
-use Rattle.gen_law.specs.Gen.{uses}
+use Rattle.t_gen_rules.specs.Gen.{uses}
 use Rattle.a_terms.specs.NodeTrees.{base}
 use Rattle.a_terms.specs.declared.nodes.ABase.{ABase}
-use Rattle.a_uses.proofs.Sets.{uses_base}
+use Rattle.t_gen.proofs.Sets.{uses_base}
 use Rattle.t_gen.proofs.choosing.variable_of.Goals as goal
 
 pub returns-in-Var : goal.returns-in-Var

@@ -2,9 +2,9 @@ use Rattle.std.proofs.Common.{sym, subst}
 use Rattle.std.proofs.Math.Logic.{∥∥₁_map}
 use Rattle.t_rules.specs.Rules.{Accepted}
 use Rattle.a_terms.specs.Program.{program_in, main_in}
-use Rattle.gen_law.specs.Correct.{Keeps}
+use Rattle.t_gen_laws.specs.Correct.{Keeps}
 use Rattle.t_terms.specs.Flat.{Flat}
-use Rattle.gen_law.specs.TypesEach.{TypesEach, TWithin}
+use Rattle.t_gen_laws.specs.TypesEach.{TypesEach, TWithin}
 use Rattle.t_gen.proofs.generation.generate.Goals as goal
 
 pub returns-clause-accepted : goal.returns-clause-accepted

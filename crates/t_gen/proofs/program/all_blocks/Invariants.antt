@@ -1,7 +1,7 @@
 use Rattle.std.proofs.Common.{◌≡◌, ◌≤◌, ◌+◌, suc, drop, length}
 use Rattle.t_terms.specs.Read.{blocks_of}
 use Rattle.t_gen.specs.Filling.{finish, jobs}
-use Rattle.gen_law.specs.Gen.{generated_blocks}
+use Rattle.t_gen_rules.specs.Gen.{generated_blocks}
 use Rattle.a_terms.specs.NodeTrees.{a_blocks, a_tree}
 use Rattle.a_terms.specs.Program.{program_in}
 use Rattle.t_gen.proofs.program.all_blocks.Given as goal

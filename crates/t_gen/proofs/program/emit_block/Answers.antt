@@ -2,7 +2,7 @@ use Rattle.std.proofs.Common.{◌∷◌, [], ◌∙◌, ap, ap₂, sym, subst, l
 use Rattle.t_terms.specs.Read.{blocks_of}
 use Rattle.t_gen.specs.Filling.{finish}
 use Rattle.a_terms.specs.Tree.{arity}
-use Rattle.gen_law.specs.Gen.{rows}
+use Rattle.t_gen_rules.specs.Gen.{rows}
 use Rattle.a_terms.specs.Typing.{types_of}
 use Rattle.a_terms.specs.Read.{atrees}
 use Rattle.a_scope.specs.Scope.{scope}

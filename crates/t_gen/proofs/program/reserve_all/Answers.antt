@@ -7,7 +7,7 @@ use Rattle.t_terms.specs.Read.{blocks_of}
 use Rattle.t_terms.specs.declared.block.Block.{Block}
 use Rattle.t_emit.specs.Code.{reserved}
 use Rattle.t_gen.specs.Filling.{reserves}
-use Rattle.gen_law.specs.Gen.{ty_args}
+use Rattle.t_gen_rules.specs.Gen.{ty_args}
 use Rattle.a_terms.specs.Read.{atrees}
 use Rattle.a_terms.specs.NodeTrees.{a_blocks}
 use Rattle.t_gen.proofs.Bodies.{reserves_push}

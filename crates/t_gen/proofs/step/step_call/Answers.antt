@@ -2,7 +2,7 @@ use Rattle.std.proofs.Common.{◌≡◌, ◌∙◌, suc, List, ap, sym}
 use Rattle.t_terms.specs.Read.{blocks_of}
 use Rattle.t_emit.specs.Code.{onto, fill}
 use Rattle.t_gen.proofs.Filled.{call_step}
-use Rattle.gen_law.specs.Gen.{used, top as greatest, above, tys, call_code}
+use Rattle.t_gen_rules.specs.Gen.{used, top as greatest, above, tys, call_code}
 use Rattle.a_terms.specs.Tree as a
 use Rattle.a_terms.specs.Read.{atrees}
 use Rattle.a_terms.specs.NodeTrees.{a_values, no_value}

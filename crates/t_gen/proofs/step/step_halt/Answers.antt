@@ -4,7 +4,7 @@ use Rattle.t_terms.specs.Tree.{Ends}
 use Rattle.t_terms.specs.Read.{blocks_of}
 use Rattle.t_emit.specs.Code.{onto, fill}
 use Rattle.t_gen.proofs.Filled.{halt_step}
-use Rattle.gen_law.specs.Gen.{used, uses, over, small, unnest, move}
+use Rattle.t_gen_rules.specs.Gen.{used, uses, over, small, unnest, move}
 use Rattle.a_terms.specs.Tree as a
 use Rattle.a_terms.specs.NodeTrees.{a_values, no_value}
 use Rattle.a_terms.specs.Row.{top}

@@ -2,7 +2,7 @@ use Rattle.std.proofs.Common.{◌≡◌, ℕ, ◌++◌, ◌∷◌, [], List, len
 use Rattle.std.specs.Prelude.{◌&&◌, not}
 use Rattle.t_terms.specs.Read.{blocks_of}
 use Rattle.t_emit.specs.Code.{Listed, onto, reserved}
-use Rattle.gen_law.specs.Gen.{used, over, busy, test_code, header}
+use Rattle.t_gen_rules.specs.Gen.{used, over, busy, test_code, header}
 use Rattle.a_terms.specs.Tree as a
 use Rattle.a_terms.specs.NodeTrees.{a_values, a_value, no_value, no_term}
 use Rattle.a_terms.specs.Row.{top, others}

@@ -1,6 +1,6 @@
 use Rattle.std.proofs.Common.{◌≡◌, ◌∷◌, List, length, rules, ◌∙◌, ap, ap₂, sym, refl, subst, arith}
 use Rattle.t_emit.specs.Code.{onto}
-use Rattle.gen_law.specs.Gen.{used, over, decl_code, target}
+use Rattle.t_gen_rules.specs.Gen.{used, over, decl_code, target}
 use Rattle.a_scope.specs.declared.scope.Entry.{Entry}
 use Rattle.a_terms.specs.Tree as a
 use Rattle.a_terms.specs.Row.{top, others}

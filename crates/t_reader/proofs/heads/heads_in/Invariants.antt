@@ -1,4 +1,4 @@
-use Rattle.t_lexer.specs.Kept.{tokens_of}
+use Rattle.t_text.specs.Kept.{tokens_of}
 use Rattle.std.proofs.Common.{◌≤◌, length, ◌-◌}
 use Rattle.t_reader.proofs.heads.heads_in.Given as goal
 

@@ -1,4 +1,4 @@
-use Rattle.t_lexer.specs.Kept.{tokens_of}
+use Rattle.t_text.specs.Kept.{tokens_of}
 use Rattle.std.proofs.lemmas.Result.{err_from_is_err_and}
 use Rattle.t_reader.proofs.Shaped.{named_fault}
 use Rattle.t_reader.proofs.reader.parts_at_once.Goals as goal

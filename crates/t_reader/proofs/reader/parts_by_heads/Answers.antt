@@ -1,4 +1,4 @@
-use Rattle.t_lexer.specs.Kept.{tokens_of}
+use Rattle.t_text.specs.Kept.{tokens_of}
 use Rattle.std.proofs.Common.{refl, ◌∙◌}
 use Rattle.t_reader.proofs.Turning.{turn_start, block_turned, data_turned, turned}
 use Rattle.t_reader.proofs.reader.parts_by_heads.Goals.{in-Block+in_ok-made-in-Block+in_ok-push-in-Block}

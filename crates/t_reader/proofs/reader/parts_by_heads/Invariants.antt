@@ -1,4 +1,4 @@
-use Rattle.t_lexer.specs.Kept.{tokens_of}
+use Rattle.t_text.specs.Kept.{tokens_of}
 use Rattle.t_reader.proofs.Turning.{InTurn}
 use Rattle.t_reader.proofs.reader.parts_by_heads.Given as goal
 

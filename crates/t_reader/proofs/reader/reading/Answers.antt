@@ -1,8 +1,8 @@
 use Rattle.std.proofs.Common.{arith}
 use Rattle.std.proofs.lemmas.List.{length-map}
 use Rattle.std.proofs.lemmas.Result.{err_from_is_err_and}
-use Rattle.t_lexer.specs.declared.kept.Word.{Word}
-use Rattle.t_lexer.specs.Kept.{token_in, tokens_of}
+use Rattle.t_text.specs.declared.kept.Word.{Word}
+use Rattle.t_text.specs.Kept.{token_in, tokens_of}
 use Rattle.t_reader.proofs.Answered.{reads}
 use Rattle.t_reader.proofs.Shaped.{token_fault, shaped}
 use Rattle.t_reader.proofs.Well.{is_whole}

@@ -1,4 +1,4 @@
-use Rattle.t_lexer.specs.Kept.{tokens_of}
+use Rattle.t_text.specs.Kept.{tokens_of}
 use Rattle.t_reader.proofs.Shaped.{unexpected_fault, deep_fault}
 use Rattle.t_reader.proofs.reader.shape.Goals as goal
 

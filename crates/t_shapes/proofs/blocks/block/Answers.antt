@@ -3,11 +3,11 @@ use Rattle.std.proofs.lemmas.Result.{err_from_is_err_and}
 use Rattle.text_core.specs.Table.{Do}
 use Rattle.t_text.specs.declared.wanted.Wanted.TheVariants as want
 use Rattle.t_text.specs.GrammarTable.{MakeBlock, block_owed, code_owed}
-use Rattle.t_grammar.proofs.Stepping.{within, by_token, by_two, by_call, by_do, by_same, stop_token, stop_two}
-use Rattle.t_grammar.proofs.Stepping.{stop_call}
+use Rattle.t_shapes.proofs.Stepping.{within, by_token, by_two, by_call, by_do, by_same, stop_token, stop_two}
+use Rattle.t_shapes.proofs.Stepping.{stop_call}
 use Rattle.t_shapes.specs.Reads.{code_parts}
 use Rattle.t_shapes.proofs.Blocked.{block_goes}
-use Rattle.t_lexer.specs.Kept.{tokens_of}
+use Rattle.t_text.specs.Kept.{tokens_of}
 use Rattle.t_shapes.proofs.blocks.block.Goals as goal
 
 pub returns-in_err-label : goal.returns-in_err-label

@@ -2,9 +2,9 @@ use Rattle.std.proofs.Common.{[], ◌∷◌, refl, arith}
 use Rattle.std.proofs.lemmas.Result.{err_from_is_err_and}
 use Rattle.text_core.specs.Table.{Nt, Do}
 use Rattle.t_text.specs.GrammarTable.{LEnd, LMoreSteps, MakeNoSteps}
-use Rattle.t_grammar.proofs.Stepping.{start, by_call, stop_call}
+use Rattle.t_shapes.proofs.Stepping.{start, by_call, stop_call}
 use Rattle.t_shapes.specs.Reads.{head_owed, steps_owed, code_parts}
-use Rattle.t_lexer.specs.Kept.{tokens_of}
+use Rattle.t_text.specs.Kept.{tokens_of}
 use Rattle.t_shapes.proofs.blocks.code.Goals as goal
 
 pub returns-in_err-head : goal.returns-in_err-head

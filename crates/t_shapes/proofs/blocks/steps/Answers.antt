@@ -2,10 +2,10 @@ use Rattle.std.proofs.Common.{[], ◌∷◌, refl, sym, ◌∙◌, arith}
 use Rattle.std.proofs.lemmas.Result.{err_from_is_err_and}
 use Rattle.text_core.specs.Table.{Nt}
 use Rattle.t_text.specs.GrammarTable.{LI, LMoreSteps, MakeNoSteps, MakeNextStep, OfSteps, steps_tail}
-use Rattle.t_grammar.proofs.Stepping.{start, by_call, by_do, stop_call}
+use Rattle.t_shapes.proofs.Stepping.{start, by_call, by_do, stop_call}
 use Rattle.t_shapes.specs.Reads.{steps_owed}
 use Rattle.t_shapes.proofs.Blocked.{as_instr, no_instr, steps_more}
-use Rattle.t_lexer.specs.Kept.{tokens_of}
+use Rattle.t_text.specs.Kept.{tokens_of}
 use Rattle.t_shapes.proofs.blocks.steps.Goals as goal
 
 pub loop-alloc-init : goal.loop-alloc-init

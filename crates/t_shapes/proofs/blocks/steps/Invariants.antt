@@ -1,7 +1,7 @@
 use Rattle.std.proofs.Common.{length, ◌-◌, map}
 use Rattle.t_shapes.specs.Raw.{raw_step}
 use Rattle.t_shapes.specs.Reads.{ReadsSomeSteps}
-use Rattle.t_lexer.specs.Kept.{tokens_of}
+use Rattle.t_text.specs.Kept.{tokens_of}
 use Rattle.t_shapes.proofs.blocks.steps.Given as goal
 
 abbrev pub invariant-loop-alloc : goal.invariant-loop-alloc

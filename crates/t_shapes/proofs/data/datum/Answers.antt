@@ -3,9 +3,9 @@ use Rattle.std.proofs.lemmas.Result.{err_from_is_err_and}
 use Rattle.text_core.specs.Table.{Tm, Nt}
 use Rattle.t_text.specs.declared.wanted.Wanted.TheVariants as want
 use Rattle.t_text.specs.GrammarTable.{LW, LT}
-use Rattle.t_grammar.proofs.Stepping.{within, start, by_token, by_call, stop_token, stop_call}
+use Rattle.t_shapes.proofs.Stepping.{within, start, by_token, by_call, stop_token, stop_call}
 use Rattle.t_shapes.specs.Reads.{datum_owed}
-use Rattle.t_lexer.specs.Kept.{tokens_of}
+use Rattle.t_text.specs.Kept.{tokens_of}
 use Rattle.t_shapes.proofs.data.datum.Goals as goal
 
 pub returns-in_err-word : goal.returns-in_err-word

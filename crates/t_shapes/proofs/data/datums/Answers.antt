@@ -2,13 +2,13 @@ use Rattle.std.proofs.Common.{◌≡◌, List, [], ◌∷◌, ◌++◌, refl, sy
 use Rattle.std.proofs.lemmas.Result.{err_from_is_err_and}
 use Rattle.t_text.specs.declared.wanted.Wanted.TheVariants as want
 use Rattle.t_text.specs.GrammarTable.{LDatums, LMoreDatums, MakeFirstDatum, MakeNextDatum, MakeClosedDatums}
-use Rattle.t_grammar.proofs.Stepping.{within, list_first, list_first_stops, list_next, list_next_stops, list_whole}
-use Rattle.t_grammar.proofs.Stepping.{list_close_stops}
+use Rattle.t_shapes.proofs.Stepping.{within, list_first, list_first_stops, list_next, list_next_stops, list_whole}
+use Rattle.t_shapes.proofs.Stepping.{list_close_stops}
 use Rattle.t_shapes.specs.Reads.{datum_owed}
 use Rattle.t_shapes.specs.declared.raw.RawDatum.{RawDatum}
 use Rattle.t_shapes.proofs.Lines.{list_datums}
 use Rattle.t_shapes.proofs.Worded.{datums_more, datums_empty}
-use Rattle.t_lexer.specs.Kept.{tokens_of}
+use Rattle.t_text.specs.Kept.{tokens_of}
 use Rattle.t_shapes.proofs.data.datums.Goals as goal
 
 pub returns-in-Some : goal.returns-in-Some

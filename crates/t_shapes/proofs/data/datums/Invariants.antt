@@ -2,9 +2,9 @@ use Rattle.std.proofs.Common.{length, ◌-◌, map, [], ◌∷◌}
 use Rattle.text_core.specs.Table.{Nt, Tm, Do}
 use Rattle.t_text.specs.declared.wanted.Wanted.TheVariants as want
 use Rattle.t_text.specs.GrammarTable.{LDatums, LMoreDatums, MakeClosedDatums, OfDatums}
-use Rattle.t_grammar.specs.Reads.{ReadsSome}
+use Rattle.t_shapes.specs.ReadsTypes.{ReadsSome}
 use Rattle.t_shapes.specs.Raw.{raw_datum}
-use Rattle.t_lexer.specs.Kept.{tokens_of}
+use Rattle.t_text.specs.Kept.{tokens_of}
 use Rattle.t_shapes.proofs.data.datums.Given as goal
 
 abbrev pub invariant-loop-fields : goal.invariant-loop-fields

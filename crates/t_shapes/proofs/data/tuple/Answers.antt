@@ -3,10 +3,10 @@ use Rattle.std.proofs.lemmas.Option.{slice_get_within}
 use Rattle.text_core.specs.Going.{at_the_end, other}
 use Rattle.text_core.specs.Table.{Nt}
 use Rattle.t_text.specs.GrammarTable.{LTuple}
-use Rattle.t_grammar.proofs.Stepping.{start, stop_lacks}
+use Rattle.t_shapes.proofs.Stepping.{start, stop_lacks}
 use Rattle.t_shapes.proofs.Lines.{no_tuple}
 use Rattle.t_shapes.proofs.Itemed.{bracket_reads}
-use Rattle.t_lexer.specs.Kept.{tokens_of}
+use Rattle.t_text.specs.Kept.{tokens_of}
 use Rattle.t_shapes.proofs.data.tuple.Goals as goal
 
 pub returns-in-None : goal.returns-in-None

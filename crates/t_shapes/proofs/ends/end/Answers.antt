@@ -4,9 +4,9 @@ use Rattle.std.proofs.lemmas.Result.{err_from_is_err_and}
 use Rattle.text_core.specs.Table.{Nt, Do}
 use Rattle.text_core.specs.Going.{at_the_end, other}
 use Rattle.t_text.specs.GrammarTable.{LV, LInt, LEnd, MakeJmp, MakeHalt, end_after}
-use Rattle.t_grammar.proofs.Stepping.{start, begins, by_call, by_do, by_same, stop_call, stop_lacks}
+use Rattle.t_shapes.proofs.Stepping.{start, begins, by_call, by_do, by_same, stop_call, stop_lacks}
 use Rattle.t_shapes.proofs.Lines.{no_end}
-use Rattle.t_lexer.specs.Kept.{tokens_of}
+use Rattle.t_text.specs.Kept.{tokens_of}
 use Rattle.t_shapes.proofs.ends.end.Goals as goal
 
 pub returns-in-None : goal.returns-in-None

@@ -3,9 +3,9 @@ use Rattle.std.proofs.lemmas.Result.{err_from_is_err_and}
 use Rattle.text_core.specs.Table.{Tm, Nt}
 use Rattle.t_text.specs.declared.wanted.Wanted.TheVariants as want
 use Rattle.t_text.specs.GrammarTable.{LBinds, LFile}
-use Rattle.t_grammar.proofs.Stepping.{within, start, by_token, by_call, stop_token, stop_call}
+use Rattle.t_shapes.proofs.Stepping.{within, start, by_token, by_call, stop_token, stop_call}
 use Rattle.t_shapes.specs.Reads.{head_owed}
-use Rattle.t_lexer.specs.Kept.{tokens_of}
+use Rattle.t_text.specs.Kept.{tokens_of}
 use Rattle.t_shapes.proofs.heads.head.Goals as goal
 
 pub returns-in_err-names : goal.returns-in_err-names

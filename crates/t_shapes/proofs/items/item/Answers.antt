@@ -6,12 +6,12 @@ use Rattle.text_core.specs.Going.{at_the_end, other}
 use Rattle.t_text.specs.declared.wanted.Wanted.TheVariants as want
 use Rattle.t_text.specs.GrammarTable.{LItem, LTuple, MakeBlock, MakeBlockItem, MakeDataItem, code_owed, data_owed}
 use Rattle.t_text.specs.GrammarTable.{item_after}
-use Rattle.t_grammar.proofs.Stepping.{start, by_token, by_row, by_call, by_do, by_same, stop_token, stop_call}
-use Rattle.t_grammar.proofs.Stepping.{stop_lacks}
+use Rattle.t_shapes.proofs.Stepping.{start, by_token, by_row, by_call, by_do, by_same, stop_token, stop_call}
+use Rattle.t_shapes.proofs.Stepping.{stop_lacks}
 use Rattle.t_shapes.specs.Reads.{item_owed, code_parts}
 use Rattle.t_shapes.proofs.Lines.{no_item}
 use Rattle.t_shapes.proofs.Itemed.{block_item}
-use Rattle.t_lexer.specs.Kept.{tokens_of}
+use Rattle.t_text.specs.Kept.{tokens_of}
 use Rattle.t_shapes.proofs.items.item.Goals as goal
 
 pub returns-in_err-label : goal.returns-in_err-label

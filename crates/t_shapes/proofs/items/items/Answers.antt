@@ -4,10 +4,10 @@ use Rattle.text_core.specs.Table.{Nt}
 use Rattle.t_text.specs.GrammarTable.{table, LSomeItems, MakeNoItems, MakeNextItem, OfItems}
 use Rattle.t_text.specs.Text.{most_open}
 use Rattle.text_core.proofs.Going as step
-use Rattle.t_grammar.proofs.Stepping.{start, by_call, by_do, stop_call}
+use Rattle.t_shapes.proofs.Stepping.{start, by_call, by_do, stop_call}
 use Rattle.t_shapes.specs.Reads.{item_owed, some_owed}
 use Rattle.t_shapes.proofs.Itemed.{as_item, item_left, items_done, items_more, no_more}
-use Rattle.t_lexer.specs.Kept.{tokens_of}
+use Rattle.t_text.specs.Kept.{tokens_of}
 use Rattle.t_shapes.proofs.items.items.Goals as goal
 
 pub loop-alloc-init : goal.loop-alloc-init

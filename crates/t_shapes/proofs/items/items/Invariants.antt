@@ -1,7 +1,7 @@
 use Rattle.std.proofs.Common.{length, ◌-◌}
 use Rattle.t_shapes.specs.Raw.{raw_items}
 use Rattle.t_shapes.specs.Reads.{ReadsSomeItems}
-use Rattle.t_lexer.specs.Kept.{tokens_of}
+use Rattle.t_text.specs.Kept.{tokens_of}
 use Rattle.t_shapes.proofs.items.items.Given as goal
 
 abbrev pub invariant-loop-alloc : goal.invariant-loop-alloc

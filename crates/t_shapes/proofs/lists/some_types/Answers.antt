@@ -3,12 +3,12 @@ use Rattle.std.proofs.lemmas.Result.{err_from_is_err_and}
 use Rattle.text_core.specs.Table.{Tm, Nt, Do}
 use Rattle.t_text.specs.declared.wanted.Wanted.TheVariants as want
 use Rattle.t_text.specs.GrammarTable.{LT, LSomeTypes, LMoreTypes, MakeFirstType, MakeNextType, MakeClosedTypes}
-use Rattle.t_grammar.specs.declared.raw.RawType.{RawType}
-use Rattle.t_grammar.proofs.Stepping.{within, stop_call, list_first_from, list_next, list_next_stops, list_whole}
-use Rattle.t_grammar.proofs.Stepping.{list_close_stops}
+use Rattle.t_shapes.specs.declared.raw_types.RawType.{RawType}
+use Rattle.t_shapes.proofs.Stepping.{within, stop_call, list_first_from, list_next, list_next_stops, list_whole}
+use Rattle.t_shapes.proofs.Stepping.{list_close_stops}
 use Rattle.t_shapes.proofs.Lines.{some_begin, list_types}
 use Rattle.t_shapes.proofs.Based.{types_more}
-use Rattle.t_lexer.specs.Kept.{tokens_of}
+use Rattle.t_text.specs.Kept.{tokens_of}
 use Rattle.t_shapes.proofs.lists.some_types.Goals as goal
 
 pub returns-in_err-first : goal.returns-in_err-first

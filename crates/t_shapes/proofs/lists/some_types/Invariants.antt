@@ -2,9 +2,9 @@ use Rattle.std.proofs.Common.{length, ◌-◌, map, [], ◌∷◌}
 use Rattle.text_core.specs.Table.{Nt, Tm, Do}
 use Rattle.t_text.specs.declared.wanted.Wanted.TheVariants as want
 use Rattle.t_text.specs.GrammarTable.{LSomeTypes, LMoreTypes, MakeClosedTypes, OfTypes}
-use Rattle.t_grammar.specs.Raw.{raw}
-use Rattle.t_grammar.specs.Reads.{ReadsSome}
-use Rattle.t_lexer.specs.Kept.{tokens_of}
+use Rattle.t_shapes.specs.RawTypes.{raw}
+use Rattle.t_shapes.specs.ReadsTypes.{ReadsSome}
+use Rattle.t_text.specs.Kept.{tokens_of}
 use Rattle.t_shapes.proofs.lists.some_types.Given as goal
 
 abbrev pub invariant-loop-types : goal.invariant-loop-types

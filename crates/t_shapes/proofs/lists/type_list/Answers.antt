@@ -1,9 +1,9 @@
 use Rattle.std.proofs.Common.{[], sym, ◌∙◌, arith}
 use Rattle.std.proofs.lemmas.Result.{err_from_is_err_and}
-use Rattle.t_grammar.proofs.Stepping.{by_call, after_moves}
+use Rattle.t_shapes.proofs.Stepping.{by_call, after_moves}
 use Rattle.t_shapes.proofs.Lines.{as_some}
 use Rattle.t_shapes.proofs.Based.{types_empty}
-use Rattle.t_lexer.specs.Kept.{tokens_of}
+use Rattle.t_text.specs.Kept.{tokens_of}
 use Rattle.t_shapes.proofs.lists.type_list.Goals as goal
 
 pub returns-in-Some : goal.returns-in-Some

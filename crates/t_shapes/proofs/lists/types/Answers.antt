@@ -2,9 +2,9 @@ use Rattle.std.proofs.Common.{refl, arith}
 use Rattle.std.proofs.lemmas.Result.{err_from_is_err_and}
 use Rattle.t_text.specs.declared.wanted.Wanted.TheVariants as want
 use Rattle.t_text.specs.GrammarTable.{LTypes, LTypeList, MakeTypes}
-use Rattle.t_grammar.proofs.Stepping.{within, not_opening, too_deep, bracketed, bracketed_stops}
+use Rattle.t_shapes.proofs.Stepping.{within, not_opening, too_deep, bracketed, bracketed_stops}
 use Rattle.t_shapes.proofs.Lines.{opens_types}
-use Rattle.t_lexer.specs.Kept.{tokens_of}
+use Rattle.t_text.specs.Kept.{tokens_of}
 use Rattle.t_shapes.proofs.lists.types.Goals as goal
 
 pub returns-in_err-expect : goal.returns-in_err-expect

@@ -2,10 +2,10 @@ use Rattle.std.proofs.Common.{◌≡◌, ◌+◌, refl, arith, inl}
 use Rattle.std.proofs.lemmas.Result.{err_from_is_err_and}
 use Rattle.t_text.specs.declared.wanted.Wanted.TheVariants as want
 use Rattle.t_text.specs.GrammarTable.{LIndex, MakeIndex}
-use Rattle.t_grammar.proofs.Stepping.{not_opening}
+use Rattle.t_shapes.proofs.Stepping.{not_opening}
 use Rattle.t_shapes.proofs.Lines.{opens_index}
 use Rattle.t_shapes.proofs.Bracketed.{two_stop, second_stop, two_read}
-use Rattle.t_lexer.specs.Kept.{tokens_of}
+use Rattle.t_text.specs.Kept.{tokens_of}
 use Rattle.t_shapes.proofs.parts.index.Goals as goal
 
 pub returns-in_err-expect : goal.returns-in_err-expect

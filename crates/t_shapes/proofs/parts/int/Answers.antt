@@ -2,10 +2,10 @@ use Rattle.std.proofs.Common.{refl}
 use Rattle.std.proofs.lemmas.Result.{err_from_is_err_and}
 use Rattle.t_text.specs.declared.wanted.Wanted.TheVariants as want
 use Rattle.t_text.specs.GrammarTable.{LInt, MakeInt}
-use Rattle.t_grammar.proofs.Stepping.{not_opening}
+use Rattle.t_shapes.proofs.Stepping.{not_opening}
 use Rattle.t_shapes.proofs.Lines.{opens_int}
 use Rattle.t_shapes.proofs.Bracketed.{two_stop, two_read}
-use Rattle.t_lexer.specs.Kept.{tokens_of}
+use Rattle.t_text.specs.Kept.{tokens_of}
 use Rattle.t_shapes.proofs.parts.int.Goals as goal
 
 pub returns-in_err-expect : goal.returns-in_err-expect

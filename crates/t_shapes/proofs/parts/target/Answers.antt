@@ -4,10 +4,10 @@ use Rattle.idx_core.specs.declared.span.Span.{Span}
 use Rattle.text_core.specs.Table.{Tm, Do, Mark}
 use Rattle.t_text.specs.declared.wanted.Wanted.TheVariants as want
 use Rattle.t_text.specs.GrammarTable.{LTarget, MakeTarget}
-use Rattle.t_grammar.proofs.Stepping.{within, by_token, by_two, by_do, by_mark, by_same, stop_token, stop_two, opening}
-use Rattle.t_grammar.proofs.Stepping.{not_opening}
+use Rattle.t_shapes.proofs.Stepping.{within, by_token, by_two, by_do, by_mark, by_same, stop_token, stop_two, opening}
+use Rattle.t_shapes.proofs.Stepping.{not_opening}
 use Rattle.t_shapes.proofs.Lines.{opens_target}
-use Rattle.t_lexer.specs.Kept.{tokens_of}
+use Rattle.t_text.specs.Kept.{tokens_of}
 use Rattle.t_shapes.proofs.parts.target.Goals as goal
 
 pub returns-in_err-expect : goal.returns-in_err-expect

@@ -2,10 +2,10 @@ use Rattle.std.proofs.Common.{[], ◌∷◌, refl, arith}
 use Rattle.std.proofs.lemmas.Result.{err_from_is_err_and}
 use Rattle.text_core.specs.Table.{Nt, Do}
 use Rattle.t_text.specs.GrammarTable.{LTo, LAt, MakeLd, OfToken}
-use Rattle.t_grammar.proofs.Stepping.{by_call, by_do, by_same, stop_call}
+use Rattle.t_shapes.proofs.Stepping.{by_call, by_do, by_same, stop_call}
 use Rattle.t_shapes.proofs.Bracketed.{starting}
 use Rattle.t_shapes.specs.Reads.{ld_left}
-use Rattle.t_lexer.specs.Kept.{tokens_of}
+use Rattle.t_text.specs.Kept.{tokens_of}
 use Rattle.t_shapes.proofs.steps.ld.Goals as goal
 
 pub returns-in_err-reg : goal.returns-in_err-reg

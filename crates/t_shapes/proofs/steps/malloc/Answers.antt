@@ -4,10 +4,10 @@ use Rattle.idx_core.specs.declared.span.Span.{Span}
 use Rattle.text_core.specs.Table.{Nt, Do}
 use Rattle.t_text.specs.declared.wanted.Wanted.TheVariants as want
 use Rattle.t_text.specs.GrammarTable.{LTypes, MakeMalloc, OfToken}
-use Rattle.t_grammar.proofs.Stepping.{within, by_token, by_call, by_do, stop_token, stop_call}
+use Rattle.t_shapes.proofs.Stepping.{within, by_token, by_call, by_do, stop_token, stop_call}
 use Rattle.t_shapes.proofs.Bracketed.{starting}
 use Rattle.t_shapes.specs.Reads.{malloc_left}
-use Rattle.t_lexer.specs.Kept.{tokens_of}
+use Rattle.t_text.specs.Kept.{tokens_of}
 use Rattle.t_shapes.proofs.steps.malloc.Goals as goal
 
 pub returns-in_err-reg : goal.returns-in_err-reg

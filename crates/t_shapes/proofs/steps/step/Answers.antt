@@ -2,12 +2,12 @@ use Rattle.std.proofs.Common.{◌≡◌, [], ◌∷◌, slice_get, Some, refl, s
 use Rattle.text_core.specs.Table.{Nt}
 use Rattle.text_core.specs.Going.{at_the_end, other}
 use Rattle.t_text.specs.GrammarTable.{LI}
-use Rattle.t_grammar.proofs.Stepping.{start, stop_lacks}
+use Rattle.t_shapes.proofs.Stepping.{start, stop_lacks}
 use Rattle.t_shapes.proofs.Lines.{no_step}
 use Rattle.t_shapes.specs.Reads.{arith_left, bnz_left, mov_left, ld_left, malloc_left, st_left, unpack_left}
 use Rattle.idx_core.specs.declared.arith.Op.TheVariants.{Add, Sub, Mul}
 use Rattle.t_shapes.proofs.Stepped.{as_step}
-use Rattle.t_lexer.specs.Kept.{tokens_of}
+use Rattle.t_text.specs.Kept.{tokens_of}
 use Rattle.t_shapes.proofs.steps.step.Goals as goal
 
 pub returns-in-None : goal.returns-in-None

@@ -3,10 +3,10 @@ use Rattle.std.proofs.lemmas.Result.{err_from_is_err_and}
 use Rattle.text_core.specs.Table.{Tm, Nt, Do}
 use Rattle.t_text.specs.declared.wanted.Wanted.TheVariants as want
 use Rattle.t_text.specs.GrammarTable.{LV, LTarget, MakeUnpack, OfToken}
-use Rattle.t_grammar.proofs.Stepping.{within, by_token, by_call, by_do, by_same, stop_token, stop_call}
+use Rattle.t_shapes.proofs.Stepping.{within, by_token, by_call, by_do, by_same, stop_token, stop_call}
 use Rattle.t_shapes.proofs.Bracketed.{starting}
 use Rattle.t_shapes.specs.Reads.{unpack_left}
-use Rattle.t_lexer.specs.Kept.{tokens_of}
+use Rattle.t_text.specs.Kept.{tokens_of}
 use Rattle.t_shapes.proofs.steps.unpack.Goals as goal
 
 pub returns-in_err-to : goal.returns-in_err-to

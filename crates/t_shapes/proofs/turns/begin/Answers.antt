@@ -1,4 +1,4 @@
-use Rattle.t_lexer.specs.Kept.{tokens_of}
+use Rattle.t_text.specs.Kept.{tokens_of}
 use Rattle.std.proofs.Common.{sym}
 use Rattle.t_shapes.proofs.Turned.{begun}
 use Rattle.t_shapes.proofs.turns.begin.Goals as goal

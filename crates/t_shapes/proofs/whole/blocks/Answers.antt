@@ -2,12 +2,12 @@ use Rattle.std.proofs.Common.{◌≡◌, List, [], ◌∷◌, ◌++◌, refl, sy
 use Rattle.std.proofs.lemmas.Result.{err_from_is_err_and}
 use Rattle.text_core.specs.Table.{Nt, Do}
 use Rattle.t_text.specs.GrammarTable.{LBlock, LMoreBlocks, MakeFirstBlock, MakeNextBlock}
-use Rattle.t_grammar.proofs.Stepping.{start, by_call, by_do, stop_call}
+use Rattle.t_shapes.proofs.Stepping.{start, by_call, by_do, stop_call}
 use Rattle.t_shapes.specs.Reads.{all_blocks}
 use Rattle.t_shapes.specs.declared.raw.RawItem.{RawItem}
 use Rattle.t_shapes.specs.declared.raw.RawItem.TheVariants as It
 use Rattle.t_shapes.proofs.Blocked.{as_block, blocks_more, no_more_blocks}
-use Rattle.t_lexer.specs.Kept.{tokens_of}
+use Rattle.t_text.specs.Kept.{tokens_of}
 use Rattle.t_shapes.proofs.whole.blocks.Goals as goal
 
 pub returns-in_err-first : goal.returns-in_err-first

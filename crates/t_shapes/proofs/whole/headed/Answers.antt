@@ -2,9 +2,9 @@ use Rattle.std.proofs.Common.{◌≡◌, [], ◌∷◌, slice_get, Some, None, r
 use Rattle.text_core.specs.Table.{Nt}
 use Rattle.text_core.specs.Going.{at_the_end, other}
 use Rattle.t_text.specs.GrammarTable.{LHeader, header_after}
-use Rattle.t_grammar.proofs.Stepping.{start, stop_lacks}
+use Rattle.t_shapes.proofs.Stepping.{start, stop_lacks}
 use Rattle.t_shapes.proofs.Itemed.{headed_blocks, headed_items}
-use Rattle.t_lexer.specs.Kept.{tokens_of}
+use Rattle.t_text.specs.Kept.{tokens_of}
 use Rattle.t_shapes.proofs.whole.headed.Goals as goal
 
 pub returns-in-None : goal.returns-in-None

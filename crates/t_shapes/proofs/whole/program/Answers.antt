@@ -3,9 +3,9 @@ use Rattle.std.proofs.lemmas.Result.{err_from_is_err_and}
 use Rattle.text_core.specs.Table.{Nt, Do}
 use Rattle.t_text.specs.declared.wanted.Wanted.TheVariants as want
 use Rattle.t_text.specs.GrammarTable.{LHeader, MakeProgram}
-use Rattle.t_grammar.proofs.Stepping.{within, by_token, by_call, stop_token, stop_call}
+use Rattle.t_shapes.proofs.Stepping.{within, by_token, by_call, stop_token, stop_call}
 use Rattle.t_shapes.proofs.Itemed.{program_goes, is_stop, more_left, all_read}
-use Rattle.t_lexer.specs.Kept.{tokens_of}
+use Rattle.t_text.specs.Kept.{tokens_of}
 use Rattle.t_shapes.proofs.whole.program.Goals as goal
 
 pub returns-in_err-expect : goal.returns-in_err-expect

@@ -5,10 +5,10 @@ use Rattle.text_core.specs.Table.{Tm, Nt, Do, Mark}
 use Rattle.text_core.specs.Going.{at_the_end, other}
 use Rattle.t_text.specs.declared.wanted.Wanted.TheVariants as want
 use Rattle.t_text.specs.GrammarTable.{LT, LW, LWordPacked, MakeWordPacked, MakeWordPack, word_after}
-use Rattle.t_grammar.proofs.Stepping.{within, start, begins, by_token, by_call, by_do, by_mark, stop_token, stop_call}
-use Rattle.t_grammar.proofs.Stepping.{stop_lacks, opening, not_opening, too_deep}
+use Rattle.t_shapes.proofs.Stepping.{within, start, begins, by_token, by_call, by_do, by_mark, stop_token, stop_call}
+use Rattle.t_shapes.proofs.Stepping.{stop_lacks, opening, not_opening, too_deep}
 use Rattle.t_shapes.proofs.Lines.{opens_word_packed, no_word}
-use Rattle.t_lexer.specs.Kept.{tokens_of}
+use Rattle.t_text.specs.Kept.{tokens_of}
 use Rattle.t_shapes.proofs.words.+words.Goals as goal
 
 pub packed_word-returns-in_err-expect : goal.packed_word-returns-in_err-expect

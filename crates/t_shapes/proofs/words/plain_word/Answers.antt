@@ -1,9 +1,9 @@
 use Rattle.std.proofs.Common.{◌+◌, sym, ◌∙◌, arith}
 use Rattle.std.proofs.lemmas.Result.{err_from_is_err_and}
 use Rattle.t_text.specs.declared.wanted.Wanted.TheVariants as want
-use Rattle.t_grammar.proofs.Stepping.{within}
+use Rattle.t_shapes.proofs.Stepping.{within}
 use Rattle.t_shapes.proofs.Worded.{word_alone, args_too_deep, args_stop, word_applied_read}
-use Rattle.t_lexer.specs.Kept.{tokens_of}
+use Rattle.t_text.specs.Kept.{tokens_of}
 use Rattle.t_shapes.proofs.words.plain_word.Goals as goal
 
 pub returns-in_err-inner-in-Some : goal.returns-in_err-inner-in-Some

@@ -3,8 +3,8 @@ use Rattle.std.proofs.lemmas.List.{length-map}
 use Rattle.t_types.specs.Tree.{Ty, CodeTy}
 use Rattle.t_types.specs.Read.{tree, file, types}
 use Rattle.t_types.proofs.Trees.{tree_Code}
-use Rattle.t_rules.specs.Registers.{inst_file}
-use Rattle.spill_law.specs.Spill.{applied_type}
+use Rattle.t_terms.specs.Registers.{inst_file}
+use Rattle.t_spill_rules.specs.Spill.{applied_type}
 use Rattle.t_spill.specs.Applying.{MayApply, CanApply}
 use Rattle.t_spill.proofs.applied.applied.Goals as goal
 

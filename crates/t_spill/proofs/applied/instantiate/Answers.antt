@@ -4,7 +4,7 @@ use Rattle.idx_core.specs.Over.{PutFitsAt, IsWord}
 use Rattle.t_types.specs.Tree.{Ty, TFile, shift, put_file, each, each_file}
 use Rattle.t_types.specs.Read.{tree, file, types}
 use Rattle.t_types.specs.declared.types.TType.{TType}
-use Rattle.t_rules.specs.Registers.{inst_file}
+use Rattle.t_terms.specs.Registers.{inst_file}
 use Rattle.t_spill.specs.Applying.{CanApply}
 use Rattle.t_spill.proofs.Applies.{Goes, goes}
 use Rattle.t_spill.proofs.applied.instantiate.Goals as goal

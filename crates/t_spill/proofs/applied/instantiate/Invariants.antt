@@ -1,6 +1,6 @@
 use Rattle.std.proofs.Common.{◌≡◌, drop}
 use Rattle.t_types.specs.Read.{file, types}
-use Rattle.t_rules.specs.Registers.{inst_file}
+use Rattle.t_terms.specs.Registers.{inst_file}
 use Rattle.t_spill.specs.Applying.{CanApply}
 use Rattle.t_spill.proofs.applied.instantiate.Given as goal
 

@@ -4,10 +4,10 @@ use Rattle.t_types.specs.Read.{file, types}
 use Rattle.t_terms.specs.Tree.{Ends}
 use Rattle.t_terms.specs.Read.{end_of}
 use Rattle.t_terms.specs.ReadProgram.{program}
-use Rattle.spill_law.specs.Spill.{end_target, high_part}
-use Rattle.t_frames.specs.Homes.{home_in, layout_of, with_slots}
-use Rattle.t_frames.specs.Onto.{onto, ended}
-use Rattle.t_frames.proofs.Steps.{end_is}
+use Rattle.t_spill_rules.specs.Spill.{end_target, high_part}
+use Rattle.t_spill_code.specs.Homes.{home_in, layout_of, with_slots}
+use Rattle.t_spill_code.specs.Onto.{onto, ended}
+use Rattle.t_spill_code.proofs.Steps.{end_is}
 use Rattle.t_spill.specs.Known.{MayShow, alone}
 use Rattle.t_spill.specs.Ready.{ReadyEnd}
 use Rattle.t_spill.proofs.Beside.{ends_agree}

@@ -3,7 +3,7 @@ use Rattle.t_types.specs.declared.types.TType.{TType}
 use Rattle.t_types.specs.Read.{file}
 use Rattle.t_terms.specs.Tree.{TBlock}
 use Rattle.t_terms.specs.Read.{end_of}
-use Rattle.spill_law.specs.Spill.{sp_file}
+use Rattle.t_spill_rules.specs.Spill.{sp_file}
 use Rattle.t_spill.proofs.Walk.{onto_body}
 use Rattle.t_spill.proofs.block.spilled_block.Goals as goal
 

@@ -3,7 +3,7 @@ use Rattle.idx_core.specs.declared.span.Span.{Span}
 use Rattle.t_types.specs.Read.{file_tree}
 use Rattle.t_terms.specs.declared.instr.Instr.{Instr}
 use Rattle.t_terms.specs.ReadProgram.{program}
-use Rattle.spill_law.specs.Spill.{code, layout}
+use Rattle.t_spill_rules.specs.Spill.{code, layout}
 use Rattle.t_spill.specs.Tails.{tail_of}
 use Rattle.t_spill.specs.Ready.{Ready}
 use Rattle.t_spill.proofs.Beside.{at_start, whole_start}

@@ -1,7 +1,7 @@
 use Rattle.std.proofs.Common.{ℕ, List, ap, subst, ◌∙◌}
 use Rattle.t_types.specs.declared.types.TType.{TType}
 use Rattle.t_types.specs.Read.{file}
-use Rattle.spill_law.specs.Spill.{among, numbers, gathered, high_part}
+use Rattle.t_spill_rules.specs.Spill.{among, numbers, gathered, high_part}
 use Rattle.t_spill.specs.Known.{Knows}
 use Rattle.t_spill.proofs.block.start_of.Goals as goal
 

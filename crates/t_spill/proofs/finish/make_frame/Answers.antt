@@ -1,9 +1,9 @@
 use Rattle.std.proofs.Common.{List, ℕ, ap, ◌∙◌}
 use Rattle.t_types.specs.declared.types.TType.{TType}
 use Rattle.t_types.specs.Read.{file}
-use Rattle.spill_law.specs.Spill.{among, gathered, numbers}
-use Rattle.t_frames.specs.Homes.{home_in}
-use Rattle.t_frames.specs.Onto.{onto, gathers}
+use Rattle.t_spill_rules.specs.Spill.{among, gathered, numbers}
+use Rattle.t_spill_code.specs.Homes.{home_in}
+use Rattle.t_spill_code.specs.Onto.{onto, gathers}
 use Rattle.t_spill.specs.declared.finish.Code.{Code}
 use Rattle.t_spill.proofs.Framed.{frame_made}
 use Rattle.t_spill.proofs.finish.make_frame.Goals as goal

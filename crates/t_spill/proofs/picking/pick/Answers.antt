@@ -1,7 +1,7 @@
 use Rattle.std.proofs.Common.{sym, ap, ◌∙◌, cond}
 use Rattle.std.proofs.lemmas.Result.{on_ok_weaker}
 use Rattle.t_types.specs.Fits.{lookup}
-use Rattle.t_frames.specs.Onto.{front}
+use Rattle.t_spill_code.specs.Onto.{front}
 use Rattle.t_spill.specs.Picking.{picked_one}
 use Rattle.t_spill.proofs.picking.pick.Goals as goal
 

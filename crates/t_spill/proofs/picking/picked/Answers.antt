@@ -1,5 +1,5 @@
 use Rattle.std.proofs.Common.{refl, sym, subst}
-use Rattle.t_frames.specs.Homes.{Lists}
+use Rattle.t_spill_code.specs.Homes.{Lists}
 use Rattle.t_spill.proofs.Framed.{picked_next, picked_all}
 use Rattle.t_spill.proofs.picking.picked.Goals as goal
 

@@ -1,6 +1,6 @@
 use Rattle.std.proofs.Common.{◌≡◌, ℕ, List, drop}
 use Rattle.t_types.specs.Tree.{TFile}
-use Rattle.t_frames.specs.Onto.{front}
+use Rattle.t_spill_code.specs.Onto.{front}
 use Rattle.t_spill.specs.Known.{Knows}
 use Rattle.t_spill.specs.Picking.{picked}
 use Rattle.t_spill.specs.Wants.{Tells}

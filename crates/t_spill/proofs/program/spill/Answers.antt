@@ -2,8 +2,8 @@ use Rattle.std.proofs.Common.{sym, subst}
 use Rattle.std.proofs.Math.Logic.{∥∥₁_map₂}
 use Rattle.t_terms.specs.Tree.{TProg}
 use Rattle.t_terms.specs.ReadProgram.{program}
-use Rattle.spill_law.specs.Correct.{origin}
-use Rattle.spill_law.specs.Bounded.{Spills}
+use Rattle.t_spill_laws.specs.Correct.{origin}
+use Rattle.t_spill_laws.specs.Bounded.{Spills}
 use Rattle.t_spill.proofs.program.spill.Goals as goal
 
 pub returns-clause-spills : goal.returns-clause-spills

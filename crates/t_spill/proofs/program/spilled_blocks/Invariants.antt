@@ -1,7 +1,7 @@
 use Rattle.std.proofs.Common.{◌≡◌, ◌∷◌, ◌++◌, drop}
 use Rattle.t_terms.specs.Read.{blocks_of}
 use Rattle.t_terms.specs.ReadProgram.{program}
-use Rattle.spill_law.specs.Spill.{sp_blocks, entry}
+use Rattle.t_spill_rules.specs.Spill.{sp_blocks, entry}
 use Rattle.t_spill.proofs.program.spilled_blocks.Given as goal
 
 abbrev pub invariant-loop-block : goal.invariant-loop-block

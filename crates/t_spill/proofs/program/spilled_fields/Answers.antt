@@ -1,5 +1,5 @@
 use Rattle.std.proofs.Common.{sym, subst}
-use Rattle.t_frames.specs.Onto.{BaseFits}
+use Rattle.t_spill_code.specs.Onto.{BaseFits}
 use Rattle.t_spill.proofs.Parts.{field_ready, all_fields}
 use Rattle.t_spill.proofs.program.spilled_fields.Goals as goal
 

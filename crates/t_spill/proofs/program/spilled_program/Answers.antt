@@ -7,7 +7,7 @@ use Rattle.t_terms.specs.ReadProgram.{program}
 use Rattle.t_terms.specs.declared.block.Block.{Block}
 use Rattle.t_terms.specs.declared.data.Data.{Data}
 use Rattle.t_terms.proofs.Blocks.{blocks_count}
-use Rattle.spill_law.specs.Spill.{lows, sp_blocks, sp_data, entry, spilled, spilled_above}
+use Rattle.t_spill_rules.specs.Spill.{lows, sp_blocks, sp_data, entry, spilled, spilled_above}
 use Rattle.t_spill.specs.Ready.{BlocksReady, HeapReady}
 use Rattle.t_spill.proofs.Readying.{blocks_ready, heap_ready}
 use Rattle.t_spill.proofs.Props.{blocks_prop}

@@ -1,6 +1,6 @@
 use Rattle.std.proofs.Common.{◌≡◌, ℕ, List, drop}
 use Rattle.t_types.specs.Read.{file}
-use Rattle.spill_law.specs.Spill.{numbers}
+use Rattle.t_spill_rules.specs.Spill.{numbers}
 use Rattle.t_spill.specs.Wants.{join}
 use Rattle.t_spill.proofs.reads.note_file.Given as goal
 

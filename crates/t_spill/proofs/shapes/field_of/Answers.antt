@@ -2,7 +2,7 @@ use Rattle.std.proofs.Common.{sym, ap, ◌∙◌}
 use Rattle.std.proofs.lemmas.Result.{IfOk-weaker}
 use Rattle.t_types.specs.Tree.{Ty}
 use Rattle.t_types.proofs.Trees.{tree_is_tuple}
-use Rattle.spill_law.specs.Spill.{field_type}
+use Rattle.t_spill_rules.specs.Spill.{field_type}
 use Rattle.t_spill.proofs.shapes.field_of.Goals as goal
 
 pub returns-in-Tuple : goal.returns-in-Tuple

@@ -1,7 +1,7 @@
 use Rattle.std.proofs.Common.{sym, ap, ◌∙◌}
 use Rattle.t_types.specs.Tree.{Ty, TupleTy}
 use Rattle.t_types.proofs.Trees.{tree_Tuple, tree_is_tuple}
-use Rattle.spill_law.specs.Spill.{filled_type}
+use Rattle.t_spill_rules.specs.Spill.{filled_type}
 use Rattle.t_spill.proofs.shapes.filled_of.Goals as goal
 
 pub returns-in_ok-fs-in-Tuple : goal.returns-in_ok-fs-in-Tuple

@@ -4,7 +4,7 @@ use Rattle.t_types.specs.declared.types.TType.{TType}
 use Rattle.t_types.specs.Read.{file, file_tree}
 use Rattle.t_terms.specs.Read.{instr}
 use Rattle.t_terms.specs.ReadProgram.{program}
-use Rattle.spill_law.specs.Spill.{live, next, reads, numbers, high_part}
+use Rattle.t_spill_rules.specs.Spill.{live, next, reads, numbers, high_part}
 use Rattle.t_spill.specs.Ready.{InstrTypable}
 use Rattle.t_spill.specs.Wants.{Tells}
 use Rattle.t_spill.proofs.Beside.{between, entered_is}

@@ -1,12 +1,12 @@
 use Rattle.std.proofs.Common.{length, subst, ◌++◌, arith}
 use Rattle.t_types.specs.Read.{file}
 use Rattle.t_terms.specs.Read.{instr}
-use Rattle.spill_law.specs.Spill.{reads, numbers}
+use Rattle.t_spill_rules.specs.Spill.{reads, numbers}
 use Rattle.t_spill.specs.Wants.{Tells}
 use Rattle.t_spill.proofs.Onward.{drop_front, length_front}
 use Rattle.t_spill.proofs.Beside.{passed_front, front_within}
 use Rattle.t_spill.proofs.stepping.pass_instr.Goals as goal
-use Rattle.t_frames.proofs.Gathered.{count_numbers}
+use Rattle.t_spill_code.proofs.Gathered.{count_numbers}
 
 pub pass-requires : goal.pass-requires
 pass-requires c =

@@ -4,7 +4,7 @@ use Rattle.t_types.specs.Read.{tree, file_tree}
 use Rattle.t_terms.specs.Tree.{names_after}
 use Rattle.t_terms.specs.Read.{instr}
 use Rattle.t_terms.specs.ReadProgram.{program}
-use Rattle.spill_law.specs.Spill.{sp, live, next, way}
+use Rattle.t_spill_rules.specs.Spill.{sp, live, next, way}
 use Rattle.t_spill.specs.Finishing.{used, Filled, Gathered, Frames}
 use Rattle.t_spill.specs.Known.{given}
 use Rattle.t_spill.specs.Ways.{way_tree}

@@ -3,7 +3,7 @@ use Rattle.t_types.specs.Tree.{TupleTy}
 use Rattle.t_types.proofs.Trees.{tree_Tuple}
 use Rattle.t_terms.specs.Read.{data_fields as data_items}
 use Rattle.t_terms.specs.Spanned.{plain_fields}
-use Rattle.t_rules.specs.Rules.{data_fields}
+use Rattle.t_terms.specs.Labels.{data_fields}
 use Rattle.t_spill.proofs.Blocks.{datum_is}
 use Rattle.t_spill.proofs.typing.type_of_data.Goals as goal
 

@@ -4,7 +4,7 @@ use Rattle.t_types.specs.declared.types.TType.{TType}
 use Rattle.t_terms.specs.Tree.{names_after}
 use Rattle.t_terms.specs.Read.{instr, end_of}
 use Rattle.t_terms.specs.ReadProgram.{program}
-use Rattle.spill_law.specs.Spill.{numbers, live, reads, target, end_target, next}
+use Rattle.t_spill_rules.specs.Spill.{numbers, live, reads, target, end_target, next}
 use Rattle.t_spill.specs.Known.{Knows, alone, subject, MayShow}
 use Rattle.t_spill.specs.Ready.{ReadyEnd}
 use Rattle.t_spill.specs.Tails.{tail_of}

@@ -2,7 +2,7 @@ use Rattle.std.proofs.Common.{◌≡◌, ℕ}
 use Rattle.t_types.specs.Tree.{TFile}
 use Rattle.t_types.specs.Read.{file_tree}
 use Rattle.t_terms.specs.ReadProgram.{program}
-use Rattle.spill_law.specs.Spill.{live}
+use Rattle.t_spill_rules.specs.Spill.{live}
 use Rattle.t_spill.specs.Known.{Knows}
 use Rattle.t_spill.specs.Ready.{Ready}
 use Rattle.t_spill.specs.Tails.{tail_of}

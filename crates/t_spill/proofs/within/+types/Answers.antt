@@ -1,6 +1,6 @@
 use Rattle.std.proofs.Common.{sym, subst}
 use Rattle.t_types.proofs.Trees.{tree_is_tuple, tree_is_code}
-use Rattle.spill_law.specs.Bound.{InType}
+use Rattle.t_spill_laws.specs.Bound.{InType}
 use Rattle.t_spill.proofs.within.+types.Goals as goal
 
 pub type_within-returns-in-Code : goal.type_within-returns-in-Code

@@ -1,6 +1,6 @@
 use Rattle.std.proofs.Common.{◌↔◌, drop}
 use Rattle.t_types.specs.Read.{file, fields}
-use Rattle.spill_law.specs.Bound.{InFile, InFields}
+use Rattle.t_spill_laws.specs.Bound.{InFile, InFields}
 use Rattle.t_spill.proofs.within.+types.Given as goal
 
 abbrev pub invariant-file_within-loop-reg : goal.invariant-file_within-loop-reg

@@ -1,6 +1,6 @@
 use Rattle.std.proofs.Common.{◌↔◌, drop}
 use Rattle.t_terms.specs.Read.{blocks_of}
-use Rattle.spill_law.specs.Bound.{InBlocks}
+use Rattle.t_spill_laws.specs.Bound.{InBlocks}
 use Rattle.t_spill.proofs.within.blocks_within.Given as goal
 
 abbrev pub invariant-loop-block : goal.invariant-loop-block

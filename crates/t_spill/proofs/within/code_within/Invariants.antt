@@ -1,7 +1,7 @@
 use Rattle.std.proofs.Common.{◌↔◌, drop}
 use Rattle.t_terms.specs.Read.{body, end_of}
 use Rattle.t_terms.specs.Spanned.{seq_of}
-use Rattle.spill_law.specs.Bound.{InSeq}
+use Rattle.t_spill_laws.specs.Bound.{InSeq}
 use Rattle.t_spill.proofs.within.code_within.Given as goal
 
 abbrev pub invariant-loop-entry : goal.invariant-loop-entry

@@ -1,7 +1,7 @@
 use Rattle.std.proofs.Common.{◌↔◌, drop}
 use Rattle.t_terms.specs.Read.{data_fields}
 use Rattle.t_terms.specs.Spanned.{plain_fields}
-use Rattle.spill_law.specs.Bound.{InData}
+use Rattle.t_spill_laws.specs.Bound.{InData}
 use Rattle.t_spill.proofs.within.data_within.Given as goal
 
 abbrev pub invariant-loop-field : goal.invariant-loop-field

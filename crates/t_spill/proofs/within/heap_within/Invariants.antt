@@ -1,6 +1,6 @@
 use Rattle.std.proofs.Common.{◌↔◌, drop}
 use Rattle.t_terms.specs.Read.{data_of}
-use Rattle.spill_law.specs.Bound.{InHeap}
+use Rattle.t_spill_laws.specs.Bound.{InHeap}
 use Rattle.t_spill.proofs.within.heap_within.Given as goal
 
 abbrev pub invariant-loop-tuple : goal.invariant-loop-tuple

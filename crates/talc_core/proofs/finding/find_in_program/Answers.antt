@@ -1,9 +1,9 @@
 use Rattle.std.proofs.Common.{◌∙◌, ap}
 use Rattle.t_terms.specs.ReadProgram.{spanned_program}
-use Rattle.fault_hint.specs.declared.form.Form.TheVariants.{Untold}
+use Rattle.talc_faults.specs.declared.type_form.Form.TheVariants.{Untold}
 use Rattle.talc_core.specs.AtOdds.{with_no_value}
 use Rattle.talc_core.specs.Steps.{told_of}
-use Rattle.t_mismatch.specs.ReadMismatch.{mismatch_or_none}
+use Rattle.t_known.specs.ReadMismatch.{mismatch_or_none}
 use Rattle.talc_core.proofs.ExplainLemmas.{refused_program}
 use Rattle.talc_core.proofs.finding.find_in_program.Goals as goal
 

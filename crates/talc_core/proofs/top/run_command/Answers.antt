@@ -1,4 +1,4 @@
-use Rattle.words.specs.Reads.{asked_by}
+use Rattle.talc_words.specs.Reads.{asked_by}
 use Rattle.talc_core.proofs.DoesLemmas.{does_ended, does_failed}
 use Rattle.talc_core.proofs.top.run_command.Goals as goal
 

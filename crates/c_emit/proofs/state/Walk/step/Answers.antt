@@ -2,7 +2,7 @@ use Rattle.std.proofs.Common.{rules, ◌≡◌, ◌∷◌, ◌∙◌, ap, sym, l
 use Rattle.k_terms.specs.Read.{knode, ktree, ktys}
 use Rattle.c_emit.specs.Walked.{walked}
 use Rattle.c_emit.proofs.state.Walk.step.Goals as goal
-use Rattle.term_core.proofs.Trees.{count_length as count_ktys}
+use Rattle.calc_core.proofs.Trees.{count_length as count_ktys}
 
 pub returns-in_ok-open-in-Code : goal.returns-in_ok-open-in-Code
 returns-in_ok-open-in-Code c = λ rest.

@@ -1,7 +1,7 @@
 use Rattle.std.proofs.Common.{◌∙◌, ap, sym, List}
-use Rattle.c_walk.specs.Emit as E
-use Rattle.c_walk.specs.Know as W
-use Rattle.c_free.specs.Names.{side}
+use Rattle.c_rules.specs.Emit as E
+use Rattle.c_rules.specs.Know as W
+use Rattle.c_emit.specs.Names.{side}
 use Rattle.c_pass.specs.Read.{bounds, clues_of, sides, infos_with, notes_onto}
 use Rattle.c_pass.proofs.state.Knowledge.bind_made.Goals as goal
 

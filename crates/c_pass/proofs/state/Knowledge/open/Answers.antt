@@ -1,20 +1,20 @@
 use Rattle.std.proofs.Common.{◌≡◌, ◌∙◌, ◌++◌, ◌∷◌, [], ap, ap₂, List, ℕ, suc, arith}
-use Rattle.term_core.specs.Ends.{lift}
+use Rattle.calc_core.specs.Ends.{lift}
 use Rattle.k_terms.specs.K as K
-use Rattle.c_walk.specs.Emit as E
-use Rattle.c_walk.specs.Know as W
+use Rattle.c_rules.specs.Emit as E
+use Rattle.c_rules.specs.Know as W
 use Rattle.c_emit.specs.declared.parts.Info.{Info}
-use Rattle.c_free.specs.declared.names.Side.{Side}
+use Rattle.c_emit.specs.declared.names.Side.{Side}
 use Rattle.k_terms.specs.Read.{ktys}
 use Rattle.c_emit.specs.Read.{info}
-use Rattle.c_free.specs.Names.{side}
-use Rattle.term_core.proofs.Trees.{tree_Code}
+use Rattle.c_emit.specs.Names.{side}
+use Rattle.calc_core.proofs.Trees.{tree_Code}
 use Rattle.c_pass.specs.declared.state.Bound.{Bound}
 use Rattle.c_pass.specs.Read.{all_told, bounds, clue, clues_of, sides, infos_onto, infos_with, notes_onto, side_from}
 use Rattle.c_pass.specs.Read.{info_parts, told}
 use Rattle.c_pass.proofs.Bounding.{infos_push}
 use Rattle.c_pass.proofs.state.Knowledge.open.Goals as goal
-use Rattle.term_core.proofs.Lifts.{lift_add}
+use Rattle.calc_core.proofs.Lifts.{lift_add}
 
 pub info_from-requires : goal.info_from-requires
 info_from-requires c =

@@ -1,10 +1,10 @@
 use Rattle.std.proofs.Common.{◌≡◌, ◌∙◌, ◌∷◌, ap, ap₂, List}
 use Rattle.k_terms.specs.Read.{ktree}
-use Rattle.c_walk.specs.Emit as E
-use Rattle.c_walk.specs.Know as W
+use Rattle.c_rules.specs.Emit as E
+use Rattle.c_rules.specs.Know as W
 use Rattle.c_emit.specs.declared.parts.Note.{Note}
 use Rattle.c_emit.specs.declared.parts.Note.TheVariants.{Packs}
-use Rattle.c_free.specs.Names.{side}
+use Rattle.c_emit.specs.Names.{side}
 use Rattle.c_pass.specs.Read.{bounds, clues_of, sides, infos_with, notes_onto}
 use Rattle.c_pass.proofs.Bounding.{notes_push}
 use Rattle.c_pass.proofs.state.Knowledge.pack.Goals as goal

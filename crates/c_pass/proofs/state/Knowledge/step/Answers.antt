@@ -2,9 +2,9 @@ use Rattle.std.proofs.Common.{◌∙◌, ◌∷◌, ap, refl, subst, sym, List}
 use Rattle.k_terms.specs.K.{TKTuple}
 use Rattle.k_terms.specs.Stream.{NName, NProj, NArith, NCell, NGet, NSet}
 use Rattle.k_terms.specs.Read.{knode, ktree, ktys}
-use Rattle.term_core.specs.declared.types.CoreType.{CoreType as KType}
+use Rattle.calc_core.specs.declared.types.CoreType.{CoreType as KType}
 use Rattle.c_pass.specs.Read.{Binds, total}
-use Rattle.term_core.proofs.Trees.{tree_Tuple}
+use Rattle.calc_core.proofs.Trees.{tree_Tuple}
 use Rattle.c_pass.proofs.state.Knowledge.step.Goals as goal
 
 pub returns-in_ok-pack-in-Pack : goal.returns-in_ok-pack-in-Pack

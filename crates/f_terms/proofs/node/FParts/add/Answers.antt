@@ -1,9 +1,9 @@
 use Rattle.std.proofs.Common.{rules, ap}
 use Rattle.f_terms.proofs.Parts.{added, order_more, counted_more, either}
 use Rattle.std.proofs.Common.{◌≡◌, is_ok, ◌++◌, ◌∷◌, [], refl, List, length}
-use Rattle.arena.specs.Arena.{InOrder}
+use Rattle.calc_core.specs.Arena.{InOrder}
 use Rattle.f_terms.specs.Shape.{kids, nodes_at}
-use Rattle.arena.specs.Roots.{total, roots}
+use Rattle.calc_core.specs.Roots.{total, roots}
 use Rattle.f_terms.specs.declared.node.FNode.{FNode}
 use Rattle.f_terms.proofs.node.FParts.add.Goals as goal
 

@@ -6,7 +6,7 @@ use Rattle.f_terms.specs.Shape.{children}
 use Rattle.f_terms.specs.ReadTerm.{part, IsLoose}
 use Rattle.f_terms.specs.Made.{IsStack}
 use Rattle.f_terms.specs.Stacked.{step_tree}
-use Rattle.arena.specs.Roots.{Differ}
+use Rattle.calc_core.specs.Roots.{Differ}
 use Rattle.f_terms.proofs.Stacking.{top_loose, top_differ, stack_put, stack_trees, stacked_is}
 use Rattle.f_terms.proofs.stack.FStack.put.Goals as goal
 

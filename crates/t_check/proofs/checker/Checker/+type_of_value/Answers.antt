@@ -5,7 +5,7 @@ use Rattle.t_terms.specs.Read.{value}
 use Rattle.t_terms.specs.ReadProgram.{program}
 use Rattle.t_intern.specs.Nodes.{at}
 use Rattle.t_intern.proofs.Growing.{grown_next}
-use Rattle.t_registers.specs.Known.{known}
+use Rattle.t_known.specs.Known.{known}
 use Rattle.t_check.specs.Verdict.{FormedValue, IsTypeOf}
 use Rattle.t_check.proofs.Typing.{pack_is}
 use Rattle.t_check.proofs.checker.Checker.+type_of_value.Goals as goal

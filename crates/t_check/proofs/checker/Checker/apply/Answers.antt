@@ -4,7 +4,7 @@ use Rattle.t_types.specs.Read.{tree, types}
 use Rattle.t_types.specs.Tree.{Ty}
 use Rattle.t_types.specs.WellFormed.{max_names}
 use Rattle.t_terms.specs.ReadProgram.{program}
-use Rattle.t_rules.specs.Registers.{inst_file}
+use Rattle.t_terms.specs.Registers.{inst_file}
 use Rattle.t_intern.specs.Grown.{IsNumber}
 use Rattle.t_intern.specs.Nodes.{at}
 use Rattle.t_types.specs.Bounds.{Bounded}

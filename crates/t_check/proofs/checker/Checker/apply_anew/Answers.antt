@@ -4,9 +4,9 @@ use Rattle.t_types.specs.Read.{tree, types}
 use Rattle.t_types.specs.Tree.{Ty, CodeTy}
 use Rattle.t_intern.specs.Grown.{IsNumber}
 use Rattle.t_intern.specs.Nodes.{at, regs_at}
-use Rattle.t_registers.specs.declared.parts.CodeParts.{CodeParts}
+use Rattle.t_known.specs.declared.parts.CodeParts.{CodeParts}
 use Rattle.t_check.specs.Verdict.{IsInstantiated}
-use Rattle.t_registers.specs.Parts.{IsCode}
+use Rattle.t_known.specs.Parts.{IsCode}
 use Rattle.t_check.proofs.Applying.{with_file, no_code}
 use Rattle.t_check.proofs.checker.Checker.apply_anew.Goals as goal
 

@@ -2,14 +2,14 @@ use Rattle.std.proofs.Common.{◌∙◌, ap, sym, subst, refl, Result, true≢fa
 use Rattle.t_types.specs.Tree.{Ty}
 use Rattle.t_terms.specs.Read.{value}
 use Rattle.t_terms.specs.ReadProgram.{program}
-use Rattle.t_mismatch.specs.declared.refusal.Refusal.{Refusal}
+use Rattle.t_known.specs.declared.refusal.Refusal.{Refusal}
 use Rattle.t_terms.specs.Tree.{Arith}
-use Rattle.t_rules.specs.Registers.{with_reg}
+use Rattle.t_terms.specs.Registers.{with_reg}
 use Rattle.t_rules.specs.Rules.{Has}
 use Rattle.t_intern.specs.Nodes.{at}
-use Rattle.t_registers.specs.Known.{known}
+use Rattle.t_known.specs.Known.{known}
 use Rattle.t_check.specs.Verdict.{IsStep}
-use Rattle.t_registers.proofs.Noting.{noted_since, sound_grown}
+use Rattle.t_known.proofs.Noting.{noted_since, sound_grown}
 use Rattle.t_check.proofs.Typing.{operand}
 use Rattle.t_check.proofs.checker.Checker.check_arith.Goals as goal
 

@@ -1,8 +1,8 @@
 use Rattle.std.proofs.Common.{◌∙◌}
 use Rattle.t_terms.specs.Read.{value}
 use Rattle.t_terms.specs.ReadProgram.{program}
-use Rattle.t_registers.specs.Known.{known}
-use Rattle.t_registers.proofs.Noting.{known_grown}
+use Rattle.t_known.specs.Known.{known}
+use Rattle.t_known.proofs.Noting.{known_grown}
 use Rattle.t_check.proofs.Typing.{bnz_is}
 use Rattle.t_check.proofs.checker.Checker.check_bnz.Goals as goal
 

@@ -1,5 +1,5 @@
-use Rattle.t_registers.specs.Known.{known, seen}
-use Rattle.t_registers.proofs.Noting.{set_known, set_sound}
+use Rattle.t_known.specs.Known.{known, seen}
+use Rattle.t_known.proofs.Noting.{set_known, set_sound}
 use Rattle.t_terms.specs.ReadProgram.{program}
 use Rattle.t_check.proofs.Typing.{copy_is}
 use Rattle.t_check.proofs.checker.Checker.check_copy.Goals as goal

@@ -8,11 +8,11 @@ use Rattle.t_terms.specs.ReadProgram.{program}
 use Rattle.t_terms.specs.declared.fault.TCode.TheVariants.{T13}
 use Rattle.t_intern.specs.Nodes.{at}
 use Rattle.t_intern.proofs.Growing.{grown_at, grown_length}
-use Rattle.t_registers.specs.Known.{known}
+use Rattle.t_known.specs.Known.{known}
 use Rattle.t_rules.specs.Faults.{DatumFaultWith}
 use Rattle.t_check.specs.Verdict.{FormedValue, IsDatum}
-use Rattle.t_mismatch.specs.declared.refusal.Refusal.{Refusal}
-use Rattle.t_registers.proofs.Noting.{empty_known}
+use Rattle.t_known.specs.declared.refusal.Refusal.{Refusal}
+use Rattle.t_known.proofs.Noting.{empty_known}
 use Rattle.t_check.proofs.Typing.{says_types, datum_ok, datum_unfit, datum_fault}
 use Rattle.t_check.proofs.checker.Checker.check_datum.Goals as goal
 

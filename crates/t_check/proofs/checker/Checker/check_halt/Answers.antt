@@ -2,12 +2,12 @@ use Rattle.std.proofs.Common.{◌∙◌, ap, sym, subst, refl, Some, Result, tru
 use Rattle.t_types.specs.Tree.{Ty, shift}
 use Rattle.t_terms.specs.Tree.{Halt}
 use Rattle.t_terms.specs.ReadProgram.{program}
-use Rattle.t_mismatch.specs.declared.refusal.Refusal.{Refusal}
+use Rattle.t_known.specs.declared.refusal.Refusal.{Refusal}
 use Rattle.t_intern.specs.Nodes.{at}
-use Rattle.t_registers.specs.Known.{known, own}
+use Rattle.t_known.specs.Known.{known, own}
 use Rattle.t_check.specs.Verdict.{IsEnd}
 use Rattle.t_check.proofs.Loads.{no_halt}
-use Rattle.t_registers.proofs.Sets.{int_marked, unmarked_int}
+use Rattle.t_known.proofs.Sets.{int_marked, unmarked_int}
 use Rattle.t_check.proofs.checker.Checker.check_halt.Goals as goal
 
 pub returns-then-is_int : goal.returns-then-is_int

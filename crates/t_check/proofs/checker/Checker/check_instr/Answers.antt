@@ -5,7 +5,7 @@ use Rattle.t_terms.specs.Tree.{TInstr, Malloc}
 use Rattle.t_terms.specs.Read.{instr}
 use Rattle.t_terms.specs.ReadProgram.{program}
 use Rattle.t_terms.specs.declared.instr.Instr.{Instr}
-use Rattle.t_registers.specs.Known.{known}
+use Rattle.t_known.specs.Known.{known}
 use Rattle.t_check.specs.Verdict.{IsStep}
 use Rattle.t_check.proofs.checker.Checker.check_instr.Goals as goal
 

@@ -1,11 +1,11 @@
 use Rattle.std.proofs.Common.{◌∙◌, ap, sym, subst, refl, Some, Result, true≢false, ◌-◌}
 use Rattle.t_types.specs.Tree.{Ty, shift}
-use Rattle.t_mismatch.specs.declared.refusal.Refusal.{Refusal}
+use Rattle.t_known.specs.declared.refusal.Refusal.{Refusal}
 use Rattle.t_intern.specs.Nodes.{at}
-use Rattle.t_registers.specs.Known.{known, own}
+use Rattle.t_known.specs.Known.{known, own}
 use Rattle.t_check.specs.Verdict.{IsInteger}
 use Rattle.t_check.proofs.Loads.{no_int}
-use Rattle.t_registers.proofs.Sets.{int_marked, unmarked_int}
+use Rattle.t_known.proofs.Sets.{int_marked, unmarked_int}
 use Rattle.t_check.proofs.checker.Checker.check_int.Goals as goal
 
 pub returns-then-is_int : goal.returns-then-is_int

@@ -1,7 +1,7 @@
 use Rattle.std.proofs.Common.{◌∙◌, ap, Some, Bool}
 use Rattle.t_types.specs.Fields.{AField}
 use Rattle.t_intern.specs.Nodes.{at}
-use Rattle.t_registers.proofs.Noting.{noted_since, sound_grown}
+use Rattle.t_known.proofs.Noting.{noted_since, sound_grown}
 use Rattle.t_check.proofs.checker.Checker.check_ld.Goals as goal
 
 pub returns-clause-step : goal.returns-clause-step

@@ -1,17 +1,17 @@
 use Rattle.std.proofs.Common.{◌<◌, ◌∙◌, ap, sym, subst, false, List, ℕ, All, length}
 use Rattle.t_types.specs.Tree.{Ty, TupleTy}
 use Rattle.t_types.specs.Read.{types}
-use Rattle.t_rules.specs.Registers.{with_reg}
+use Rattle.t_terms.specs.Registers.{with_reg}
 use Rattle.t_intern.specs.Nodes.{at}
 use Rattle.t_intern.specs.Spread.{types_at}
 use Rattle.t_intern.proofs.Growing.{grown_next}
 use Rattle.t_types.specs.Bounds.{Bounded}
-use Rattle.t_registers.specs.Known.{known}
-use Rattle.t_registers.specs.Labels.{all_flagged}
+use Rattle.t_known.specs.Known.{known}
+use Rattle.t_known.specs.Labels.{all_flagged}
 use Rattle.t_check.proofs.Blocks.{types_below}
 use Rattle.t_rules.proofs.Depth.{empty_shallow}
-use Rattle.t_registers.proofs.Noting.{noted_since, sound_grown}
-use Rattle.t_registers.proofs.Numbering.{empty_flagged}
+use Rattle.t_known.proofs.Noting.{noted_since, sound_grown}
+use Rattle.t_known.proofs.Numbering.{empty_flagged}
 use Rattle.t_check.proofs.checker.Checker.check_malloc.Goals as goal
 
 pub tuple_of-requires : goal.tuple_of-requires

@@ -2,9 +2,9 @@ use Rattle.std.proofs.Common.{sym, subst}
 use Rattle.t_terms.specs.Tree.{TValue, Mov}
 use Rattle.t_terms.specs.ReadProgram.{program}
 use Rattle.t_intern.specs.Nodes.{at}
-use Rattle.t_registers.specs.Known.{known}
+use Rattle.t_known.specs.Known.{known}
 use Rattle.t_check.specs.Verdict.{IsStep}
-use Rattle.t_registers.proofs.Noting.{noted_since, sound_grown}
+use Rattle.t_known.proofs.Noting.{noted_since, sound_grown}
 use Rattle.t_check.proofs.checker.Checker.check_mov.Goals as goal
 
 pub returns-in-Some-clause-step : goal.returns-in-Some-clause-step

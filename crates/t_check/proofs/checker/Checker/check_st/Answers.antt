@@ -2,11 +2,11 @@ use Rattle.std.proofs.Common.{◌≡◌, ◌∙◌, ap, sym, subst, refl, Bool, 
 use Rattle.t_types.specs.Tree.{TupleTy}
 use Rattle.t_types.specs.Fields.{AField, field, filled}
 use Rattle.t_types.specs.Fits.{RegTypes}
-use Rattle.t_rules.specs.Registers.{with_reg}
+use Rattle.t_terms.specs.Registers.{with_reg}
 use Rattle.t_intern.proofs.Growing.{grown_next}
-use Rattle.t_registers.specs.Known.{known}
-use Rattle.t_registers.proofs.Filling.{filled_before}
-use Rattle.t_registers.proofs.Noting.{known_grown, sound_grown}
+use Rattle.t_known.specs.Known.{known}
+use Rattle.t_known.proofs.Filling.{filled_before}
+use Rattle.t_known.proofs.Noting.{known_grown, sound_grown}
 use Rattle.t_check.proofs.checker.Checker.check_st.Goals as goal
 
 pub fill-requires-clause-sound : goal.fill-requires-clause-sound

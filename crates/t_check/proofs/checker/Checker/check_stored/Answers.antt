@@ -4,13 +4,13 @@ use Rattle.t_types.specs.Fits.{Fits}
 use Rattle.t_terms.specs.declared.fault.TCode.TheVariants.{T13}
 use Rattle.t_intern.specs.Nodes.{at}
 use Rattle.t_intern.proofs.Growing.{grown_at, grown_length}
-use Rattle.t_registers.specs.Known.{known, seen}
+use Rattle.t_known.specs.Known.{known, seen}
 use Rattle.t_rules.specs.Faults.{StoreFaultWith, register, fitting}
 use Rattle.t_check.proofs.Loads.{field_follows, unfit}
-use Rattle.t_registers.proofs.Noting.{seen_grown, entry_grown}
+use Rattle.t_known.proofs.Noting.{seen_grown, entry_grown}
 use Rattle.t_check.proofs.Typing.{says_types}
 use Rattle.t_check.specs.Verdict.{IsStored}
-use Rattle.t_mismatch.specs.declared.refusal.Refusal.{Refusal}
+use Rattle.t_known.specs.declared.refusal.Refusal.{Refusal}
 use Rattle.t_check.proofs.checker.Checker.check_stored.Goals as goal
 
 pub shown-requires-clause-entry : goal.shown-requires-clause-entry

@@ -3,13 +3,13 @@ use Rattle.t_types.specs.Tree.{CodeTy, TFile}
 use Rattle.t_types.specs.Fits.{FitsFile, RegTypes}
 use Rattle.t_terms.specs.Read.{value}
 use Rattle.t_terms.specs.ReadProgram.{program}
-use Rattle.t_mismatch.specs.declared.refusal.Refusal.{Refusal}
+use Rattle.t_known.specs.declared.refusal.Refusal.{Refusal}
 use Rattle.t_intern.specs.Nodes.{at}
 use Rattle.t_intern.proofs.Growing.{grown_at, grown_next}
-use Rattle.t_registers.specs.Known.{known}
+use Rattle.t_known.specs.Known.{known}
 use Rattle.t_check.specs.Verdict.{IsEntered, IsFileFit}
-use Rattle.t_registers.proofs.Fitted.{same_known}
-use Rattle.t_registers.proofs.Noting.{known_grown, sound_grown, grown_there}
+use Rattle.t_known.proofs.Fitted.{same_known}
+use Rattle.t_known.proofs.Noting.{known_grown, sound_grown, grown_there}
 use Rattle.t_check.proofs.Typing.{on_any, enter_none, enter_ok, enter_is}
 use Rattle.t_check.proofs.checker.Checker.check_target.Goals as goal
 

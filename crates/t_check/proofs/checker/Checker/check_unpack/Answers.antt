@@ -2,16 +2,16 @@ use Rattle.std.proofs.Common.{◌∙◌, sym, subst, ap, Result, ℕ}
 use Rattle.t_types.specs.Fits.{RegTypes}
 use Rattle.t_terms.specs.Read.{value}
 use Rattle.t_terms.specs.ReadProgram.{program}
-use Rattle.t_mismatch.specs.declared.refusal.Refusal.{Refusal}
+use Rattle.t_known.specs.declared.refusal.Refusal.{Refusal}
 use Rattle.t_terms.specs.Tree.{Unpack}
-use Rattle.t_rules.specs.Registers.{with_reg, raised}
+use Rattle.t_terms.specs.Registers.{with_reg, raised}
 use Rattle.t_rules.specs.Rules.{Has}
 use Rattle.t_intern.specs.Nodes.{at}
 use Rattle.t_types.specs.Bounds.{Bounded}
-use Rattle.t_registers.specs.Known.{known}
+use Rattle.t_known.specs.Known.{known}
 use Rattle.t_check.specs.Verdict.{IsStep}
 use Rattle.t_rules.proofs.Depth.{unpacked}
-use Rattle.t_registers.proofs.Noting.{known_grown, sound_grown}
+use Rattle.t_known.proofs.Noting.{known_grown, sound_grown}
 use Rattle.t_check.proofs.Typing.{unpack_other}
 use Rattle.t_check.proofs.checker.Checker.check_unpack.Goals as goal
 

@@ -1,9 +1,9 @@
 use Rattle.std.proofs.Common.{◌<◌, ◌≤◌, ◌∙◌, ap, sym, subst, length, get_or, arith, Result, Some, Bool, false, ℕ}
 use Rattle.text_core.specs.Refusals.{nothing}
-use Rattle.t_mismatch.specs.declared.refusal.Refusal.{Refusal}
+use Rattle.t_known.specs.declared.refusal.Refusal.{Refusal}
 use Rattle.t_intern.specs.Nodes.{at}
 use Rattle.t_intern.proofs.Walked.{field_below}
-use Rattle.t_registers.specs.Known.{known}
+use Rattle.t_known.specs.Known.{known}
 use Rattle.t_check.specs.Verdict.{IsFieldOf}
 use Rattle.t_check.proofs.Loads.{shown_fields, shown_tuple, shown_none, part_fits, part_field, part_bounded}
 use Rattle.t_check.proofs.Loads.{field_absent}

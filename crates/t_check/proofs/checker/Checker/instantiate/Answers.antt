@@ -10,7 +10,7 @@ use Rattle.t_intern.specs.Spread.{types_at, spread, SpreadFitsAt}
 use Rattle.t_intern.proofs.Growing.{grown_length, grown_regs}
 use Rattle.t_intern.proofs.Lists.{regs_below_more}
 use Rattle.t_rules.proofs.Depth.{inst_owed}
-use Rattle.t_registers.proofs.Depth.{spread_fits}
+use Rattle.t_known.proofs.Depth.{spread_fits}
 use Rattle.t_check.proofs.Turns.{in_one}
 use Rattle.t_check.proofs.checker.Checker.instantiate.Goals as goal
 

@@ -3,9 +3,9 @@ use Rattle.std.proofs.Math.Logic.{∥∥₁_elim}
 use Rattle.t_terms.specs.Read.{instr}
 use Rattle.t_rules.specs.Mismatch.{told}
 use Rattle.t_rules.specs.Faults.{InstrFaultWith}
-use Rattle.t_mismatch.specs.Refusals.{SaysWith, odds_at}
+use Rattle.t_known.specs.Refusals.{SaysWith, odds_at}
 use Rattle.t_check.specs.Verdict.{program_in, known_at}
-use Rattle.t_mismatch.specs.declared.refusal.Refusal.{Refusal}
+use Rattle.t_known.specs.declared.refusal.Refusal.{Refusal}
 use Rattle.t_check.proofs.checker.Checker.pass_instr.Goals as goal
 
 pub unreachable-requires : goal.unreachable-requires

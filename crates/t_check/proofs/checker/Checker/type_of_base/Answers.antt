@@ -6,13 +6,13 @@ use Rattle.t_terms.specs.Spanned.{plain_fields}
 use Rattle.t_terms.specs.declared.value.Base.{Base}
 use Rattle.t_rules.specs.Rules.{BaseHas}
 use Rattle.t_intern.specs.Nodes.{at}
-use Rattle.t_registers.specs.Known.{known}
+use Rattle.t_known.specs.Known.{known}
 use Rattle.t_types.specs.Bounds.{Bounded}
-use Rattle.t_registers.specs.Labels.{code_type, tuple_type}
+use Rattle.t_known.specs.Labels.{code_type, tuple_type}
 use Rattle.t_check.specs.Verdict.{FormedBase}
 use Rattle.t_check.proofs.Blocks.{formed_at, formed_data_at}
 use Rattle.t_rules.proofs.Depth.{label_bounded, data_bounded}
-use Rattle.t_registers.proofs.Numbering.{numbered_at}
+use Rattle.t_known.proofs.Numbering.{numbered_at}
 use Rattle.t_check.proofs.Places.{item_there}
 use Rattle.t_check.proofs.Typing.{entry_bounded}
 use Rattle.t_check.proofs.checker.Checker.type_of_base.Goals as goal

@@ -8,7 +8,7 @@ use Rattle.t_intern.specs.Nodes.{at}
 use Rattle.t_intern.proofs.Growing.{grown_at, grown_next, grown_number, grown_length}
 use Rattle.t_types.specs.Bounds.{Shallow}
 use Rattle.t_rules.specs.Faults.{PackFaultWith}
-use Rattle.t_mismatch.specs.declared.refusal.Refusal.{Refusal}
+use Rattle.t_known.specs.declared.refusal.Refusal.{Refusal}
 use Rattle.t_check.specs.Verdict.{IsPacked}
 use Rattle.t_rules.proofs.Depth.{shallow, pack_put_fits}
 use Rattle.t_check.proofs.Typing.{says_package, says_types, pack_unfit, pack_none}

@@ -1,6 +1,6 @@
 use Rattle.t_terms.specs.Read.{base}
 use Rattle.t_intern.proofs.Growing.{grown_next}
-use Rattle.t_registers.specs.Known.{known}
+use Rattle.t_known.specs.Known.{known}
 use Rattle.t_check.proofs.Places.{place_grown}
 use Rattle.t_check.proofs.checker.Checker.type_of_plain.Goals as goal
 

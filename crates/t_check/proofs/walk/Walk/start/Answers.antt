@@ -1,7 +1,7 @@
 use Rattle.std.proofs.Common.{refl, arith}
-use Rattle.t_registers.specs.Labels.{code_type}
+use Rattle.t_known.specs.Labels.{code_type}
 use Rattle.t_check.proofs.Blocks.{formed_at}
-use Rattle.t_registers.proofs.Numbering.{many, numbered_at}
+use Rattle.t_known.proofs.Numbering.{many, numbered_at}
 use Rattle.t_check.proofs.Walking.{block_there, known_first}
 use Rattle.t_check.proofs.walk.Walk.start.Goals as goal
 

@@ -1,6 +1,6 @@
 use Rattle.std.proofs.Common.{◌∙◌, sym, refl}
-use Rattle.gen_law.specs.Gen.{busy}
-use Rattle.gen_law.proofs.Own.{picked_is}
+use Rattle.t_gen_rules.specs.Gen.{busy}
+use Rattle.t_gen_laws.proofs.Own.{picked_is}
 use Rattle.t_gen.proofs.Gapped.{clash}
 use Rattle.t_gen.proofs.registers.Registers.pick.Goals as goal
 

@@ -1,7 +1,7 @@
 use Rattle.std.proofs.Common.{◌≡◌, ◌∙◌, ℤ, ℕ, List, length, sym, subst, ap₂, rules, to_z, of_z, w64}
 use Rattle.t_terms.specs.ReadProgram.{spanned_program}
 use Rattle.t_check.specs.Checked.{checked_program}
-use Rattle.seeds.specs.Source.{source}
+use Rattle.f_seeds.specs.Source.{source}
 use Rattle.talc_core.specs.FirstFault.{AnAssembly, IsAcceptedText, IsTaken}
 use Rattle.talc_core.specs.Lines.{seed_lines}
 use Rattle.talc_core.proofs.SeedLemmas.{target_taken, soon, shown}

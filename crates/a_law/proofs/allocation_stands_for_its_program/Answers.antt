@@ -1,5 +1,0 @@
-use Rattle.a_law.proofs.Standing.{alloc_stands}
-use Rattle.a_law.proofs.allocation_stands_for_its_program.Goals as goal
-
-pub returns : goal.returns
-returns c = alloc_stands c.types_are_kept.ensures

@@ -1,5 +1,0 @@
-use Rattle.a_law.proofs.Asking as lemmas
-use Rattle.a_law.proofs.mallocs_are_asked.Goals as goal
-
-pub returns : goal.returns
-returns c = lemmas.mallocs_are_asked

@@ -1,0 +1,221 @@
+-- Which hoisted term an allocated term stands for: a data tuple is put back as the tuple of constants that it stands
+-- for, a malloc, with the initialisations of all fields at once after it and in order, as the tuple that the last of
+-- them names, which is not one of constants alone, and types are those of hoisted types with every flag at 1. Each
+-- tuple that is made is taken once, and tuples are taken in the order in which they are made: by the next tuple, as a
+-- field, or by the next declaration, call, choice or halt. So none is idle, and none stands for two. A cell looks like
+-- a tuple of one field, so at a malloc, an initialisation and a projection either may be meant. The type that is
+-- written at a field of data is that of its value.
+use Rattle.std.specs.Prelude.{◌≡◌, ◌⊎◌, ◌++◌, ℕ, zero, suc, ◌-◌, List, [], ◌∷◌, length, slice_get, Some, None}
+use Rattle.c_terms.specs.C.{CTy, CTys}
+use Rattle.h_terms.specs.H.{HVal, HVar, HInt, HLabel, HTuple, HApply, HPack, HVals, NoHVals, MoreHVals, HName, HProj}
+use Rattle.h_terms.specs.H.{HArith, HUnpack, HCell, HGet, HSet, HTm, HLet, HCall, HIf, HHalt, HBlks}
+use Rattle.h_terms.specs.Typing.{HProgramGood}
+use Rattle.a_terms.specs.Tree.{ATys, NoATys, MoreATys, AConsts, AVal, Var, Num, Lab, Data, Apply, Pack, Value, Proj}
+use Rattle.a_terms.specs.Tree.{Arith, Unpack, Malloc, Init, ATm, Let, Call, If0, Halt, ABlk, AProg, arity}
+use Rattle.a_terms.specs.Typing.{type_of}
+use Rattle.a_laws.specs.Allocate.{atype, atypes, alloc_prog, alloc_main}
+use Rattle.a_laws.specs.Constants.{Constants, constant, of_args, tuples_in}
+
+-- a value of the hoisted program, for each number of its variables
+abbrev pub Shown : Type 0
+Shown = ℕ → HVal
+
+-- variable l, counted from the outermost
+abbrev pub named : ℕ → Shown
+named l m = HVar (m - suc l)
+
+abbrev pub listed : List HVal → HVals
+listed [] = NoHVals
+listed (w ∷ ws) = MoreHVals w (listed ws)
+
+-- what a variable of the allocated term stands for: variable l of the hoisted term; tuple number l, made under k
+-- variables, with these fields; or nothing, as a cell that is not yet set, or a tuple that is not yet filled
+pub data Thing : Type 0 where
+  Is : (l : ℕ) → Thing
+  Made : (l k : ℕ) (fs : List HVal) → Thing
+  Gone : Thing
+
+abbrev pub thing_at : List Thing → ℕ → Thing
+thing_at [] i = Gone
+thing_at (x ∷ xs) zero = x
+thing_at (x ∷ xs) (suc i) = thing_at xs i
+
+-- under m variables, which name the constants os; a tuple that is made is no constant
+abbrev pub Means : Constants → Thing → ℕ → HVal → Type 0
+Means os (Is l) m w = w ≡ named l m
+Means os (Made l k fs) m w = (k ≡ m) × (w ≡ HTuple (listed fs)) × (constant os w ≡ None)
+Means os Gone m w = ⊥
+
+-- the tuples that a value takes, and several values, one after the other
+abbrev pub tuple_of : Thing → List Thing
+tuple_of (Is l) = []
+tuple_of (Made l k fs) = Made l k fs ∷ []
+tuple_of Gone = []
+
+abbrev pub takes : List Thing → AVal → List Thing
+takes env (Var i) = tuple_of (thing_at env i)
+takes env (Num n) = []
+takes env (Lab l) = []
+takes env (Data n) = []
+takes env (Apply v ts) = takes env v
+takes env (Pack h v s) = takes env v
+
+abbrev pub all_take : List Thing → List AVal → List Thing
+all_take env [] = []
+all_take env (v ∷ vs) = takes env v ++ all_take env vs
+
+-- the tuple that is made where these are the variables and k those of the hoisted term
+abbrev pub made_at : List Thing → ℕ → List HVal → Thing
+made_at env k fs = Made (length env) k fs
+
+-- the value v stands for w, where the data stand for ds
+abbrev pub Stands_v : List HVal → Constants → List Thing → ℕ → AVal → HVal → Type 0
+Stands_v ds os env m (Var i) w = Means os (thing_at env i) m w
+Stands_v ds os env m (Num n) w = w ≡ HInt n
+Stands_v ds os env m (Lab l) w = w ≡ HLabel l
+Stands_v ds os env m (Data n) w =
+    (vs : HVals) × (c : HVal) × (w ≡ HTuple vs) × (constant os w ≡ Some c) × (slice_get ds n ≡ Some c)
+Stands_v ds os env m (Apply v ts) w =
+    (x : HVal) × (us : CTys) × (w ≡ HApply x us) × (atypes us ≡ ts) × Stands_v ds os env m v x
+Stands_v ds os env m (Pack h v s) w =
+    (a : CTy) × (x : HVal) × (b : CTy) × (w ≡ HPack a x b) × (atype a ≡ h) × (atype b ≡ s)
+    × Stands_v ds os env m v x
+
+abbrev pub Stands_vs : List HVal → Constants → List Thing → ℕ → List AVal → HVals → Type 0
+Stands_vs ds os env m [] ws = ws ≡ NoHVals
+Stands_vs ds os env m (v ∷ vs) ws =
+    (x : HVal) × (xs : HVals) × (ws ≡ MoreHVals x xs) × Stands_v ds os env m v x × Stands_vs ds os env m vs xs
+
+-- the value of a data field, in which no variable stands, is w
+abbrev pub Shows_v : List HVal → AVal → HVal → Type 0
+Shows_v ds (Var i) w = ⊥
+Shows_v ds (Num n) w = w ≡ HInt n
+Shows_v ds (Lab l) w = w ≡ HLabel l
+Shows_v ds (Data n) w = slice_get ds n ≡ Some w
+Shows_v ds (Apply v ts) w = (x : HVal) × (us : CTys) × (w ≡ HApply x us) × (atypes us ≡ ts) × Shows_v ds v x
+Shows_v ds (Pack h v s) w =
+    (a : CTy) × (x : HVal) × (b : CTy) × (w ≡ HPack a x b) × (atype a ≡ h) × (atype b ≡ s) × Shows_v ds v x
+
+abbrev pub Shows_fields : List HVal → AConsts → HVals → Type 0
+Shows_fields ds [] ws = ws ≡ NoHVals
+Shows_fields ds (c ∷ cs) ws =
+    (x : HVal) × (xs : HVals) × (ws ≡ MoreHVals x xs) × Shows_v ds c.value x × Shows_fields ds cs xs
+
+-- data tuples, one after the other, are these values
+abbrev pub Shows : List HVal → List AConsts → List HVal → Type 0
+Shows ds [] ws = ws ≡ []
+Shows ds (x ∷ xs) ws =
+    (vs : HVals) × (us : List HVal) × (ws ≡ HTuple vs ∷ us) × Shows_fields ds x vs × Shows ds xs us
+
+-- the type that is written at each field of data is that of its value, in which no variable stands: so each flag in it
+-- is set
+abbrev pub HasKinds : AProg → AConsts → Type 0
+HasKinds p [] = Unit {0}
+HasKinds p (c ∷ cs) = (type_of p [] c.value ≡ Some c.kind) × HasKinds p cs
+
+abbrev pub AllHaveKinds : AProg → List AConsts → Type 0
+AllHaveKinds p [] = Unit {0}
+AllHaveKinds p (x ∷ xs) = HasKinds p x × AllHaveKinds p xs
+
+-- what is to come: anything; a tuple's fields, where these are filled, n + 1 are not, and those took these tuples; the
+-- content of a new cell; or the empty tuple that names an assignment
+pub data Mode : Type 0 where
+  Any : Mode
+  Filling : (fs : List HVal) (n : ℕ) (taken : List Thing) → Mode
+  Content : Mode
+  Unit_named : Mode
+
+-- the term a stands for h, where k variables of the hoisted term are in scope, and name the constants os, and these
+-- tuples are made and not taken
+abbrev pub Stands_t : List HVal → Constants → Mode → List Thing → List Thing → ℕ → ATm → HTm → Type 0
+Stands_t ds os Any made env k (Let (Value v) e) h =
+    (w : HVal) × (t : HTm) × (h ≡ HLet (HName w) t) × Stands_v ds os env k v w × (takes env v ≡ made)
+    × Stands_t ds (constant os w ∷ os) Any [] (Is k ∷ env) (suc k) e t
+Stands_t ds os Any made env k (Let (Proj i v) e) h =
+    (w : HVal) × (t : HTm) × ((h ≡ HLet (HProj i w) t) ⊎ ((i ≡ 1) × (h ≡ HLet (HGet w) t)))
+    × Stands_v ds os env k v w × (takes env v ≡ made)
+    × Stands_t ds (None ∷ os) Any [] (Is k ∷ env) (suc k) e t
+Stands_t ds os Any made env k (Let (Arith op v w) e) h =
+    (x : HVal) × (y : HVal) × (t : HTm) × (h ≡ HLet (HArith op x y) t) × Stands_v ds os env k v x
+    × Stands_v ds os env k w y × (takes env v ++ takes env w ≡ made)
+    × Stands_t ds (None ∷ os) Any [] (Is k ∷ env) (suc k) e t
+Stands_t ds os Any made env k (Let (Unpack v) e) h =
+    (w : HVal) × (t : HTm) × (h ≡ HLet (HUnpack w) t) × Stands_v ds os env k v w × (takes env v ≡ made)
+    × Stands_t ds (None ∷ os) Any [] (Is k ∷ env) (suc k) e t
+Stands_t ds os Any made env k (Let (Malloc ts) e) h =
+    ((n : ℕ) × (arity ts ≡ suc n) × Stands_t ds os (Filling [] n []) made (Gone ∷ env) k e h)
+    ⊎ ((arity ts ≡ 1) × Stands_t ds os Content made (Gone ∷ env) k e h)
+Stands_t ds os Any made env k (Let (Init v i w) e) h =
+    (x : HVal) × (y : HVal) × (t : HTm) × (i ≡ 1) × (h ≡ HLet (HSet x y) t) × Stands_v ds os env k v x
+    × Stands_v ds os env k w y × (takes env v ++ takes env w ≡ made)
+    × Stands_t ds (None ∷ os) Unit_named [] (Gone ∷ env) k e t
+Stands_t ds os Any made env k (Call v ts vs) h =
+    (x : HVal) × (us : CTys) × (xs : HVals) × (h ≡ HCall x us xs) × (atypes us ≡ ts) × Stands_v ds os env k v x
+    × Stands_vs ds os env k vs xs × (takes env v ++ all_take env vs ≡ made)
+Stands_t ds os Any made env k (If0 v a b) h =
+    (x : HVal) × (t : HTm) × (u : HTm) × (h ≡ HIf x t u) × Stands_v ds os env k v x × (takes env v ≡ made)
+    × Stands_t ds os Any [] env k a t × Stands_t ds os Any [] env k b u
+Stands_t ds os Any made env k (Halt v) h =
+    (x : HVal) × (h ≡ HHalt x) × Stands_v ds os env k v x × (takes env v ≡ made)
+-- the last field; the tuples that the fields took are the last that were made, and the new one comes in their place
+Stands_t ds os (Filling fs zero taken) made env k (Let (Init v i w) e) h =
+    (y : HVal) × (left : List Thing) × (v ≡ Var 0) × (i ≡ suc (length fs)) × Stands_v ds os env k w y
+    × (made ≡ left ++ (taken ++ takes env w))
+    × Stands_t ds os Any (left ++ made_at env k (fs ++ y ∷ []) ∷ []) (made_at env k (fs ++ y ∷ []) ∷ env) k e h
+Stands_t ds os (Filling fs (suc n) taken) made env k (Let (Init v i w) e) h =
+    (y : HVal) × (v ≡ Var 0) × (i ≡ suc (length fs)) × Stands_v ds os env k w y
+    × Stands_t ds os (Filling (fs ++ y ∷ []) n (taken ++ takes env w)) made (Gone ∷ env) k e h
+Stands_t ds os (Filling fs n taken) made env k (Let (Value v) e) h = ⊥
+Stands_t ds os (Filling fs n taken) made env k (Let (Proj i v) e) h = ⊥
+Stands_t ds os (Filling fs n taken) made env k (Let (Arith op v w) e) h = ⊥
+Stands_t ds os (Filling fs n taken) made env k (Let (Unpack v) e) h = ⊥
+Stands_t ds os (Filling fs n taken) made env k (Let (Malloc ts) e) h = ⊥
+Stands_t ds os (Filling fs n taken) made env k (Call v ts vs) h = ⊥
+Stands_t ds os (Filling fs n taken) made env k (If0 v a b) h = ⊥
+Stands_t ds os (Filling fs n taken) made env k (Halt v) h = ⊥
+Stands_t ds os Content made env k (Let (Init v i w) e) h =
+    (x : HVal) × (t : HTm) × (v ≡ Var 0) × (i ≡ 1) × (h ≡ HLet (HCell x) t) × Stands_v ds os env k w x
+    × (takes env w ≡ made) × Stands_t ds (None ∷ os) Any [] (Is k ∷ env) (suc k) e t
+Stands_t ds os Content made env k (Let (Value v) e) h = ⊥
+Stands_t ds os Content made env k (Let (Proj i v) e) h = ⊥
+Stands_t ds os Content made env k (Let (Arith op v w) e) h = ⊥
+Stands_t ds os Content made env k (Let (Unpack v) e) h = ⊥
+Stands_t ds os Content made env k (Let (Malloc ts) e) h = ⊥
+Stands_t ds os Content made env k (Call v ts vs) h = ⊥
+Stands_t ds os Content made env k (If0 v a b) h = ⊥
+Stands_t ds os Content made env k (Halt v) h = ⊥
+Stands_t ds os Unit_named made env k (Let (Malloc ts) e) h =
+    (ts ≡ NoATys) × Stands_t ds os Any made (Is k ∷ env) (suc k) e h
+Stands_t ds os Unit_named made env k (Let (Init v i w) e) h = ⊥
+Stands_t ds os Unit_named made env k (Let (Value v) e) h = ⊥
+Stands_t ds os Unit_named made env k (Let (Proj i v) e) h = ⊥
+Stands_t ds os Unit_named made env k (Let (Arith op v w) e) h = ⊥
+Stands_t ds os Unit_named made env k (Let (Unpack v) e) h = ⊥
+Stands_t ds os Unit_named made env k (Call v ts vs) h = ⊥
+Stands_t ds os Unit_named made env k (If0 v a b) h = ⊥
+Stands_t ds os Unit_named made env k (Halt v) h = ⊥
+
+-- the arguments of a block are its first variables
+abbrev pub arg_things : ℕ → List Thing → ATys → List Thing
+arg_things k env NoATys = env
+arg_things k env (MoreATys t ts) = arg_things (suc k) (Is k ∷ env) ts
+
+abbrev pub Stands_all : List HVal → List ABlk → HBlks → Type 0
+Stands_all ds [] [] = Unit {0}
+Stands_all ds [] (x ∷ xs) = ⊥
+Stands_all ds (b ∷ bs) [] = ⊥
+Stands_all ds (b ∷ bs) (x ∷ xs) =
+    ((b.owes ≡ x.owes) × (atypes x.args ≡ b.args)
+    × Stands_t ds (of_args x.args []) Any [] (arg_things 0 [] b.args) (arity b.args) b.body x.body)
+    × Stands_all ds bs xs
+
+-- a program stands for a hoisted program, block by block; its data tuples, one after the other, are the tuples of
+-- constants of that, and have their types
+abbrev pub Stands : AProg → ATm → HBlks → HTm → Type 0
+Stands p main ks t =
+    Shows (tuples_in ks t) p.tuples (tuples_in ks t) × AllHaveKinds p p.tuples
+    × Stands_all (tuples_in ks t) p.blocks ks × Stands_t (tuples_in ks t) [] Any [] [] 0 main t
+
+-- the allocation of a typed program stands for it
+abbrev pub AllocStands : Type 0
+AllocStands = (ks : HBlks) (t : HTm) → HProgramGood ks t → Stands (alloc_prog ks t) (alloc_main ks t) ks t

@@ -1,7 +1,0 @@
-use Rattle.std.proofs.Common.{◌≡◌, ℕ, take}
-use Rattle.std.specs.Prelude.{◌||◌}
-use Rattle.a_uses.specs.Uses.{has, mem}
-use Rattle.a_uses.proofs.used.add_all.Given as goal
-
-abbrev pub invariant-loop-i : goal.invariant-loop-i
-invariant-loop-i l = (q : ℕ) → has l.used q ≡ (has l.fn.used q || mem (take l.i l.numbers) q)

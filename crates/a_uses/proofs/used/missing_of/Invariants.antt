@@ -1,8 +1,0 @@
-use Rattle.std.proofs.Common.{◌≡◌, ℕ, take}
-use Rattle.std.specs.Prelude.{◌||◌, ◌&&◌, not}
-use Rattle.a_uses.specs.Uses.{has, mem}
-use Rattle.a_uses.proofs.used.missing_of.Given as goal
-
-abbrev pub invariant-loop-i : goal.invariant-loop-i
-invariant-loop-i l =
-    (q : ℕ) → mem l.numbers.items q ≡ (mem l.fn.numbers.items q || (mem (take l.i l.some) q && not (has l.used q)))

@@ -1,6 +1,0 @@
-use Rattle.a_writer.proofs.ProgramTexts.{blocks_done}
-use Rattle.a_writer.proofs.program.write_blocks.Goals as goal
-
-pub returns : goal.returns
-returns c =
-    blocks_done c.args.blocks.now _ _ c.loop-label.label c.loop-label.invariant.written c.loop-label-test.false

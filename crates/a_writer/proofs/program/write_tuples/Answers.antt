@@ -1,6 +1,0 @@
-use Rattle.a_writer.proofs.ProgramTexts.{tuples_done}
-use Rattle.a_writer.proofs.program.write_tuples.Goals as goal
-
-pub returns : goal.returns
-returns c =
-    tuples_done c.args.tuples.now _ _ c.loop-number.number c.loop-number.invariant c.loop-number-test.false

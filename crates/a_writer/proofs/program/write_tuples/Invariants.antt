@@ -1,8 +1,0 @@
-use Rattle.std.proofs.Common.{◌++◌}
-use Rattle.page_text.proofs.Listed.{Left, listed}
-use Rattle.a_writer.proofs.ProgramTexts.{tuple_item}
-use Rattle.a_writer.proofs.program.write_tuples.Given as goal
-
-abbrev pub invariant-loop-number : goal.invariant-loop-number
-invariant-loop-number l =
-    Left tuple_item l.text.items l.number l.number l.tuples (l.initial.text.items ++ listed tuple_item 0 l.tuples)

@@ -1,5 +1,0 @@
-use Rattle.a_writer.proofs.ValueTexts.{consts_done}
-use Rattle.a_writer.proofs.values.write_consts.Goals as goal
-
-pub returns : goal.returns
-returns c = consts_done c.args.fields.now _ _ c.loop-i.i c.loop-i.i c.loop-i.invariant c.loop-i-test.false

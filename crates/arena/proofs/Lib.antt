@@ -1,4 +1,0 @@
-pub mod Nodes
-pub mod Roots
-pub mod Stacks
-pub mod Once

@@ -1,3 +1,0 @@
-pub mod Arena
-pub mod Roots
-pub mod Stack

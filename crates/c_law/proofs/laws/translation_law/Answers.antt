@@ -1,5 +1,0 @@
-use Rattle.c_law.proofs.Translating.{is_translation}
-use Rattle.c_law.proofs.laws.translation_law.Goals as goal
-
-pub returns : goal.returns
-returns c = is_translation

@@ -1,8 +1,0 @@
-use Rattle.c_law.proofs.BothTypings.{types_kept, reach_kept}
-use Rattle.c_law.proofs.laws.types_law.Goals as goal
-
-pub returns-clause-typed : goal.returns-clause-typed
-returns-clause-typed c = types_kept
-
-pub returns-clause-reach : goal.returns-clause-reach
-returns-clause-reach c = reach_kept

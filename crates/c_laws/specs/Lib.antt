@@ -1,0 +1,3 @@
+pub mod Row
+pub mod Laws
+pub mod Walks

@@ -1,0 +1,71 @@
+// The walk along the nodes.
+ghost use Rattle.std.specs.Prelude.{◌++◌, [], codes, decimal, OnOk};
+ghost use Rattle.page_core.specs.Names.{op_sign};
+ghost use Rattle.c_terms.specs.Read.{cnode};
+ghost use Rattle.c_notation.specs.Standing.{IsPage};
+ghost use Rattle.c_notation.specs.Walk.{Sheet, declare, pair, step};
+
+use crate::page::Page;
+use c_terms::CNode;
+use idx_core::{Op, OutOfMemory};
+use page_core::{write_natural, write_op};
+
+impl Page {
+    // A field of the last value is named.
+    fn project(&mut self, level: u64, field: u64) -> Result<(), OutOfMemory>
+        ensures { OnOk result ((p : Sheet) → IsPage self.old p →
+            IsPage self.new (declare p level (codes "#" ++ (decimal field ++ codes " ")))) }
+    {
+        let mut word = Vec::new(self.alloc);
+        word.extend_from_slice(b"#")?;
+        write_natural(&mut word, field)?;
+        word.extend_from_slice(b" ")?;
+        self.declare(level, &word)
+    }
+
+    // The result of an operation on the last two values is named.
+    fn arith(&mut self, level: u64, op: Op) -> Result<(), OutOfMemory>
+        ensures { OnOk result ((p : Sheet) → IsPage self.old p →
+            IsPage self.new (declare (pair p (op_sign op)) level [])) }
+    {
+        let mut sign = Vec::new(self.alloc);
+        write_op(&mut sign, op)?;
+        self.pair(&sign)?;
+        self.declare(level, b"")
+    }
+
+    // A cell is set to the last value.
+    fn set(&mut self, level: u64) -> Result<(), OutOfMemory>
+        ensures { OnOk result ((p : Sheet) → IsPage self.old p →
+            IsPage self.new (declare (pair p (codes " := ")) level [])) }
+    {
+        self.pair(b" := ")?;
+        self.declare(level, b"")
+    }
+
+    // One more node.
+    pub(crate) fn step(&mut self, node: &CNode) -> Result<(), OutOfMemory>
+        ensures { OnOk result ((p : Sheet) → IsPage self.old p → IsPage self.new (step (cnode node.now) p)) }
+    {
+        match node {
+            CNode::Var(level) => self.variable(*level),
+            CNode::Int(n) => self.integer(*n),
+            CNode::Tuple(count) => self.tuple(*count),
+            CNode::Code { owes, args } => self.enter(*owes, args),
+            CNode::End => self.leave(),
+            CNode::Apply(types) => self.apply(types),
+            CNode::Pack { hidden, shape } => self.pack(hidden, shape),
+            CNode::Name(level) => self.declare(*level, b""),
+            CNode::Proj { level, field } => self.project(*level, *field),
+            CNode::Arith { level, op } => self.arith(*level, *op),
+            CNode::Unpack(level) => self.unpack(*level),
+            CNode::Cell(level) => self.declare(*level, b"ref "),
+            CNode::Get(level) => self.declare(*level, b"!"),
+            CNode::Set(level) => self.set(*level),
+            CNode::Call { types, count: _ } => self.call(types),
+            CNode::If0 => self.choose(),
+            CNode::Else => self.turn(),
+            CNode::Halt => self.value_line(b"halt "),
+        }
+    }
+}

@@ -1,6 +1,0 @@
-use Rattle.std.proofs.Common.{◌≡◌, drop}
-use Rattle.c_walk.specs.Sweep as W
-use Rattle.c_walk.proofs.levels.has.Given as goal
-
-abbrev pub invariant-loop-x : goal.invariant-loop-x
-invariant-loop-x l = W.has l.l (drop l.x-index l.levels) ≡ W.has l.l l.levels

@@ -1,0 +1,12 @@
+pub mod Nodes
+pub mod Roots
+pub mod Stacks
+pub mod Once
+pub mod Bridge
+pub mod Levels
+pub mod Lifts
+pub mod Substituting
+pub mod Trees
+pub mod Scopes
+pub mod Ends
+pub mod Opening

@@ -1,0 +1,13 @@
+pub mod Arena
+pub mod Roots
+pub mod Stack
+pub mod Ends
+pub mod Laws
+pub mod Levels
+pub mod Props
+pub mod Read
+pub mod Scope
+pub mod Substitution
+pub mod TyLaws
+pub mod Types
+pub mod Walks

@@ -1,9 +1,0 @@
-use Rattle.expected.specs.Wanted.{lent}
-use Rattle.expected.specs.Owing.{after_in}
-use Rattle.expected.proofs.Rows.{Now}
-use Rattle.expected.proofs.machine.begin_by.Given as goal
-
-abbrev pub invariant-loop-one : goal.invariant-loop-one
-invariant-loop-one g l =
-    Now g.G.Language.owes (after_in g.G.Language.owes (lent l.others) l.fn.line l.token) l.token l.others l.one-index
-    l.now l.row.items

@@ -1,8 +1,0 @@
-use Rattle.expected.proofs.Taking.{Down}
-use Rattle.expected.proofs.machine.find_next.Given as goal
-
-abbrev pub invariant-loop-at : goal.invariant-loop-at
-invariant-loop-at g l = Down g.G.Language.owes l.owed l.token l.at
-
-abbrev pub decreases-loop-at : goal.decreases-loop-at
-decreases-loop-at g l = l.at

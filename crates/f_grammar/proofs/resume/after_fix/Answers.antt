@@ -1,0 +1,19 @@
+use Rattle.std.proofs.Common.{refl, arith}
+use Rattle.f_grammar.proofs.Steps.{has_mark, one_child}
+use Rattle.f_grammar.proofs.Resuming.{fix_given}
+use Rattle.f_grammar.proofs.resume.after_fix.Goals as goal
+
+pub overflow_sub-reader : goal.overflow_sub-reader
+overflow_sub-reader c = let m = has_mark (omega arith) c.requires.4 in omega (arith, m)
+
+pub put-requires : goal.put-requires
+put-requires c = λ f. one_child c.requires.2 f
+
+pub returns : goal.returns
+returns c =
+    let x = c.requires in
+    let h = x.3 in
+    let m = has_mark (omega arith) x.4 in
+    let g =
+    fix_given c.args.reader.now.tokens.now c.args.head x.1 x.0 h x.2 (omega (arith, m)) c.in_ok-part.ensures x.4 in
+    (refl, (g.piece, g.stands, g.reached), omega (arith, g.reached.in_range))

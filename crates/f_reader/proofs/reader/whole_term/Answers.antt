@@ -1,8 +1,0 @@
-use Rattle.f_reader.proofs.Steps.{at_frame}
-use Rattle.f_reader.proofs.reader.whole_term.Goals as goal
-
-pub resume-requires : goal.resume-requires
-resume-requires c =
-    let l = c.loop-control in
-    at_frame c.args.tokens.now l.reader l.control c.in-Give.part c.pop.new.self c.in-Some.frame c.in-Some.ensures.items
-    c.in-Give.is l.invariant

@@ -1,9 +1,0 @@
-use Rattle.std.proofs.Common.{◌≡◌}
-use Rattle.f_reader.specs.Frames.{Leads, work}
-use Rattle.f_reader.proofs.reader.whole_term.Given as goal
-
-abbrev pub invariant-loop-control : goal.invariant-loop-control
-invariant-loop-control l = (l.reader.tokens.now ≡ l.tokens) × Leads l.tokens l.reader l.control
-
-abbrev pub decreases-loop-control : goal.decreases-loop-control
-decreases-loop-control l = work l.tokens l.reader l.control

@@ -1,3 +1,0 @@
-pub mod Forest
-pub mod Frames
-pub mod Reads

@@ -1,9 +1,0 @@
-use Rattle.f_lexer.specs.Source.{IsCut}
-use Rattle.f_lexer.proofs.Exact.{one_cut}
-use Rattle.f_grammar.specs.Machine.{table}
-use Rattle.expected.proofs.Exact.{one_line}
-use Rattle.f_wanted.specs.Words.{source_kinds}
-use Rattle.f_wanted.proofs.laws.one_line.Goals as goal
-
-pub returns : goal.returns
-returns c = one_line table source_kinds IsCut one_cut

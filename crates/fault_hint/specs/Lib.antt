@@ -1,4 +1,0 @@
-pub mod Around
-pub mod Words
-pub mod Sentences
-pub mod Hints

@@ -1,6 +1,0 @@
-use Rattle.std.proofs.Common.{◌≡◌, ◌++◌, map, take}
-use Rattle.fault_page.specs.Page.{shown_byte}
-use Rattle.fault_page.proofs.excerpt.write_shown.Given as goal
-
-abbrev pub invariant-loop-byte : goal.invariant-loop-byte
-invariant-loop-byte l = l.page.items ≡ l.initial.page.items ++ map shown_byte (take l.byte-index l.bytes)

@@ -1,0 +1,10 @@
+use Rattle.std.proofs.Common.{◌++◌}
+use Rattle.h_terms.specs.Nodes.{h_tree}
+use Rattle.h_notation.specs.Notation.{term_text}
+use Rattle.h_notation.proofs.ScopeTexts.{Writing}
+use Rattle.h_notation.proofs.terms.write_term.Given as goal
+
+abbrev pub invariant-loop-node : goal.invariant-loop-node
+invariant-loop-node l =
+    Writing l.nodes l.node-index l.scopes.items l.text.items
+    (l.initial.text.items ++ term_text l.types l.names 1 (h_tree l.nodes))

@@ -1,0 +1,98 @@
+-- The notation of hoisted programs. Inside m value names the next one is `x` and m, and the variable i is the one that
+-- has i others between. A block is `L` and its label, which counts from 0; fields count from 1.
+use Rattle.std.specs.Prelude.{ℕ, suc, ◌+◌, ◌-◌, List, [], ◌∷◌, ◌++◌, codes, decimal}
+use Rattle.c_terms.specs.C.{CTys, MoreCTys, NoCTys, ccount}
+use Rattle.c_notation.specs.Types.{type_text, types_text}
+use Rattle.h_terms.specs.H.{HApply, HArith, HBlk, HBlks, HCall, HCell, HDecl, HGet, HHalt, HIf, HInt, HLabel, HLet}
+use Rattle.h_terms.specs.H.{HName, HPack, HProj, HSet, HTm, HTuple, HUnpack, HVal, HVals, HVar, MoreHVals, NoHVals}
+use Rattle.page_core.specs.Names.{margin, number, op_sign, separator, type_name, type_names, value_name}
+
+-- the types that a value is applied to, where there are any
+abbrev pub applied_text : ℕ → CTys → List ℕ
+applied_text n NoCTys = []
+applied_text n (MoreCTys t ts) = codes "[" ++ (types_text n (MoreCTys t ts) ++ codes "]")
+
+abbrev mutual
+  -- a value inside n type names and m value names
+  pub value_text : ℕ → ℕ → HVal → List ℕ
+  value_text n m (HVar i) = value_name (m - 1 - i)
+  value_text n m (HInt z) = number z
+  value_text n m (HLabel l) = codes "L" ++ decimal l
+  value_text n m (HTuple vs) = codes "<" ++ (values_text 0 n m vs ++ codes ">")
+  value_text n m (HApply v ts) = value_text n m v ++ applied_text n ts
+  value_text n m (HPack hidden v shape) =
+      codes "pack ["
+      ++ (type_text n hidden ++ (codes ", " ++ (value_text n m v ++ (codes "] as " ++ type_text n shape))))
+
+  -- values, where i stand before them
+  pub values_text : ℕ → ℕ → ℕ → HVals → List ℕ
+  values_text i n m NoHVals = []
+  values_text i n m (MoreHVals v vs) = separator i ++ (value_text n m v ++ values_text (suc i) n m vs)
+
+-- the name that a declaration gives
+abbrev pub let_text : ℕ → List ℕ
+let_text m = codes "let " ++ (value_name m ++ codes " = ")
+
+abbrev pub decl_text : ℕ → ℕ → HDecl → List ℕ
+decl_text n m (HName v) = let_text m ++ value_text n m v
+decl_text n m (HProj i v) = let_text m ++ (codes "#" ++ (decimal i ++ (codes " " ++ value_text n m v)))
+decl_text n m (HArith op v w) = let_text m ++ (value_text n m v ++ (op_sign op ++ value_text n m w))
+decl_text n m (HUnpack v) =
+    codes "let [" ++ (type_name n ++ (codes ", " ++ (value_name m ++ (codes "] = unpack " ++ value_text n m v))))
+decl_text n m (HCell v) = let_text m ++ (codes "ref " ++ value_text n m v)
+decl_text n m (HGet v) = let_text m ++ (codes "!" ++ value_text n m v)
+decl_text n m (HSet v w) = let_text m ++ (value_text n m v ++ (codes " := " ++ value_text n m w))
+
+-- how many type names are around what follows a declaration inside n of them
+abbrev pub types_after : HDecl → ℕ → ℕ
+types_after (HName v) n = n
+types_after (HProj i v) n = n
+types_after (HArith op v w) n = n
+types_after (HUnpack v) n = n + 1
+types_after (HCell v) n = n
+types_after (HGet v) n = n
+types_after (HSet v w) n = n
+
+abbrev pub call_text : ℕ → ℕ → HVal → CTys → HVals → List ℕ
+call_text n m v ts vs =
+    value_text n m v ++ (codes "[" ++ (types_text n ts ++ (codes "](" ++ (values_text 0 n m vs ++ codes ")"))))
+
+abbrev pub if_text : ℕ → ℕ → HVal → List ℕ
+if_text n m v = codes "if0 " ++ (value_text n m v ++ codes " then")
+
+-- a line at the level k
+abbrev pub line : ℕ → List ℕ → List ℕ
+line k s = margin k ++ (s ++ codes "\n")
+
+-- a term inside n type names and m value names, at the level k
+abbrev pub term_text : ℕ → ℕ → ℕ → HTm → List ℕ
+term_text n m k (HLet x t) = line k (decl_text n m x) ++ term_text (types_after x n) (m + 1) k t
+term_text n m k (HCall v ts vs) = line k (call_text n m v ts vs)
+term_text n m k (HIf v t u) =
+    line k (if_text n m v) ++ (term_text n m (k + 1) t ++ (line k (codes "else") ++ term_text n m (k + 1) u))
+term_text n m k (HHalt v) = line k (codes "halt " ++ value_text n m v)
+
+-- arguments with their types inside n type names, where i stand before them
+abbrev pub args_text : ℕ → ℕ → CTys → List ℕ
+args_text i n NoCTys = []
+args_text i n (MoreCTys t ts) =
+    separator i ++ (value_name i ++ (codes ": " ++ (type_text n t ++ args_text (suc i) n ts)))
+
+-- what stands before the body of a block
+abbrev pub head_text : ℕ → ℕ → CTys → List ℕ
+head_text l owes args =
+    codes "L"
+    ++ (decimal l ++ (codes ": code" ++ (type_names 0 owes ++ (codes "(" ++ (args_text 0 owes args ++ codes ").\n")))))
+
+-- the block with the label l, and an empty line
+abbrev pub block_text : ℕ → HBlk → List ℕ
+block_text l b = head_text l b.owes b.args ++ (term_text b.owes (ccount b.args) 1 b.body ++ codes "\n")
+
+-- blocks, the first of which has the label l
+abbrev pub blocks_text : ℕ → HBlks → List ℕ
+blocks_text l [] = []
+blocks_text l (b ∷ bs) = block_text l b ++ blocks_text (suc l) bs
+
+-- a program with its main term
+abbrev pub h_text : HBlks → HTm → List ℕ
+h_text ks t = blocks_text 0 ks ++ (codes "main:\n" ++ term_text 0 0 1 t)

@@ -1,4 +1,0 @@
-mod ValueLemmas
-mod BelowLemmas
-mod PathLemmas
-mod Rows

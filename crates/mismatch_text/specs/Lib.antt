@@ -1,5 +1,0 @@
-pub mod Line
-pub mod Form
-pub mod Value
-pub mod Apart
-pub mod Laws

@@ -1,7 +1,0 @@
-// Laws of the lines, as functions with an empty body that callers cite.
-ghost use Rattle.mismatch_text.specs.Laws.{PathsAreShort};
-
-/// A path takes at most 100 bytes of its line.
-pub fn paths_are_short()
-    ensures { PathsAreShort }
-{}

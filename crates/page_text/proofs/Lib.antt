@@ -1,3 +1,0 @@
-pub mod Listed
-mod Rows
-pub mod Joined

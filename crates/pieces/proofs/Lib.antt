@@ -1,3 +1,0 @@
-mod Grown
-mod Spelled
-mod Standing

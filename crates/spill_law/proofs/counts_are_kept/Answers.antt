@@ -1,8 +1,0 @@
-use Rattle.spill_law.specs.Spill.{lows}
-use Rattle.spill_law.proofs.Lows.{one_low, six_fit}
-use Rattle.spill_law.proofs.Wholes.{whole}
-use Rattle.spill_law.proofs.Visits.{counts_kept}
-use Rattle.spill_law.proofs.counts_are_kept.Goals as goal
-
-pub returns : goal.returns
-returns c = λ k P h w a f. counts_kept (lows k) (one_low k h) P w a (whole (lows k) P (six_fit k h) w a f)

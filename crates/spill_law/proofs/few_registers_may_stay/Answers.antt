@@ -1,5 +1,0 @@
-use Rattle.spill_law.proofs.Small.{same}
-use Rattle.spill_law.proofs.few_registers_may_stay.Goals as goal
-
-pub returns : goal.returns
-returns c = same

@@ -1,8 +1,0 @@
-use Rattle.spill_law.proofs.Computed.{value_is, next_is}
-use Rattle.spill_law.proofs.types_are_told.Goals as goal
-
-pub returns-clause-types : goal.returns-clause-types
-returns-clause-types c = value_is
-
-pub returns-clause-files : goal.returns-clause-files
-returns-clause-files c = next_is

@@ -1,6 +1,0 @@
-pub mod Bound
-pub mod Bounded
-pub mod Correct
-pub mod Laws
-pub mod Reach
-pub mod Spill

@@ -1,6 +1,0 @@
-use Rattle.t_terms.specs.Read.{body}
-use Rattle.t_cut.specs.Steps.{Clear}
-use Rattle.t_cut.proofs.place.first_at.Given as goal
-
-abbrev pub invariant-loop-i : goal.invariant-loop-i
-invariant-loop-i l = Clear l.place l.i (body l.steps)

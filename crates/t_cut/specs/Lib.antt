@@ -1,4 +1,0 @@
-pub mod Before
-pub mod Cut
-pub mod Laws
-pub mod Steps

@@ -1,0 +1,9 @@
+pub mod Correct
+pub mod Counting
+pub mod GenLaws
+pub mod Laws
+pub mod Layout
+pub mod Registers
+pub mod Rules
+pub mod TypesEach
+pub mod Worked

@@ -1,0 +1,2 @@
+//! Code generation as a function on trees.
+#![tactic(auto)]

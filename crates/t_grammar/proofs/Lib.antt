@@ -1,4 +1,0 @@
-pub mod Empty
-pub mod Lines
-pub mod Raws
-pub mod Stepping

@@ -1,3 +1,0 @@
-pub mod Cursor
-pub mod Raw
-pub mod Reads

@@ -1,5 +1,0 @@
-use Rattle.t_lexer.proofs.Exact as exact
-use Rattle.t_lexer.proofs.laws.at_most_one_token_fault.Goals as goal
-
-pub returns : goal.returns
-returns c = exact.at_most_one_token_fault

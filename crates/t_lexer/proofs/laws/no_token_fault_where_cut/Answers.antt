@@ -1,5 +1,0 @@
-use Rattle.t_lexer.proofs.Exact as exact
-use Rattle.t_lexer.proofs.laws.no_token_fault_where_cut.Goals as goal
-
-pub returns : goal.returns
-returns c = exact.no_token_fault_where_cut

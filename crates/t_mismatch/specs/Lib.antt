@@ -1,2 +1,0 @@
-pub mod ReadMismatch
-pub mod Refusals

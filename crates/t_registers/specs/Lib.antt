@@ -1,6 +1,0 @@
-pub mod Fitted
-pub mod Known
-pub mod Labels
-pub mod Marks
-pub mod Parts
-pub mod Tells

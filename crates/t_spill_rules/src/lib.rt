@@ -1,0 +1,2 @@
+//! The bound on registers as a function on trees.
+#![tactic(auto)]

@@ -1,3 +1,0 @@
-pub mod AllKinds
-pub mod Rows
-mod Texts

@@ -1,0 +1,5 @@
+mod HintRows
+mod ValueLemmas
+mod BelowLemmas
+mod PathLemmas
+mod Rows

@@ -1,0 +1,9 @@
+pub mod Around
+pub mod Words
+pub mod Sentences
+pub mod Hints
+pub mod Line
+pub mod Form
+pub mod Value
+pub mod Apart
+pub mod LineLaws

@@ -1,0 +1,9 @@
+pub mod Listing
+pub mod Owing
+pub mod Wanted
+pub mod SourceTable
+pub mod SourceText
+pub mod SourceWords
+pub mod AssemblyTable
+pub mod AssemblyText
+pub mod AssemblyWords

@@ -1,0 +1,119 @@
+-- When words are a command, and what they ask for.
+use Rattle.std.specs.Prelude.{◌≡◌, ◌≤◌, ℕ, true, false, List, [], ◌∷◌, Option, Some, None, IsSome, codes}
+use Rattle.std.specs.Prelude.{if◌then◌else◌}
+use Rattle.std.specs.Prelude.{option_and_then, option_map}
+use Rattle.std.specs.Str.{bytes_eq}
+use Rattle.std.specs.Str.Parse.{digits_value, without_leading_plus}
+use Rattle.clap.specs.ValueTests.{accepts}
+use Rattle.clap.specs.Words.{Kinds, Row, Text, fault_of, first_of, one_of, subcommand_of}
+use Rattle.talc_words.specs.declared.form.Form.{Form}
+use Rattle.talc_words.specs.declared.form.Form.TheVariants.{Source, Cps, Closed, Hoisted, Allocated, Assembly}
+use Rattle.talc_words.specs.Description.{talc_app, whole_number}
+
+-- what the words ask for: to compile the source text of the file IN into the file OUT, or into a text that uses the
+-- registers up to a number alone, to check the TAL text of IN, to run it for so many instructions, to show the type of
+-- the source text of IN, to evaluate it within so many turns, to put the source of a seed through all of that and
+-- write it to the file OUT, to write the program of the TAL text of IN to the file OUT in the newest version of the
+-- language, to run the TAL text of IN and show its states from one number of instructions to another, to show a form
+-- of the program of the source text of IN, to show what is wrong with the source or TAL text of IN, to run the TAL
+-- text of IN for so many instructions and show what the run cost, to show the TAL text of IN with the types of the
+-- registers at each place, or to show what the forms of the source text of IN bind, with the types
+pub data Asked : Type 0 where
+  Compiles : (input output : Text) → Asked
+  CompilesWithin : (input output : Text) (registers : ℕ) → Asked
+  Checks : (input : Text) → Asked
+  Runs : (input : Text) (fuel : ℕ) → Asked
+  Types : (input : Text) → Asked
+  Evaluates : (input : Text) (turns : ℕ) → Asked
+  Generates : (seed : ℕ) (output : Text) → Asked
+  Upgrades : (input output : Text) → Asked
+  Traces : (input : Text) (from to : ℕ) → Asked
+  Shows : (input : Text) (form : Form) → Asked
+  Explains : (input : Text) → Asked
+  Costs : (input : Text) (fuel : ℕ) → Asked
+  Lists : (input : Text) → Asked
+  TypesNames : (input : Text) → Asked
+
+-- the number that a text writes, where `clap`'s reader of whole numbers takes it: decimal digits, perhaps after a plus,
+-- of a number below 2 ^ 64
+abbrev pub number_of : Text → Option ℕ
+number_of text = if accepts false whole_number text then Some (digits_value 10 (without_leading_plus text)) else None
+
+-- the number that `clap` reads from the first value of an argument
+abbrev pub number_in : Text → List Row → Option ℕ
+number_in name rows = option_and_then number_of (one_of name rows)
+
+-- the form that a name means
+abbrev pub form_named : Text → Option Form
+form_named name =
+    if bytes_eq name (codes "source") then Some Source
+    else (if bytes_eq name (codes "cps") then Some Cps
+    else (if bytes_eq name (codes "closed") then Some Closed
+    else (if bytes_eq name (codes "hoisted") then Some Hoisted
+    else (if bytes_eq name (codes "allocated") then Some Allocated
+    else (if bytes_eq name (codes "assembly") then Some Assembly else None)))))
+
+-- the form that the first value of the argument `form` names
+abbrev pub form_in : List Row → Option Form
+form_in rows = option_and_then form_named (first_of (codes "form") rows)
+
+-- what both values ask for, where both are there
+abbrev pub asked_with : {X : Type 0} → (Text → X → Asked) → Option Text → Option X → Option Asked
+asked_with asks (Some input) (Some more) = Some (asks input more)
+asked_with asks _ _ = None
+
+-- what a text and two numbers ask for, where all are there
+abbrev pub asked_between : Option Text → Option ℕ → Option ℕ → Option Asked
+asked_between (Some input) (Some from) (Some to) = Some (Traces input from to)
+asked_between _ _ _ = None
+
+-- what two texts ask for, and a third one, a number's, that may be left out
+abbrev pub asked_within : Option Text → Option Text → Option Text → Option Asked
+asked_within (Some input) (Some output) None = Some (Compiles input output)
+asked_within (Some input) (Some output) (Some text) = option_map (CompilesWithin input output) (number_of text)
+asked_within _ _ _ = None
+
+-- what a subcommand asks for, by its name and the values that `clap` gives its arguments
+abbrev pub asked_in : Text → List Row → Option Asked
+asked_in name rows =
+    let input = first_of (codes "IN") rows in
+    if bytes_eq name (codes "compile") then
+    asked_within input (first_of (codes "OUT") rows) (one_of (codes "registers") rows)
+    else (if bytes_eq name (codes "check") then option_map Checks input
+    else (if bytes_eq name (codes "run") then asked_with Runs input (number_in (codes "fuel") rows)
+    else (if bytes_eq name (codes "typeof") then option_map Types input
+    else (if bytes_eq name (codes "eval") then asked_with Evaluates input (number_in (codes "turns") rows)
+    else (if bytes_eq name (codes "gen") then
+    asked_with (λ output seed. Generates seed output) (first_of (codes "OUT") rows) (number_in (codes "seed") rows)
+    else (if bytes_eq name (codes "upgrade") then asked_with Upgrades input (first_of (codes "OUT") rows)
+    else (if bytes_eq name (codes "trace") then
+    asked_between input (number_in (codes "from") rows) (number_in (codes "to") rows)
+    else (if bytes_eq name (codes "show") then asked_with Shows input (form_in rows)
+    else (if bytes_eq name (codes "explain") then option_map Explains input
+    else (if bytes_eq name (codes "cost") then asked_with Costs input (number_in (codes "fuel") rows)
+    else (if bytes_eq name (codes "listing") then option_map Lists input
+    else (if bytes_eq name (codes "types") then option_map TypesNames input
+    else None))))))))))))
+
+abbrev pub asked_of : Option (Text × List Row) → Option Asked
+asked_of entered = option_and_then (λ p. asked_in p.0 p.1) entered
+
+-- the value, where no kind of error comes
+abbrev pub where_none : Kinds → Option Asked → Option Asked
+where_none [] asked = asked
+where_none (kind ∷ kinds) asked = None
+
+-- where the subcommand is `show`, its form has one of the six names
+abbrev pub NamesForm : Option (Text × List Row) → Type 0
+NamesForm None = Unit {0}
+NamesForm (Some entered) = bytes_eq entered.0 (codes "show") ≡ true → IsSome (form_in entered.1)
+
+-- The words are a command where they break no rule of `clap` by the description, and a form has one of the six names;
+-- then the subcommand and its values say what is asked. The first word is the program's name.
+unfoldable pub command_of : List Text → Option Asked
+command_of words = where_none (fault_of talc_app words) (asked_of (subcommand_of talc_app words))
+
+-- the registers to which a text is bounded are 8 at least
+abbrev pub EnoughRegisters : Asked → Type 0
+EnoughRegisters (CompilesWithin input output registers) = 8 ≤ registers
+EnoughRegisters other = Unit {0}

@@ -1,0 +1,45 @@
+// The forms of a program that can be shown.
+ghost use Rattle.std.specs.Prelude.{◌≡◌};
+ghost use Rattle.talc_words.specs.Command.{form_named};
+
+/// A form of a program, from the source to the assembly text (own choice of names).
+#[derive(Clone, Copy, Debug, PartialEq, Eq)]
+pub enum Form {
+    /// `source`: the source program itself.
+    Source,
+    /// `cps`: in continuation-passing style, after the CPS conversion.
+    Cps,
+    /// `closed`: after closure conversion.
+    Closed,
+    /// `hoisted`: after hoisting.
+    Hoisted,
+    /// `allocated`: with explicit allocation.
+    Allocated,
+    /// `assembly`: the assembly program, after code generation.
+    Assembly,
+}
+
+// The form that a name on the command line means.
+pub(crate) fn form_named(name: &str) -> Option<Form>
+    ensures { result ≡ form_named name.now }
+{
+    if name == "source" {
+        return Some(Form::Source);
+    }
+    if name == "cps" {
+        return Some(Form::Cps);
+    }
+    if name == "closed" {
+        return Some(Form::Closed);
+    }
+    if name == "hoisted" {
+        return Some(Form::Hoisted);
+    }
+    if name == "allocated" {
+        return Some(Form::Allocated);
+    }
+    if name == "assembly" {
+        return Some(Form::Assembly);
+    }
+    None
+}

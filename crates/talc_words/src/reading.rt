@@ -1,0 +1,234 @@
+// From the words of a command line to the command.
+ghost use Rattle.std.specs.Prelude.{◌≡◌, Some, codes, is_some, map, string_bytes};
+ghost use Rattle.std.specs.Option.{option_map};
+ghost use Rattle.clap.specs.Words.{first_of, found_of, kind_of, one_of, rows_of, subcommand_rows_of};
+ghost use Rattle.clap.specs.declared.error.kind.ErrorKind.TheVariants.{OutOfMemory};
+ghost use Rattle.talc_words.specs.Command.{asked_between, asked_in, asked_of, asked_with, asked_within, form_in, number_in};
+ghost use Rattle.talc_words.specs.Command.{Costs, Evaluates, Generates, Runs, Shows, Upgrades};
+ghost use Rattle.talc_words.specs.Reads.{asked_by, AsksFor, Reads};
+
+use crate::command::{Command, NoCommand};
+use crate::description::{show_words, talc_words};
+use crate::form::{Form, form_named};
+use clap::error::ErrorKind;
+use clap::{ArgMatches, Error};
+use std::alloc::{AllocError, Global};
+
+// The value of an argument.
+fn value<'a>(matches: &ArgMatches<'a>, name: &str) -> Option<&'a str>
+    ensures { option_map (λ s. s.now) result ≡ first_of name.now (rows_of (found_of matches.now)) }
+{
+    matches.get_str(name)
+}
+
+// The number that an option of whole numbers has.
+fn number(matches: &ArgMatches, name: &str) -> Option<u64>
+    ensures { result ≡ number_in name.now (rows_of (found_of matches.now)) }
+{
+    matches.get_one::<u64>(name)
+}
+
+// The form that the option has.
+fn form(matches: &ArgMatches) -> Option<Form>
+    ensures { result ≡ form_in (rows_of (found_of matches.now)) }
+{
+    form_named(value(matches, "form")?)
+}
+
+// Whether an argument has a value.
+fn is_there(matches: &ArgMatches, name: &str) -> bool
+    ensures { result ≡ is_some (one_of name.now (rows_of (found_of matches.now))) }
+{
+    value(matches, name).is_some()
+}
+
+// What `compile` asks for, with its option or without.
+fn compiling<'a>(matches: &ArgMatches<'a>) -> Option<Command<'a>>
+    ensures { option_map asked_by result ≡ asked_within (first_of (codes "IN") (rows_of (found_of matches.now)))
+        (first_of (codes "OUT") (rows_of (found_of matches.now)))
+        (one_of (codes "registers") (rows_of (found_of matches.now))) }
+{
+    let (input, output) = (value(matches, "IN")?, value(matches, "OUT")?);
+    if !is_there(matches, "registers") {
+        return Some(Command::Compile { input, output });
+    }
+    let registers = number(matches, "registers")?;
+    Some(Command::CompileWithin {
+        input,
+        output,
+        registers,
+    })
+}
+
+// What `run` asks for.
+fn running<'a>(matches: &ArgMatches<'a>) -> Option<Command<'a>>
+    ensures { option_map asked_by result ≡ asked_with Runs (first_of (codes "IN") (rows_of (found_of matches.now)))
+        (number_in (codes "fuel") (rows_of (found_of matches.now))) }
+{
+    let (input, fuel) = (value(matches, "IN")?, number(matches, "fuel")?);
+    Some(Command::Run { input, fuel })
+}
+
+// What `eval` asks for.
+fn evaluating<'a>(matches: &ArgMatches<'a>) -> Option<Command<'a>>
+    ensures { option_map asked_by result ≡ asked_with Evaluates (first_of (codes "IN") (rows_of (found_of matches.now)))
+        (number_in (codes "turns") (rows_of (found_of matches.now))) }
+{
+    let (input, turns) = (value(matches, "IN")?, number(matches, "turns")?);
+    Some(Command::Eval { input, turns })
+}
+
+// What `gen` asks for.
+fn generating<'a>(matches: &ArgMatches<'a>) -> Option<Command<'a>>
+    ensures { option_map asked_by result ≡ asked_with (λ output seed. Generates seed output)
+        (first_of (codes "OUT") (rows_of (found_of matches.now)))
+        (number_in (codes "seed") (rows_of (found_of matches.now))) }
+{
+    let (output, seed) = (value(matches, "OUT")?, number(matches, "seed")?);
+    Some(Command::Gen { seed, output })
+}
+
+// What `upgrade` asks for.
+fn upgrading<'a>(matches: &ArgMatches<'a>) -> Option<Command<'a>>
+    ensures { option_map asked_by result ≡ asked_with Upgrades (first_of (codes "IN") (rows_of (found_of matches.now)))
+        (first_of (codes "OUT") (rows_of (found_of matches.now))) }
+{
+    let input = value(matches, "IN")?;
+    let output = value(matches, "OUT")?;
+    Some(Command::Upgrade { input, output })
+}
+
+// What `trace` asks for.
+fn tracing<'a>(matches: &ArgMatches<'a>) -> Option<Command<'a>>
+    ensures { option_map asked_by result ≡ asked_between (first_of (codes "IN") (rows_of (found_of matches.now)))
+        (number_in (codes "from") (rows_of (found_of matches.now)))
+        (number_in (codes "to") (rows_of (found_of matches.now))) }
+{
+    let (input, from) = (value(matches, "IN")?, number(matches, "from")?);
+    let to = number(matches, "to")?;
+    Some(Command::Trace { input, from, to })
+}
+
+// What `show` asks for.
+fn showing<'a>(matches: &ArgMatches<'a>) -> Option<Command<'a>>
+    ensures { option_map asked_by result ≡ asked_with Shows (first_of (codes "IN") (rows_of (found_of matches.now)))
+        (form_in (rows_of (found_of matches.now))) }
+{
+    let (input, form) = (value(matches, "IN")?, form(matches)?);
+    Some(Command::Show { input, form })
+}
+
+// What `cost` asks for.
+fn costing<'a>(matches: &ArgMatches<'a>) -> Option<Command<'a>>
+    ensures { option_map asked_by result ≡ asked_with Costs (first_of (codes "IN") (rows_of (found_of matches.now)))
+        (number_in (codes "fuel") (rows_of (found_of matches.now))) }
+{
+    let (input, fuel) = (value(matches, "IN")?, number(matches, "fuel")?);
+    Some(Command::Cost { input, fuel })
+}
+
+// What the subcommand that was entered asks for.
+fn entered<'a>(name: &str, matches: &ArgMatches<'a>) -> Option<Command<'a>>
+    ensures { option_map asked_by result ≡ asked_in name.now (rows_of (found_of matches.now)) }
+{
+    match name {
+        "compile" => compiling(matches),
+        "check" => {
+            let input = value(matches, "IN")?;
+            Some(Command::Check { input })
+        }
+        "run" => running(matches),
+        "typeof" => {
+            let input = value(matches, "IN")?;
+            Some(Command::Typeof { input })
+        }
+        "eval" => evaluating(matches),
+        "gen" => generating(matches),
+        "upgrade" => upgrading(matches),
+        "trace" => tracing(matches),
+        "show" => showing(matches),
+        "explain" => {
+            let input = value(matches, "IN")?;
+            Some(Command::Explain { input })
+        }
+        "cost" => costing(matches),
+        "listing" => {
+            let input = value(matches, "IN")?;
+            Some(Command::Listing { input })
+        }
+        "types" => {
+            let input = value(matches, "IN")?;
+            Some(Command::Types { input })
+        }
+        _ => None,
+    }
+}
+
+// What the subcommand of a parse asks for.
+fn asked<'a>(matches: &ArgMatches<'a>) -> Option<Command<'a>>
+    ensures { option_map asked_by result ≡ asked_of (subcommand_rows_of matches.now) }
+{
+    match matches.subcommand() {
+        Some((name, matches)) => entered(name, matches),
+        None => None,
+    }
+}
+
+// The text of an error, unless the error is itself want of memory.
+fn not_taken(alloc: Global, error: &Error) -> NoCommand
+    ensures { kind_of error.now ≡ OutOfMemory → result ≡ NoCommand.Memory }
+{
+    if error.kind() == ErrorKind::OutOfMemory {
+        return NoCommand::Memory;
+    }
+    match format!(in alloc; "{error}") {
+        Ok(text) => NoCommand::Usage(text),
+        Err(_) => NoCommand::Memory,
+    }
+}
+
+// `clap`'s error on a value of `form` that names no form.
+fn no_form(alloc: Global, name: &str) -> Result<Error, AllocError> {
+    let text = format!(in alloc;
+        "invalid value '{name}' for '--form <F>'
+  [possible values: source, cps, closed, hoisted, allocated, assembly]"
+    )?;
+    let mut show = show_words(alloc)?.bin_name("talc show")?;
+    show.error(ErrorKind::InvalidValue, text.as_str())
+}
+
+// The text on words that `clap` takes, and that ask for nothing.
+fn not_asked(alloc: Global, matches: &ArgMatches) -> NoCommand {
+    let name = match matches.subcommand() {
+        Some((_, found)) => value(found, "form"),
+        None => None,
+    };
+    match no_form(alloc, name.unwrap_or("")) {
+        Ok(error) => not_taken(alloc, &error),
+        Err(_) => NoCommand::Memory,
+    }
+}
+
+// What the words of a parse ask for, or the text where they ask for nothing.
+fn asked_or_not<'a>(alloc: Global, matches: &ArgMatches<'a>) -> Result<Command<'a>, NoCommand>
+    ensures { AsksFor (asked_of (subcommand_rows_of matches.now)) result }
+{
+    match asked(matches) {
+        Some(command) => Ok(command),
+        None => Err(not_asked(alloc, matches)),
+    }
+}
+
+/// What the words ask for, where they are a command by the description of the command line; the program's own name is
+/// the first of them, and a form has one of the six names. Words that are none come back as `clap`'s text for the user.
+pub fn read<'a>(alloc: Global, words: &'a Vec<String>) -> Result<Command<'a>, NoCommand>
+    ensures { Reads (map string_bytes words.entry.now.items) result }
+{
+    let Ok(description) = talc_words(alloc) else {
+        return Err(NoCommand::Memory);
+    };
+    match description.try_get_matches_from(words.as_slice()) {
+        Ok(matches) => asked_or_not(alloc, &matches),
+        Err(error) => Err(not_taken(alloc, &error)),
+    }
+}

@@ -1,5 +1,0 @@
-use Rattle.term_core.specs.TyLaws.{put_put}
-use Rattle.term_core.proofs.laws.puts_exchange.Goals as goal
-
-pub returns : goal.returns
-returns c = put_put

@@ -46,10 +46,23 @@ program = record {
   tuples = (record { value = Num (pos 7); kind = AInt } ∷ (record { value = Lab 0; kind = AInt } ∷ [])) ∷ ([] ∷ []);
 }
 
-program_is : a_text program main ≡
+program_is : a_text false program main ≡
     codes "L0: code[a](x0: int, x1: some b. b).\n  let x2 = malloc[int]\n  let x3 = x2[1] <- -5\n  if0 x0 then\n"
     ++ (codes "    let [b, x4] = unpack x1\n    let x5 = #2 x4\n    halt x5\n  else\n"
     ++ (codes "    L0[int][](x0, pack [int, D0] as some b. b)\n\nD0: <7, L0>\nD1: <>\n\n"
     ++ codes "main:\n  let x0 = D0\n  let x1 = 2 * 3\n  halt x1\n"))
 unfolding digits
 program_is = refl
+
+-- and with the types of what is bound
+abbrev small : ATm
+small = Let (Malloc (MoreATys AInt (MoreATys AInt NoATys))) (Let (Init (Var 0) 2 (Num (pos 5)))
+    (Let (Value (Pack AInt (Num (pos 7)) (AExists (AVar 0)))) (Let (Unpack (Var 0)) (Let (Arith Mul (Num (pos 2))
+    (Num (pos 3))) (Let (Value (Lab 0)) (Halt (Num (pos 0))))))))
+
+typed_is : a_text true (record { blocks = []; tuples = [] }) small ≡
+    codes "main:\n  let x0: <int?, int?> = malloc[int, int]\n  let x1: <int?, int> = x0[2] <- 5\n"
+    ++ (codes "  let x2: some a. a = pack [int, 7] as some a. a\n  let [a, x3: a] = unpack x2\n"
+    ++ codes "  let x4: int = 2 * 3\n  let x5: int = L0\n  halt 0\n")
+unfolding digits
+typed_is = refl

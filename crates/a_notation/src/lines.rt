@@ -1,5 +1,5 @@
 // What a node says on its line.
-ghost use Rattle.std.specs.Prelude.{◌≡◌, ◌≤◌, ◌++◌, length, OnOk};
+ghost use Rattle.std.specs.Prelude.{◌≡◌, ◌≤◌, ◌++◌, [], length, OnOk};
 ghost use Rattle.a_terms.specs.NodeTrees.{a_values, no_value};
 ghost use Rattle.a_terms.specs.Read.{atrees};
 ghost use Rattle.a_terms.specs.Row.{others, top};
@@ -14,23 +14,29 @@ use a_terms::{AForm, AType, AValue};
 use idx_core::{Op, OutOfMemory};
 use page_core::{write_natural, write_op, write_type_name, write_value_name};
 
-// The name that a declaration gives.
-fn write_let(text: &mut Vec<u8>, names: u64) -> Result<(), OutOfMemory>
-    ensures { OnOk result (text.new.items ≡ text.old.items ++ let_text names) }
+// The name that a declaration gives, and what stands behind it.
+fn write_let(text: &mut Vec<u8>, names: u64, note: &[u8]) -> Result<(), OutOfMemory>
+    ensures { OnOk result (text.new.items ≡ text.old.items ++ let_text names note.now) }
 {
     text.extend_from_slice(b"let ")?;
     write_value_name(text, names)?;
+    text.extend_from_slice(note)?;
     text.extend_from_slice(b" = ")?;
     Ok(())
 }
 
 // A declaration of a value as it stands.
-fn write_named(text: &mut Vec<u8>, values: &[AValue], scope: &Scope) -> Result<(), OutOfMemory>
+fn write_named(
+    text: &mut Vec<u8>,
+    values: &[AValue],
+    scope: &Scope,
+    note: &[u8],
+) -> Result<(), OutOfMemory>
     requires { 1 ≤ length values.now }
     ensures { OnOk result (text.new.items ≡
-        text.old.items ++ form_text scope.now.types scope.now.names Value (a_values values.now)) }
+        text.old.items ++ form_text scope.now.types scope.now.names note.now Value (a_values values.now)) }
 {
-    write_let(text, scope.names)?;
+    write_let(text, scope.names, note)?;
     write_first(text, values, scope.types, scope.names)?;
     Ok(())
 }
@@ -40,12 +46,13 @@ fn write_arith(
     op: Op,
     values: &[AValue],
     scope: &Scope,
+    note: &[u8],
 ) -> Result<(), OutOfMemory>
     requires { 2 ≤ length values.now }
     ensures { OnOk result (text.new.items ≡
-        text.old.items ++ form_text scope.now.types scope.now.names (Arith op) (a_values values.now)) }
+        text.old.items ++ form_text scope.now.types scope.now.names note.now (Arith op) (a_values values.now)) }
 {
-    write_let(text, scope.names)?;
+    write_let(text, scope.names, note)?;
     write_first(text, values, scope.types, scope.names)?;
     write_op(text, op)?;
     write_second(text, values, scope.types, scope.names)?;
@@ -57,12 +64,13 @@ fn write_proj(
     field: u64,
     values: &[AValue],
     scope: &Scope,
+    note: &[u8],
 ) -> Result<(), OutOfMemory>
     requires { 1 ≤ length values.now }
     ensures { OnOk result (text.new.items ≡
-        text.old.items ++ form_text scope.now.types scope.now.names (Proj field) (a_values values.now)) }
+        text.old.items ++ form_text scope.now.types scope.now.names note.now (Proj field) (a_values values.now)) }
 {
-    write_let(text, scope.names)?;
+    write_let(text, scope.names, note)?;
     text.extend_from_slice(b"#")?;
     write_natural(text, field)?;
     text.extend_from_slice(b" ")?;
@@ -70,25 +78,36 @@ fn write_proj(
     Ok(())
 }
 
-fn write_unpack(text: &mut Vec<u8>, values: &[AValue], scope: &Scope) -> Result<(), OutOfMemory>
+fn write_unpack(
+    text: &mut Vec<u8>,
+    values: &[AValue],
+    scope: &Scope,
+    note: &[u8],
+) -> Result<(), OutOfMemory>
     requires { 1 ≤ length values.now }
     ensures { OnOk result (text.new.items ≡
-        text.old.items ++ form_text scope.now.types scope.now.names Unpack (a_values values.now)) }
+        text.old.items ++ form_text scope.now.types scope.now.names note.now Unpack (a_values values.now)) }
 {
     text.extend_from_slice(b"let [")?;
     write_type_name(text, scope.types)?;
     text.extend_from_slice(b", ")?;
     write_value_name(text, scope.names)?;
+    text.extend_from_slice(note)?;
     text.extend_from_slice(b"] = unpack ")?;
     write_first(text, values, scope.types, scope.names)?;
     Ok(())
 }
 
-fn write_malloc(text: &mut Vec<u8>, types: &[AType], scope: &Scope) -> Result<(), OutOfMemory>
+fn write_malloc(
+    text: &mut Vec<u8>,
+    types: &[AType],
+    scope: &Scope,
+    note: &[u8],
+) -> Result<(), OutOfMemory>
     ensures { OnOk result (text.new.items ≡ text.old.items
-        ++ malloc_text scope.now.types scope.now.names (atrees types.now)) }
+        ++ malloc_text scope.now.types scope.now.names note.now (atrees types.now)) }
 {
-    write_let(text, scope.names)?;
+    write_let(text, scope.names, note)?;
     text.extend_from_slice(b"malloc[")?;
     write_types(text, types, 0, scope.types)?;
     text.extend_from_slice(b"]")?;
@@ -100,12 +119,13 @@ fn write_init(
     field: u64,
     values: &[AValue],
     scope: &Scope,
+    note: &[u8],
 ) -> Result<(), OutOfMemory>
     requires { 2 ≤ length values.now }
     ensures { OnOk result (text.new.items ≡
-        text.old.items ++ form_text scope.now.types scope.now.names (Init field) (a_values values.now)) }
+        text.old.items ++ form_text scope.now.types scope.now.names note.now (Init field) (a_values values.now)) }
 {
-    write_let(text, scope.names)?;
+    write_let(text, scope.names, note)?;
     write_first(text, values, scope.types, scope.names)?;
     text.extend_from_slice(b"[")?;
     write_natural(text, field)?;
@@ -137,7 +157,7 @@ fn write_call(
 fn write_if0(text: &mut Vec<u8>, values: &[AValue], scope: &Scope) -> Result<(), OutOfMemory>
     requires { 1 ≤ length values.now }
     ensures { OnOk result (text.new.items ≡
-        text.old.items ++ form_text scope.now.types scope.now.names If0 (a_values values.now)) }
+        text.old.items ++ form_text scope.now.types scope.now.names [] If0 (a_values values.now)) }
 {
     text.extend_from_slice(b"if0 ")?;
     write_first(text, values, scope.types, scope.names)?;
@@ -148,31 +168,32 @@ fn write_if0(text: &mut Vec<u8>, values: &[AValue], scope: &Scope) -> Result<(),
 fn write_halt(text: &mut Vec<u8>, values: &[AValue], scope: &Scope) -> Result<(), OutOfMemory>
     requires { 1 ≤ length values.now }
     ensures { OnOk result (text.new.items ≡
-        text.old.items ++ form_text scope.now.types scope.now.names Halt (a_values values.now)) }
+        text.old.items ++ form_text scope.now.types scope.now.names [] Halt (a_values values.now)) }
 {
     text.extend_from_slice(b"halt ")?;
     write_first(text, values, scope.types, scope.names)?;
     Ok(())
 }
 
-/// What a node says on its line. An error is want of memory.
+/// What a node says on its line, with a text behind the name that it gives. An error is want of memory.
 pub(crate) fn write_form(
     text: &mut Vec<u8>,
     form: &AForm,
     values: &[AValue],
     scope: &Scope,
+    note: &[u8],
 ) -> Result<(), OutOfMemory>
     requires { least form.now ≤ length values.now }
     ensures { OnOk result (text.new.items ≡
-        text.old.items ++ form_text scope.now.types scope.now.names form.now (a_values values.now)) }
+        text.old.items ++ form_text scope.now.types scope.now.names note.now form.now (a_values values.now)) }
 {
     match form {
-        AForm::Value => write_named(text, values, scope),
-        AForm::Proj(field) => write_proj(text, *field, values, scope),
-        AForm::Arith(op) => write_arith(text, *op, values, scope),
-        AForm::Unpack => write_unpack(text, values, scope),
-        AForm::Malloc(types) => write_malloc(text, types, scope),
-        AForm::Init(field) => write_init(text, *field, values, scope),
+        AForm::Value => write_named(text, values, scope, note),
+        AForm::Proj(field) => write_proj(text, *field, values, scope, note),
+        AForm::Arith(op) => write_arith(text, *op, values, scope, note),
+        AForm::Unpack => write_unpack(text, values, scope, note),
+        AForm::Malloc(types) => write_malloc(text, types, scope, note),
+        AForm::Init(field) => write_init(text, *field, values, scope, note),
         AForm::Call(types) => write_call(text, types, values, scope),
         AForm::If0 => write_if0(text, values, scope),
         AForm::Halt => write_halt(text, values, scope),

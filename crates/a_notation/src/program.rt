@@ -1,16 +1,20 @@
 // Programs.
-ghost use Rattle.std.specs.Prelude.{◌≡◌, ◌++◌, IfOk, OnOk};
+ghost use Rattle.std.specs.Prelude.{◌≡◌, ◌++◌, [], IfOk, OnOk, length};
+ghost use Rattle.a_scope.specs.Scope.{scope, Under};
 ghost use Rattle.a_terms.specs.Arity.{ARow, ARows};
 ghost use Rattle.a_terms.specs.NodeTrees.{a_block, a_blocks, a_consts, a_data};
 ghost use Rattle.a_terms.specs.Program.{main_in, program_in};
 ghost use Rattle.a_terms.specs.Read.{atrees};
+ghost use Rattle.a_terms.specs.Tree.{arity};
+ghost use Rattle.a_terms.specs.Typing.{types_of};
 ghost use Rattle.a_notation.specs.Notation.{a_text, args_text, block_text, blocks_text, data_text, head_text};
-ghost use Rattle.a_notation.specs.Notation.{tuple_text};
-ghost use Rattle.a_notation.specs.Notation.{tuples_text};
+ghost use Rattle.a_notation.specs.Notation.{tuple_text, tuples_text};
 
+use crate::scope::Source;
 use crate::terms::write_term;
 use crate::types::write_type;
 use crate::values::write_consts;
+use a_scope::{Entry, noted_lent};
 use a_terms::{ABlock, AData, AProgram, AType};
 use idx_core::OutOfMemory;
 use page_core::{write_natural, write_separator, write_type_names, write_value_name};
@@ -43,34 +47,48 @@ fn write_head(text: &mut Vec<u8>, label: u64, owes: u64, args: &[AType]) -> Resu
     Ok(())
 }
 
+// The variables of a block's arguments.
+fn arguments<'a>(alloc: Global, owes: u64, args: &'a [AType]) -> Result<Vec<Entry<'a>>, OutOfMemory>
+    ensures scope { IfOk result (λ r. scope owes r.items ≡ types_of (atrees args.now) []) }
+    ensures under { IfOk result (λ r. Under owes r.items) }
+    ensures long { IfOk result (λ r. length r.items ≡ arity (atrees args.now)) }
+{
+    let mut vars = Vec::new(alloc);
+    for t in args {
+        vars.push(noted_lent(t, owes))?;
+    }
+    Ok(vars)
+}
+
 // A block, and an empty line.
-fn write_block(
-    alloc: Global,
+fn write_block<'a>(
+    of: Source<'a>,
     text: &mut Vec<u8>,
     label: u64,
-    block: &ABlock,
+    block: &'a ABlock,
 ) -> Result<(), OutOfMemory>
     requires { ARow block.now.body.items 1 }
-    ensures { OnOk result (text.new.items ≡ text.old.items ++ block_text label (a_block block.now)) }
+    ensures { OnOk result (text.new.items ≡ text.old.items
+        ++ block_text of.entry.typed (program_in of.entry.program.now) label (a_block block.now)) }
 {
     write_head(text, label, block.owes, &block.args)?;
-    write_term(
-        alloc,
-        text,
-        &block.body,
-        block.owes,
-        block.args.len() as u64,
-    )?;
+    let vars = arguments(of.alloc, block.owes, &block.args)?;
+    write_term(of, text, &block.body, block.owes, vars)?;
     text.extend_from_slice(b"\n")?;
     Ok(())
 }
 
-fn write_blocks(alloc: Global, text: &mut Vec<u8>, blocks: &[ABlock]) -> Result<(), OutOfMemory>
+fn write_blocks<'a>(
+    of: Source<'a>,
+    text: &mut Vec<u8>,
+    blocks: &'a [ABlock],
+) -> Result<(), OutOfMemory>
     requires { ARows blocks.now }
-    ensures { OnOk result (text.new.items ≡ text.old.items ++ blocks_text 0 (a_blocks blocks.now)) }
+    ensures { OnOk result (text.new.items ≡ text.old.items
+        ++ blocks_text of.entry.typed (program_in of.entry.program.now) 0 (a_blocks blocks.now)) }
 {
     for (label, block) in blocks.iter().enumerate() {
-        write_block(alloc, text, label as u64, block)?;
+        write_block(of, text, label as u64, block)?;
     }
     Ok(())
 }
@@ -108,14 +126,24 @@ fn write_data(text: &mut Vec<u8>, tuples: &[AData]) -> Result<(), OutOfMemory>
 }
 
 /// The text of an allocated program: its blocks, its data tuples and its main term, in the notation that `a_text`
-/// defines (own choice). One program has one text. An error is want of memory.
-pub fn write_allocated(alloc: Global, program: &AProgram) -> Result<Vec<u8>, OutOfMemory>
-    ensures { IfOk result (λ text. text.items ≡ a_text (program_in program.now) (main_in program.now)) }
+/// defines (own choice), with the type of what each `let` binds if `typed`. One program has one text. An error is want
+/// of memory.
+pub fn write_allocated(
+    alloc: Global,
+    program: &AProgram,
+    typed: bool,
+) -> Result<Vec<u8>, OutOfMemory>
+    ensures { IfOk result (λ text. text.items ≡ a_text typed (program_in program.now) (main_in program.now)) }
 {
+    let of = Source {
+        alloc,
+        program,
+        typed,
+    };
     let mut text = Vec::new(alloc);
-    write_blocks(alloc, &mut text, program.blocks())?;
+    write_blocks(of, &mut text, program.blocks())?;
     write_data(&mut text, program.data())?;
     text.extend_from_slice(b"main:\n")?;
-    write_term(alloc, &mut text, program.main(), 0, 0)?;
+    write_term(of, &mut text, program.main(), 0, Vec::new(alloc))?;
     Ok(text)
 }

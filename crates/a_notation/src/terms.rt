@@ -1,14 +1,18 @@
 // Terms, a line for each node.
 ghost use Rattle.std.specs.Prelude.{◌≡◌, ◌+◌, ◌<◌, ◌∷◌, ◌++◌, IfOk, List, OnOk, length};
 ghost use Rattle.std.specs.Prelude.{reverse, true, false};
+ghost use Rattle.a_scope.specs.Scope.{scope, Under};
 ghost use Rattle.a_terms.specs.Arity.{AArity, ARow, a_kids};
-ghost use Rattle.a_terms.specs.NodeTrees.{a_build, a_tree, a_values};
-ghost use Rattle.a_terms.specs.Tree.{ATm};
-ghost use Rattle.a_notation.specs.Notation.{term_text};
-ghost use Rattle.a_notation.specs.Scopes.{behind, below, branch, node_text, opening, terms_text};
+ghost use Rattle.a_terms.specs.NodeTrees.{a_build, a_decl, a_let, a_tree, a_values, is_decl};
+ghost use Rattle.a_terms.specs.Program.{program_in};
+ghost use Rattle.a_terms.specs.Tree.{ATm, ATy};
+ghost use Rattle.a_notation.specs.Notation.{note_text, term_text};
+ghost use Rattle.a_notation.specs.Scopes.{behind, below, branch, node_text, opening, terms_text, Fit, Ready, Stepped};
 
 use crate::lines::write_form;
-use crate::scope::Scope;
+use crate::scope::{Scope, Source, Walk};
+use crate::types::write_type;
+use a_scope::{Entry, declare, show};
 use a_terms::{AForm, ANode};
 use idx_core::{OutOfMemory, sum};
 use page_core::write_margin;
@@ -25,24 +29,55 @@ fn write_opening(text: &mut Vec<u8>, scope: &Scope) -> Result<(), OutOfMemory>
     Ok(())
 }
 
-// All that is written at a node.
-fn write_node(text: &mut Vec<u8>, node: &ANode, scope: &Scope) -> Result<(), OutOfMemory>
+// What stands behind the name of the last variable, where so many type names are in scope.
+fn noted(alloc: Global, vars: &[Entry], types: u64) -> Result<Vec<u8>, OutOfMemory>
+    requires { 0 < length vars.now }
+    ensures { IfOk result (λ note. (t : ATy) (g : List ATy) → scope types vars.now ≡ t ∷ g →
+        note.items ≡ note_text true types t) }
+{
+    let count = vars.len();
+    let t = show(alloc, &vars[count - 1], types)?;
+    let mut note = Vec::new(alloc);
+    note.extend_from_slice(b": ")?;
+    write_type(&mut note, &t, types)?;
+    Ok(note)
+}
+
+// The same, if types are shown.
+fn note_of_last(of: Source, vars: &[Entry], types: u64) -> Result<Vec<u8>, OutOfMemory>
+    requires { 0 < length vars.now }
+    ensures { IfOk result (λ note. (t : ATy) (g : List ATy) → scope types vars.now ≡ t ∷ g →
+        note.items ≡ note_text of.entry.typed types t) }
+{
+    if of.typed {
+        let note = noted(of.alloc, vars, types)?;
+        return Ok(note);
+    }
+    Ok(Vec::new(of.alloc))
+}
+
+// All that is written at a node, with a text behind the name that it gives.
+fn write_node(
+    text: &mut Vec<u8>,
+    node: &ANode,
+    scope: &Scope,
+    note: &[u8],
+) -> Result<(), OutOfMemory>
     requires { AArity node.now.form (a_values node.now.values.items) }
     ensures { OnOk result (text.new.items ≡
-        text.old.items ++ node_text scope.now node.now.form (a_values node.now.values.items)) }
+        text.old.items ++ node_text scope.now note.now node.now.form (a_values node.now.values.items)) }
 {
     write_opening(text, scope)?;
     write_margin(text, scope.level)?;
-    write_form(text, &node.form, &node.values, scope)?;
+    write_form(text, &node.form, &node.values, scope, note)?;
     text.extend_from_slice(b"\n")?;
     Ok(())
 }
 
-// The scope behind a declaration that gives so many type names.
+// The scope behind a declaration, with so many type names.
 fn scope_behind(scope: &Scope, types: u64) -> Result<Scope, OutOfMemory>
     ensures { IfOk result (λ s. s ≡ behind types scope.now) }
 {
-    let types = sum(scope.types, types)?;
     let names = sum(scope.names, 1)?;
     Ok(Scope {
         types,
@@ -65,15 +100,6 @@ fn scope_of_branch(scope: &Scope, second: bool) -> Result<Scope, OutOfMemory>
     })
 }
 
-// The scope behind a declaration comes next.
-fn push_behind(scopes: &mut Vec<Scope>, scope: &Scope, types: u64) -> Result<(), OutOfMemory>
-    ensures { OnOk result (reverse scopes.new.items ≡ behind types scope.now ∷ reverse scopes.old.items) }
-{
-    let next = scope_behind(scope, types)?;
-    scopes.push(next)?;
-    Ok(())
-}
-
 // The scopes of both branches come next.
 fn push_branches(scopes: &mut Vec<Scope>, scope: &Scope) -> Result<(), OutOfMemory>
     ensures { OnOk result (reverse scopes.new.items ≡
@@ -86,62 +112,160 @@ fn push_branches(scopes: &mut Vec<Scope>, scope: &Scope) -> Result<(), OutOfMemo
     Ok(())
 }
 
-// The scopes of the terms below a node come next, the first on top.
+// The scopes of the terms below a node that declares nothing come next, the first on top.
 fn push_scopes(scopes: &mut Vec<Scope>, form: &AForm, scope: &Scope) -> Result<(), OutOfMemory>
     ensures { OnOk result (reverse scopes.new.items ≡ below form.now scope.now ++ reverse scopes.old.items) }
 {
     match form {
-        AForm::Value => push_behind(scopes, scope, 0),
-        AForm::Proj(_) => push_behind(scopes, scope, 0),
-        AForm::Arith(_) => push_behind(scopes, scope, 0),
-        AForm::Unpack => push_behind(scopes, scope, 1),
-        AForm::Malloc(_) => push_behind(scopes, scope, 0),
-        AForm::Init(_) => push_behind(scopes, scope, 0),
-        AForm::Call(_) => Ok(()),
         AForm::If0 => push_branches(scopes, scope),
-        AForm::Halt => Ok(()),
+        _ => Ok(()),
     }
 }
 
-// Writes a node, the first of the term whose scope is on top. The terms below it come next.
-fn step(text: &mut Vec<u8>, scopes: &mut Vec<Scope>, node: &ANode) -> Result<(), OutOfMemory>
+// A declaration.
+fn step_let<'a>(
+    of: Source<'a>,
+    text: &mut Vec<u8>,
+    walk: &mut Walk<'a>,
+    scope: Scope,
+    node: &'a ANode,
+) -> Result<(), OutOfMemory>
+    requires form { is_decl node.now.form ≡ true }
     requires arity { AArity node.now.form (a_values node.now.values.items) }
-    requires some { 0 < length scopes.old.items }
-    ensures written { OnOk result ((ts : List ATm) →
-        text.new.items ++ terms_text (reverse scopes.new.items) ts ≡ text.old.items
-        ++ terms_text (reverse scopes.old.items) (a_build node.now.form (a_values node.now.values.items) ts)) }
-    ensures count { OnOk result (length scopes.new.items + 1 ≡ a_kids node.now.form + length scopes.old.items) }
+    requires ready { Ready walk.old.vars.items scope walk.old.scopes.items }
+    ensures { OnOk result (Stepped of.entry.typed (program_in of.entry.program.now) scope
+        (a_let (a_decl node.now.form (a_values node.now.values.items))) 1 walk.old.vars.items walk.new.vars.items
+        walk.old.scopes.items walk.new.scopes.items text.old.items text.new.items) }
 {
-    match scopes.pop() {
+    let values = node.values.as_slice();
+    let types = declare(
+        of.alloc,
+        of.program,
+        &mut walk.vars,
+        scope.types,
+        0,
+        &node.form,
+        values,
+    )?;
+    let note = note_of_last(of, &walk.vars, types)?;
+    write_node(text, node, &scope, &note)?;
+    let next = scope_behind(&scope, types)?;
+    walk.scopes.push(next)?;
+    Ok(())
+}
+
+// A node that declares nothing.
+fn step_other(
+    of: Source,
+    text: &mut Vec<u8>,
+    walk: &mut Walk,
+    scope: Scope,
+    node: &ANode,
+) -> Result<(), OutOfMemory>
+    requires form { is_decl node.now.form ≡ false }
+    requires arity { AArity node.now.form (a_values node.now.values.items) }
+    requires ready { Ready walk.old.vars.items scope walk.old.scopes.items }
+    ensures { OnOk result (Stepped of.entry.typed (program_in of.entry.program.now) scope
+        (a_build node.now.form (a_values node.now.values.items)) (a_kids node.now.form)
+        walk.old.vars.items walk.new.vars.items walk.old.scopes.items walk.new.scopes.items
+        text.old.items text.new.items) }
+{
+    write_node(text, node, &scope, b"")?;
+    push_scopes(&mut walk.scopes, &node.form, &scope)?;
+    Ok(())
+}
+
+// Whether a node is a declaration.
+fn declares(form: &AForm) -> bool
+    ensures { result ≡ is_decl form.now }
+{
+    match form {
+        AForm::Call(_) | AForm::If0 | AForm::Halt => false,
+        AForm::Value | AForm::Proj(_) | AForm::Arith(_) => true,
+        AForm::Unpack | AForm::Malloc(_) | AForm::Init(_) => true,
+    }
+}
+
+// A node in its scope.
+fn step_at<'a>(
+    of: Source<'a>,
+    text: &mut Vec<u8>,
+    walk: &mut Walk<'a>,
+    scope: Scope,
+    node: &'a ANode,
+) -> Result<(), OutOfMemory>
+    requires arity { AArity node.now.form (a_values node.now.values.items) }
+    requires ready { Ready walk.old.vars.items scope walk.old.scopes.items }
+    ensures { OnOk result (Stepped of.entry.typed (program_in of.entry.program.now) scope
+        (a_build node.now.form (a_values node.now.values.items)) (a_kids node.now.form)
+        walk.old.vars.items walk.new.vars.items walk.old.scopes.items walk.new.scopes.items
+        text.old.items text.new.items) }
+{
+    if declares(&node.form) {
+        step_let(of, text, walk, scope, node)?;
+        return Ok(());
+    }
+    step_other(of, text, walk, scope, node)?;
+    Ok(())
+}
+
+// Writes a node, the first of the term whose scope is on top. The terms below it come next.
+fn step<'a>(
+    of: Source<'a>,
+    text: &mut Vec<u8>,
+    walk: &mut Walk<'a>,
+    node: &'a ANode,
+) -> Result<(), OutOfMemory>
+    requires arity { AArity node.now.form (a_values node.now.values.items) }
+    requires some { 0 < length walk.old.scopes.items }
+    requires fit { Fit walk.old.vars.items (length walk.old.vars.items) (reverse walk.old.scopes.items) }
+    ensures written { OnOk result ((ts : List ATm) → text.new.items
+        ++ terms_text of.entry.typed (program_in of.entry.program.now) walk.new.vars.items
+        (reverse walk.new.scopes.items) ts
+        ≡ text.old.items ++ terms_text of.entry.typed (program_in of.entry.program.now) walk.old.vars.items
+        (reverse walk.old.scopes.items) (a_build node.now.form (a_values node.now.values.items) ts)) }
+    ensures fit { OnOk result (Fit walk.new.vars.items (length walk.new.vars.items)
+        (reverse walk.new.scopes.items)) }
+    ensures count { OnOk result (length walk.new.scopes.items + 1
+        ≡ a_kids node.now.form + length walk.old.scopes.items) }
+{
+    match walk.scopes.pop() {
         Some(scope) => {
-            write_node(text, node, &scope)?;
-            push_scopes(scopes, &node.form, &scope)?;
+            walk.vars.truncate(scope.names as usize);
+            step_at(of, text, walk, scope, node)?;
             Ok(())
         }
         None => unreachable!(),
     }
 }
 
-/// A term inside so many type names and value names, at the first level. An error is want of memory.
-pub(crate) fn write_term(
-    alloc: Global,
+/// A term inside so many type names and these variables, at the first level. An error is want of memory.
+pub(crate) fn write_term<'a>(
+    of: Source<'a>,
     text: &mut Vec<u8>,
-    nodes: &[ANode],
+    nodes: &'a [ANode],
     types: u64,
-    names: u64,
+    vars: Vec<Entry<'a>>,
 ) -> Result<(), OutOfMemory>
-    requires { ARow nodes.now 1 }
-    ensures { OnOk result (text.new.items ≡ text.old.items ++ term_text types names 1 (a_tree nodes.now)) }
+    requires row { ARow nodes.now 1 }
+    requires under { Under types vars.items }
+    ensures { OnOk result (text.new.items ≡ text.old.items
+        ++ term_text of.entry.typed (program_in of.entry.program.now) (scope types vars.entry.items) types
+        (length vars.entry.items) 1 (a_tree nodes.now)) }
 {
-    let mut scopes = Vec::new(alloc);
-    scopes.push(Scope {
+    let names = vars.len() as u64;
+    let mut walk = Walk {
+        vars,
+        scopes: Vec::new(of.alloc),
+    };
+    walk.scopes.push(Scope {
         types,
         names,
         level: 1,
         second: false,
     })?;
     for node in nodes {
-        step(text, &mut scopes, node)?;
+        step(of, text, &mut walk, node)?;
     }
     Ok(())
 }

@@ -32,8 +32,8 @@ module _ (e : Term) (P : TProg) (made : IsMade e P) (t : IsTranslation e P) (as_
   same Cps = ap k_text (sym as_made.converted)
   same Closed = ap c_text closed_is
   same Hoisted = ap₂ h_text blocks_are main_is
-  same Allocated =
-      ap₂ a_text (ap₂ alloc_prog blocks_are main_is ∙ sym as_made.allocated)
+  same (Allocated typed) =
+      ap₂ (a_text typed) (ap₂ alloc_prog blocks_are main_is ∙ sym as_made.allocated)
       (ap₂ alloc_main blocks_are main_is ∙ sym as_made.start)
   same Assembly = ap assembly_text (sym made.is)
 

@@ -39,5 +39,5 @@ form_text Source e = term_text e
 form_text Cps e = k_text (cps_term e)
 form_text Closed e = c_text (closed_term e)
 form_text Hoisted e = h_text (blocks_of (closed_term e)) (main_of (closed_term e))
-form_text Allocated e = a_text (allocated_program (closed_term e)) (allocated_main (closed_term e))
+form_text (Allocated typed) e = a_text typed (allocated_program (closed_term e)) (allocated_main (closed_term e))
 form_text Assembly e = assembly_text (compiled_program e)

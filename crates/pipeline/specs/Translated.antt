@@ -21,7 +21,7 @@ text_in Source e P t = term_text e
 text_in Cps e P t = k_text t.converted
 text_in Closed e P t = c_text t.closed
 text_in Hoisted e P t = h_text t.blocks t.main
-text_in Allocated e P t = a_text t.allocated t.start
+text_in (Allocated typed) e P t = a_text typed t.allocated t.start
 text_in Assembly e P t = assembly_text P
 
 -- There is a translation of the term by the rules of the passes in turn, the one that the passes make, with the forms

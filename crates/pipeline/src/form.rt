@@ -43,11 +43,11 @@ fn hoisted_text(alloc: Global, program: &Program) -> Result<Vec<u8>, OutOfMemory
     Ok(text)
 }
 
-fn allocated_text(alloc: Global, program: &Program) -> Result<Vec<u8>, OutOfMemory>
-    ensures { IfOk result (λ text. text.items ≡ form_text form.Allocated (term_of (program_term program.now))) }
+fn allocated_text(alloc: Global, program: &Program, typed: bool) -> Result<Vec<u8>, OutOfMemory>
+    ensures { IfOk result (λ text. text.items ≡ form_text (form.Allocated typed) (term_of (program_term program.now))) }
 {
     let allocated = allocated(alloc, program)?;
-    let text = write_allocated(alloc, &allocated)?;
+    let text = write_allocated(alloc, &allocated, typed)?;
     Ok(text)
 }
 
@@ -60,7 +60,8 @@ fn assembly_text(alloc: Global, program: &Program) -> Result<Vec<u8>, OutOfMemor
 }
 
 /// A form of a program as a text (own choice): the source in its canonical notation, the program that the passes so far
-/// make of it in the notation of its calculus, or the assembly program as it is written. Answers want of memory alone.
+/// make of it in the notation of its calculus, with types if the form says so, or the assembly program as it is
+/// written. Answers want of memory alone.
 pub fn form_of(alloc: Global, program: &Program, form: Form) -> Result<Vec<u8>, OutOfMemory>
     ensures { IfOk result (λ text. text.items ≡ form_text form (term_of (program_term program.now))) }
 {
@@ -69,7 +70,7 @@ pub fn form_of(alloc: Global, program: &Program, form: Form) -> Result<Vec<u8>, 
         Form::Cps => converted_text(alloc, program),
         Form::Closed => closed_text(alloc, program),
         Form::Hoisted => hoisted_text(alloc, program),
-        Form::Allocated => allocated_text(alloc, program),
+        Form::Allocated { typed } => allocated_text(alloc, program, typed),
         Form::Assembly => assembly_text(alloc, program),
     }
 }

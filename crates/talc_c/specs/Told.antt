@@ -1,5 +1,5 @@
 -- What the calls tell of a text, and what then stands in the memory of the host.
-use Rattle.std.specs.Prelude.{◌≡◌, ◌==◌, ◌<◌, ◌≤◌, ◌++◌, if◌then◌else◌, ℕ, List, length, drop}
+use Rattle.std.specs.Prelude.{◌≡◌, ◌==◌, ◌<◌, ◌≤◌, ◌++◌, if◌then◌else◌, false, ℕ, List, length, drop}
 use Rattle.std.specs.Prelude.{Option, Some, None, Result, Ok, Err, Vec}
 use Rattle.std.specs.declared.alloc.Global.{Global}
 use Rattle.talc_words.specs.declared.form.Form.{Form}
@@ -58,14 +58,14 @@ CompileTold registers text old new answer =
     × (0 < registers → registers < 8 → IsNotMade old new answer (put usage 0))
     × (8 ≤ registers → Told (Makes (CompiledTextWithin registers)) AProgram text old new answer)
 
--- the forms by number, from the source to the assembly text
+-- the forms by number, from the source to the assembly text, without types
 abbrev pub form_at : ℕ → Option Form
 form_at number =
     if number == 0 then Some form.Source
     else if number == 1 then Some form.Cps
     else if number == 2 then Some form.Closed
     else if number == 3 then Some form.Hoisted
-    else if number == 4 then Some form.Allocated
+    else if number == 4 then Some (form.Allocated false)
     else if number == 5 then Some form.Assembly
     else None
 

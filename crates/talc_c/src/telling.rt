@@ -53,7 +53,7 @@ pub(crate) fn form_at(number: u32) -> Option<Form>
         1 => Some(Form::Cps),
         2 => Some(Form::Closed),
         3 => Some(Form::Hoisted),
-        4 => Some(Form::Allocated),
+        4 => Some(Form::Allocated { typed: false }),
         5 => Some(Form::Assembly),
         _ => None,
     }

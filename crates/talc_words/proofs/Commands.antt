@@ -18,10 +18,11 @@ use Rattle.talc_words.specs.declared.form.Form.{Form}
 use Rattle.talc_words.specs.Command.{Asked, Checks, CompilesWithin, Costs, EnoughRegisters, Evaluates, Explains}
 use Rattle.talc_words.specs.Command.{Generates}
 use Rattle.talc_words.specs.Command.{Lists, NamesForm, Runs, Shows, Types, TypesNames}
-use Rattle.talc_words.specs.Command.{asked_between, asked_in, asked_of, asked_with, asked_within, command_of, form_in}
-use Rattle.talc_words.specs.Command.{number_in, number_of, where_none}
+use Rattle.talc_words.specs.Command.{asked_between, asked_in, asked_of, asked_with, asked_within, command_of}
+use Rattle.talc_words.specs.Command.{number_in, number_of, shown_in, where_none}
 use Rattle.talc_words.specs.Laws.{CommandWhereTaken, RegistersAreEnough}
 use Rattle.talc_words.proofs.Taken.{IsAmong, IsPlain, ArePlain, AreRows, Each, IsNumberIf, IsRegistersIf, each}
+use Rattle.talc_words.proofs.Taken.{MayHaveValue}
 use Rattle.talc_words.proofs.Taken.{enough_given, none_first, none_next, level_rows, level_given, first_given}
 use Rattle.talc_words.proofs.Taken.{number_given}
 
@@ -69,50 +70,51 @@ listing_leaf = leaf (drop 11 (built talc_app).subs)
 abbrev types_leaf : Shape
 types_leaf = leaf (drop 12 (built talc_app).subs)
 
--- the argument takes a value at each use or asks for help, and has no default
+-- the argument takes a value at each use, asks for help or is a flag, and its parser takes a default
 abbrev IsOrdinary : Rule → Type 0
-IsOrdinary a = IsPlain a × (a.defaults ≡ [])
+IsOrdinary a = IsPlain a × MayHaveValue a a.defaults
 
 compile_ordinary : Each IsOrdinary compile_leaf.rules
 compile_ordinary =
-    ((inl (refl, refl), refl), ((inl (refl, refl), refl), ((inl (refl, refl), refl), ((inr refl, refl), tt))))
+    ((inl (refl, refl), tt), ((inl (refl, refl), tt), ((inl (refl, refl), tt), ((inr (inl refl), tt), tt))))
 
 check_ordinary : Each IsOrdinary check_leaf.rules
-check_ordinary = ((inl (refl, refl), refl), ((inr refl, refl), tt))
+check_ordinary = ((inl (refl, refl), tt), ((inr (inl refl), tt), tt))
 
 run_ordinary : Each IsOrdinary run_leaf.rules
-run_ordinary = ((inl (refl, refl), refl), ((inl (refl, refl), refl), ((inr refl, refl), tt)))
+run_ordinary = ((inl (refl, refl), tt), ((inl (refl, refl), tt), ((inr (inl refl), tt), tt)))
 
 typeof_ordinary : Each IsOrdinary typeof_leaf.rules
-typeof_ordinary = ((inl (refl, refl), refl), ((inr refl, refl), tt))
+typeof_ordinary = ((inl (refl, refl), tt), ((inr (inl refl), tt), tt))
 
 eval_ordinary : Each IsOrdinary eval_leaf.rules
-eval_ordinary = ((inl (refl, refl), refl), ((inl (refl, refl), refl), ((inr refl, refl), tt)))
+eval_ordinary = ((inl (refl, refl), tt), ((inl (refl, refl), tt), ((inr (inl refl), tt), tt)))
 
 gen_ordinary : Each IsOrdinary gen_leaf.rules
-gen_ordinary = ((inl (refl, refl), refl), ((inl (refl, refl), refl), ((inr refl, refl), tt)))
+gen_ordinary = ((inl (refl, refl), tt), ((inl (refl, refl), tt), ((inr (inl refl), tt), tt)))
 
 upgrade_ordinary : Each IsOrdinary upgrade_leaf.rules
-upgrade_ordinary = ((inl (refl, refl), refl), ((inl (refl, refl), refl), ((inr refl, refl), tt)))
+upgrade_ordinary = ((inl (refl, refl), tt), ((inl (refl, refl), tt), ((inr (inl refl), tt), tt)))
 
 trace_ordinary : Each IsOrdinary trace_leaf.rules
 trace_ordinary =
-    ((inl (refl, refl), refl), ((inl (refl, refl), refl), ((inl (refl, refl), refl), ((inr refl, refl), tt))))
+    ((inl (refl, refl), tt), ((inl (refl, refl), tt), ((inl (refl, refl), tt), ((inr (inl refl), tt), tt))))
 
 show_ordinary : Each IsOrdinary show_leaf.rules
-show_ordinary = ((inl (refl, refl), refl), ((inl (refl, refl), refl), ((inr refl, refl), tt)))
+show_ordinary =
+    ((inl (refl, refl), tt), ((inl (refl, refl), tt), ((inr (inr (refl, refl)), refl), ((inr (inl refl), tt), tt))))
 
 explain_ordinary : Each IsOrdinary explain_leaf.rules
-explain_ordinary = ((inl (refl, refl), refl), ((inr refl, refl), tt))
+explain_ordinary = ((inl (refl, refl), tt), ((inr (inl refl), tt), tt))
 
 cost_ordinary : Each IsOrdinary cost_leaf.rules
-cost_ordinary = ((inl (refl, refl), refl), ((inl (refl, refl), refl), ((inr refl, refl), tt)))
+cost_ordinary = ((inl (refl, refl), tt), ((inl (refl, refl), tt), ((inr (inl refl), tt), tt)))
 
 listing_ordinary : Each IsOrdinary listing_leaf.rules
-listing_ordinary = ((inl (refl, refl), refl), ((inr refl, refl), tt))
+listing_ordinary = ((inl (refl, refl), tt), ((inr (inl refl), tt), tt))
 
 types_ordinary : Each IsOrdinary types_leaf.rules
-types_ordinary = ((inl (refl, refl), refl), ((inr refl, refl), tt))
+types_ordinary = ((inl (refl, refl), tt), ((inr (inl refl), tt), tt))
 
 compile_numbers : Each (IsRegistersIf (codes "registers")) compile_leaf.rules
 compile_numbers = (λ named. cc, (λ named. cc, (λ named. (refl, refl), (λ named. cc, tt))))
@@ -259,11 +261,11 @@ shows_form input None some = cc
 shows_form input (Some form) some = tt
 
 show_asks : (rows : List Row) → AreRows show_leaf.rules rows → f.check_fault show_leaf rows false ≡ [] →
-    IsSome (form_in rows) → Asks (asked_in (codes "show") rows)
+    IsSome (shown_in rows) → Asks (asked_in (codes "show") rows)
 show_asks rows held none form =
     let given = both_given (is_given (codes "IN") rows) (is_given (codes "form") rows) none in
     let input = first_given show_leaf.rules (codes "IN") rows held given.0 in
-    rw input.1 (shows_form input.0 (form_in rows) form)
+    rw input.1 (shows_form input.0 (shown_in rows) form)
 
 explain_asks : (rows : List Row) → AreRows explain_leaf.rules rows → f.check_fault explain_leaf rows false ≡ [] →
     Asks (asked_in (codes "explain") rows)
@@ -297,7 +299,7 @@ level_asks : (s : Shape) → Each IsOrdinary s.rules →
     Asks (asked_of (Some (rows_at s words)))
 level_asks s ordinary asks words none form =
     let plain : ArePlain s.rules = λ a among. (each IsOrdinary s.rules ordinary a among).0 in
-    let defaults : (a : Rule) → IsAmong a s.rules → a.defaults ≡ [] =
+    let defaults : (a : Rule) → IsAmong a s.rules → MayHaveValue a a.defaults =
     λ a among. (each IsOrdinary s.rules ordinary a among).1 in
     asks (rows_after s.rules [] words) (level_rows s plain defaults words none) (level_given s plain words none) form
 
@@ -402,10 +404,10 @@ with_some (Some input) (Some form) some = refl
 with_some (Some input) None some = cc
 with_some None form some = cc
 
-show_form : (name : Text) (rows : List Row) → IsSome (asked_in name rows) → name ≡ codes "show" → IsSome (form_in rows)
+show_form : (name : Text) (rows : List Row) → IsSome (asked_in name rows) → name ≡ codes "show" → IsSome (shown_in rows)
 show_form name rows some is =
     let named : IsSome (asked_in (codes "show") rows) = subst (λ (t : Text). IsSome (asked_in t rows)) is some in
-    with_some (first_of (codes "IN") rows) (form_in rows) named
+    with_some (first_of (codes "IN") rows) (shown_in rows) named
 
 asked_form : (entered : Option (Text × List Row)) → IsSome (asked_of entered) → NamesForm entered
 asked_form None some = tt

@@ -1,5 +1,5 @@
 -- Examples of command lines.
-use Rattle.std.proofs.Common.{◌≡◌, [], ◌∷◌, Some, None, refl}
+use Rattle.std.proofs.Common.{◌≡◌, [], ◌∷◌, Some, None, false, true, refl}
 use Rattle.std.specs.Prelude.{codes}
 use Rattle.clap.proofs.OnLiterals.{clap_on_literals}
 use Rattle.talc_words.specs.Command.{Checks, Compiles, CompilesWithin, Costs, Evaluates, Explains, Generates, Lists}
@@ -274,7 +274,7 @@ unfolding command_of clap_on_literals
 show_hoisted = refl
 
 show_allocated : command_of (codes "talc" ∷ codes "show" ∷ codes "x.f" ∷ codes "--form" ∷ codes "allocated" ∷ [])
-    ≡ Some (Shows (codes "x.f") form.Allocated)
+    ≡ Some (Shows (codes "x.f") (form.Allocated false))
 unfolding command_of clap_on_literals
 show_allocated = refl
 
@@ -320,87 +320,51 @@ show_missing_file : command_of (codes "talc" ∷ codes "show" ∷ codes "--form"
 unfolding command_of clap_on_literals
 show_missing_file = refl
 
--- talc explain x.f, without the file, and with an option of another command
-explain_words : command_of (codes "talc" ∷ codes "explain" ∷ codes "x.f" ∷ []) ≡ Some (Explains (codes "x.f"))
+-- and with types, before and behind the rest, twice, with a value, and of forms that are not shown with types
+show_types :
+    command_of (codes "talc" ∷ codes "show" ∷ codes "x.f" ∷ codes "--form" ∷ codes "allocated" ∷ codes "--types" ∷ [])
+    ≡ Some (Shows (codes "x.f") (form.Allocated true))
 unfolding command_of clap_on_literals
-explain_words = refl
+show_types = refl
 
-explain_missing_file : command_of (codes "talc" ∷ codes "explain" ∷ []) ≡ None
+show_types_first :
+    command_of (codes "talc" ∷ codes "show" ∷ codes "--types" ∷ codes "--form=allocated" ∷ codes "x.f" ∷ [])
+    ≡ Some (Shows (codes "x.f") (form.Allocated true))
 unfolding command_of clap_on_literals
-explain_missing_file = refl
+show_types_first = refl
 
-explain_form : command_of (codes "talc" ∷ codes "explain" ∷ codes "x.f" ∷ codes "--form" ∷ codes "cps" ∷ []) ≡ None
+show_types_twice :
+    command_of (codes "talc" ∷ codes "show" ∷ codes "x.f" ∷ codes "--form=allocated" ∷ codes "--types"
+    ∷ codes "--types" ∷ []) ≡ None
 unfolding command_of clap_on_literals
-explain_form = refl
+show_types_twice = refl
 
--- talc cost x.tal --fuel 100, the option first, and without it or the file
-cost_words : command_of (codes "talc" ∷ codes "cost" ∷ codes "x.tal" ∷ codes "--fuel" ∷ codes "100" ∷ [])
-    ≡ Some (Costs (codes "x.tal") 100)
+show_types_value :
+    command_of (codes "talc" ∷ codes "show" ∷ codes "x.f" ∷ codes "--form=allocated" ∷ codes "--types=true" ∷ []) ≡ None
 unfolding command_of clap_on_literals
-cost_words = refl
+show_types_value = refl
 
-cost_first : command_of (codes "talc" ∷ codes "cost" ∷ codes "--fuel=0" ∷ codes "x.tal" ∷ [])
-    ≡ Some (Costs (codes "x.tal") 0)
+show_types_source :
+    command_of (codes "talc" ∷ codes "show" ∷ codes "x.f" ∷ codes "--form=source" ∷ codes "--types" ∷ []) ≡ None
 unfolding command_of clap_on_literals
-cost_first = refl
+show_types_source = refl
 
-cost_missing_fuel : command_of (codes "talc" ∷ codes "cost" ∷ codes "x.tal" ∷ []) ≡ None
+show_types_cps :
+    command_of (codes "talc" ∷ codes "show" ∷ codes "x.f" ∷ codes "--form=cps" ∷ codes "--types" ∷ []) ≡ None
 unfolding command_of clap_on_literals
-cost_missing_fuel = refl
+show_types_cps = refl
 
-cost_missing_file : command_of (codes "talc" ∷ codes "cost" ∷ codes "--fuel" ∷ codes "100" ∷ []) ≡ None
+show_types_closed :
+    command_of (codes "talc" ∷ codes "show" ∷ codes "x.f" ∷ codes "--form=closed" ∷ codes "--types" ∷ []) ≡ None
 unfolding command_of clap_on_literals
-cost_missing_file = refl
+show_types_closed = refl
 
--- talc listing x.tal, without the file, and with an option of another command
-listing_words : command_of (codes "talc" ∷ codes "listing" ∷ codes "x.tal" ∷ []) ≡ Some (Lists (codes "x.tal"))
+show_types_hoisted :
+    command_of (codes "talc" ∷ codes "show" ∷ codes "x.f" ∷ codes "--form=hoisted" ∷ codes "--types" ∷ []) ≡ None
 unfolding command_of clap_on_literals
-listing_words = refl
+show_types_hoisted = refl
 
-listing_missing_file : command_of (codes "talc" ∷ codes "listing" ∷ []) ≡ None
+show_types_assembly :
+    command_of (codes "talc" ∷ codes "show" ∷ codes "x.f" ∷ codes "--form=assembly" ∷ codes "--types" ∷ []) ≡ None
 unfolding command_of clap_on_literals
-listing_missing_file = refl
-
-listing_fuel : command_of (codes "talc" ∷ codes "listing" ∷ codes "x.tal" ∷ codes "--fuel" ∷ codes "1" ∷ []) ≡ None
-unfolding command_of clap_on_literals
-listing_fuel = refl
-
--- talc types x.f, without the file, and with an option of another command
-types_words : command_of (codes "talc" ∷ codes "types" ∷ codes "x.f" ∷ []) ≡ Some (TypesNames (codes "x.f"))
-unfolding command_of clap_on_literals
-types_words = refl
-
-types_missing_file : command_of (codes "talc" ∷ codes "types" ∷ []) ≡ None
-unfolding command_of clap_on_literals
-types_missing_file = refl
-
-types_form : command_of (codes "talc" ∷ codes "types" ∷ codes "x.f" ∷ codes "--form" ∷ codes "cps" ∷ []) ≡ None
-unfolding command_of clap_on_literals
-types_form = refl
-
--- no command
-other_words : command_of (codes "talc" ∷ codes "link" ∷ codes "x.tal" ∷ codes "y.tal" ∷ []) ≡ None
-unfolding command_of clap_on_literals
-other_words = refl
-
--- help is no command
-help : command_of (codes "talc" ∷ codes "--help" ∷ []) ≡ None
-unfolding command_of clap_on_literals
-help = refl
-
-help_of_compile : command_of (codes "talc" ∷ codes "compile" ∷ codes "x.f" ∷ codes "x.tal" ∷ codes "-h" ∷ []) ≡ None
-unfolding command_of clap_on_literals
-help_of_compile = refl
-
-help_as_command : command_of (codes "talc" ∷ codes "help" ∷ []) ≡ None
-unfolding command_of clap_on_literals
-help_as_command = refl
-
--- a missing and a surplus word
-missing_word : command_of (codes "talc" ∷ codes "compile" ∷ codes "x.f" ∷ []) ≡ None
-unfolding command_of clap_on_literals
-missing_word = refl
-
-surplus_word : command_of (codes "talc" ∷ codes "typeof" ∷ codes "x.f" ∷ codes "y.f" ∷ []) ≡ None
-unfolding command_of clap_on_literals
-surplus_word = refl
+show_types_assembly = refl

@@ -24,7 +24,7 @@ use Rattle.clap.specs.Faults.{use_fault, action_fault, values_fault, settle_faul
 use Rattle.clap.specs.Faults.{long_fault, flags_fault, bundle_fault, flag_word_fault, word_fault, step_fault}
 use Rattle.clap.specs.Faults.{turn_fault, walk_fault}
 use Rattle.clap.specs.declared.error.kind.ErrorKind.TheVariants.{TooManyValues}
-use Rattle.clap.specs.declared.builder.action.ArgAction.TheVariants.{Set, Help}
+use Rattle.clap.specs.declared.builder.action.ArgAction.TheVariants.{Set, SetTrue, Help}
 use Rattle.clap.specs.Values.{read_as, reading_of}
 use Rattle.clap.specs.declared.builder.value_parser.ValueParser.{ValueParser}
 use Rattle.clap.specs.declared.builder.value_parser.Reading.TheVariants.{AsWritten}
@@ -32,7 +32,7 @@ use Rattle.talc_words.specs.Command.{number_in, number_of}
 use Rattle.talc_words.specs.Description.{register_number, whole_number}
 use Rattle.talc_words.proofs.NumberLemmas.{taken_enough, taken_number}
 use Rattle.clap.specs.declared.parser.matches.ValueSource.{ValueSource}
-use Rattle.clap.specs.declared.parser.matches.ValueSource.TheVariants.{CommandLine}
+use Rattle.clap.specs.declared.parser.matches.ValueSource.TheVariants.{CommandLine, DefaultValue}
 
 -- no kind comes of two steps where none comes of either
 pub none_first : (a b : Kinds) → or_else a b ≡ [] → a ≡ []
@@ -72,19 +72,25 @@ each P [] all a among = absurd among
 each P (b ∷ bs) all a (inl e) = subst P e all.0
 each P (b ∷ bs) all a (inr among) = each P bs all.1 a among
 
--- the argument takes a value at each use, or asks for help
+-- there is a first value, and the parser takes it
+abbrev pub HasValue : Rule → List Text → Type 0
+HasValue a [] = ⊥
+HasValue a (v ∷ vs) = value_kinds a.ignore_case (parser_of_value a.parser) v ≡ []
+
+-- the parser takes the first value, where there is one
+abbrev pub MayHaveValue : Rule → List Text → Type 0
+MayHaveValue a [] = Unit {0}
+MayHaveValue a (v ∷ vs) = value_kinds a.ignore_case (parser_of_value a.parser) v ≡ []
+
+-- the argument takes a value at each use, asks for help, or is a flag, which has a value where none is given
 abbrev pub IsPlain : Rule → Type 0
-IsPlain a = ((action_of a ≡ Set) × ((unwrap_or_range a.range).start_inclusive ≡ 1)) ⊎ (action_of a ≡ Help)
+IsPlain a = ((action_of a ≡ Set) × ((unwrap_or_range a.range).start_inclusive ≡ 1))
+    ⊎ ((action_of a ≡ Help) ⊎ ((action_of a ≡ SetTrue) × HasValue a a.missing))
 
 abbrev pub ArePlain : List Rule → Type 0
 ArePlain rules = (a : Rule) → IsAmong a rules → IsPlain a
 
 -- ---- rows
-
--- there is a first value, and the parser takes it
-abbrev pub HasValue : Rule → List Text → Type 0
-HasValue a [] = ⊥
-HasValue a (v ∷ vs) = value_kinds a.ignore_case (parser_of_value a.parser) v ≡ []
 
 -- the row is that of a rule, and has a value
 pub record IsRow (rules : List Rule) (r : Row) : Type 0 where
@@ -158,14 +164,39 @@ module _ (rules : List Rule) (plain : ArePlain rules) (again : Bool) where
       (value_rows a CommandLine v vs (without a.id rows) known
       (none_first (value_kinds a.ignore_case (parser_of_value a.parser) v) _ values) (without_rows a.id rows held))
 
+  flag_value : (a : Rule) (values : List Text) → values_fault a (values_or_missing a values) ≡ [] →
+      HasValue a a.missing → HasValue a (values_or_missing a values)
+  flag_value a [] none missing = missing
+  flag_value a (v ∷ vs) none missing =
+      none_first (value_kinds a.ignore_case (parser_of_value a.parser) v) _ none
+
+  command_rows : (a : Rule) (values : List Text) (rows : List Row) → IsAmong a rules → HasValue a values →
+      AreRows rules rows → AreRows rules (with_values a.id (reading_by a) CommandLine values (without a.id rows))
+  command_rows a [] rows known good held = absurd good
+  command_rows a (v ∷ vs) rows known good held =
+      value_rows a CommandLine v vs (without a.id rows) known good (without_rows a.id rows held)
+
+  flag_used : (a : Rule) (values : List Text) (rows : List Row) → IsAmong a rules → action_of a ≡ SetTrue →
+      HasValue a a.missing → use_fault again a values rows ≡ [] → AreRows rules rows →
+      AreRows rules (used a values rows)
+  flag_used a values rows known set missing none held =
+      let given : List Text = values_or_missing a values in
+      let action : action_fault SetTrue again a given rows ≡ [] =
+      subst (λ x. action_fault x again a given rows ≡ []) set
+      (none_next (range_kinds (unwrap_or_range a.range).start_inclusive (most_values a) (length values)) _ none) in
+      let good = flag_value a values (none_next (f.repeat_fault again a.id rows) _ action) missing in
+      subst (λ x. AreRows rules (used_as x a.id (reading_by a) given rows)) (sym set)
+      (command_rows a given rows known good held)
+
   -- a use of an argument adds a row with its value
   used_rows : (a : Rule) (values : List Text) (rows : List Row) → IsAmong a rules →
       use_fault again a values rows ≡ [] → AreRows rules rows → AreRows rules (used a values rows)
   used_rows a values rows known none held =
       elim (plain a known) [
         | inl set ↦ set_rows a values rows known set.0 set.1 none held
-        | inr help ↦ subst (λ x. AreRows rules (used_as x a.id (reading_by a) (values_or_missing a values) rows))
+        | inr (inl help) ↦ subst (λ x. AreRows rules (used_as x a.id (reading_by a) (values_or_missing a values) rows))
             (sym help) held
+        | inr (inr flag) ↦ flag_used a values rows known flag.0 flag.1 none held
       ]
 
   -- ---- the walk
@@ -293,18 +324,19 @@ module _ (rules : List Rule) (plain : ArePlain rules) (again : Bool) where
       go true e = held
       go false e = settle_rows h e held
 
-  default_rows : (known : List Rule) → ((a : Rule) → IsAmong a known → a.defaults ≡ []) → (rows : List Row) →
+  default_rows : (known : List Rule) →
+      ((a : Rule) → IsAmong a known → IsAmong a rules × MayHaveValue a a.defaults) → (rows : List Row) →
       AreRows rules rows → AreRows rules (fold with_default rows known)
-  default_rows [] none rows held = held
-  default_rows (a ∷ known) none rows held =
-      default_rows known (λ b is. none b (inr is)) (with_default rows a)
-      (go (w.has_row a.id rows) a.defaults (none a (inl refl)))
+  default_rows [] good rows held = held
+  default_rows (a ∷ known) good rows held =
+      default_rows known (λ b is. good b (inr is)) (with_default rows a)
+      (go (w.has_row a.id rows) a.defaults (good a (inl refl)).1)
     where
-      go : (b : Bool) (vs : List Text) → vs ≡ [] →
+      go : (b : Bool) (vs : List Text) → MayHaveValue a vs →
           AreRows rules (cond b rows (w.default_rows a.id (reading_by a) vs rows))
       go true vs e = held
       go false [] e = held
-      go false (v ∷ vs) e = cc
+      go false (v ∷ vs) e = value_rows a DefaultValue v vs rows (good a (inl refl)).0 e held
 
 module _ (s : Shape) (plain : ArePlain s.rules) where
   other_rows : (o : Option Text) (waiting : Waiting) (position : ℕ) (word : Text) (h : Held) →
@@ -367,9 +399,9 @@ module _ (s : Shape) (plain : ArePlain s.rules) where
       (turn_rows names at word (none_first (turn_fault s names at word) _ none) held)
 
   -- the rows after a level in which no error is found
-  pub level_rows : ((a : Rule) → IsAmong a s.rules → a.defaults ≡ []) → (words : List Text) →
+  pub level_rows : ((a : Rule) → IsAmong a s.rules → MayHaveValue a a.defaults) → (words : List Text) →
       f.level_fault s [] nothing_held words false [] ≡ [] → AreRows s.rules (rows_after s.rules [] words)
-  level_rows none_given words none =
+  level_rows good words none =
       let end : Held = (walk s.rules [] nothing_held words).held in
       let held : AreRows s.rules end.rows =
       walk_rows [] words (walk_from nothing_held) (none_first (walk_fault s [] (walk_from nothing_held) words) _ none)
@@ -377,7 +409,7 @@ module _ (s : Shape) (plain : ArePlain s.rules) where
       let settles : settle_fault s.rules s.args_override_self end ≡ [] =
       none_first (settle_fault s.rules s.args_override_self end) _
       (none_next (walk_fault s [] (walk_from nothing_held) words) _ none) in
-      default_rows s.rules plain s.args_override_self s.rules none_given (settled s.rules end).rows
+      default_rows s.rules plain s.args_override_self s.rules (λ a is. (is, good a is)) (settled s.rules end).rows
       (settle_rows s.rules plain s.args_override_self end settles held)
 
   -- and what is required was given

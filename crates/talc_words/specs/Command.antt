@@ -1,7 +1,8 @@
 -- When words are a command, and what they ask for.
-use Rattle.std.specs.Prelude.{◌≡◌, ◌≤◌, ℕ, true, false, List, [], ◌∷◌, Option, Some, None, IsSome, codes}
+use Rattle.std.specs.Prelude.{◌≡◌, ◌≤◌, ℕ, Bool, true, false, List, [], ◌∷◌, Option, Some, None, IsSome, codes}
 use Rattle.std.specs.Prelude.{if◌then◌else◌}
 use Rattle.std.specs.Prelude.{option_and_then, option_map}
+use Rattle.std.specs.Option.{option_map_or}
 use Rattle.std.specs.Str.{bytes_eq}
 use Rattle.std.specs.Str.Parse.{digits_value, without_leading_plus}
 use Rattle.clap.specs.ValueTests.{accepts}
@@ -15,9 +16,9 @@ use Rattle.talc_words.specs.Description.{talc_app, whole_number}
 -- the source text of IN, to evaluate it within so many turns, to put the source of a seed through all of that and
 -- write it to the file OUT, to write the program of the TAL text of IN to the file OUT in the newest version of the
 -- language, to run the TAL text of IN and show its states from one number of instructions to another, to show a form
--- of the program of the source text of IN, to show what is wrong with the source or TAL text of IN, to run the TAL
--- text of IN for so many instructions and show what the run cost, to show the TAL text of IN with the types of the
--- registers at each place, or to show what the forms of the source text of IN bind, with the types
+-- of the program of the source text of IN, with types or without, to show what is wrong with the source or TAL text of
+-- IN, to run the TAL text of IN for so many instructions and show what the run cost, to show the TAL text of IN with
+-- the types of the registers at each place, or to show what the forms of the source text of IN bind, with the types
 pub data Asked : Type 0 where
   Compiles : (input output : Text) → Asked
   CompilesWithin : (input output : Text) (registers : ℕ) → Asked
@@ -50,12 +51,29 @@ form_named name =
     else (if bytes_eq name (codes "cps") then Some Cps
     else (if bytes_eq name (codes "closed") then Some Closed
     else (if bytes_eq name (codes "hoisted") then Some Hoisted
-    else (if bytes_eq name (codes "allocated") then Some Allocated
+    else (if bytes_eq name (codes "allocated") then Some (Allocated false)
     else (if bytes_eq name (codes "assembly") then Some Assembly else None)))))
 
 -- the form that the first value of the argument `form` names
 abbrev pub form_in : List Row → Option Form
 form_in rows = option_and_then form_named (first_of (codes "form") rows)
+
+-- whether the flag was used
+abbrev pub flag_in : Text → List Row → Bool
+flag_in name rows = option_map_or (λ t. bytes_eq t (codes "true")) (first_of name rows) false
+
+-- the same form with types, if it can be shown with them
+abbrev pub with_types : Form → Option Form
+with_types Source = None
+with_types Cps = None
+with_types Closed = None
+with_types Hoisted = None
+with_types (Allocated typed) = Some (Allocated true)
+with_types Assembly = None
+
+-- the form that is to be shown, with types or without
+abbrev pub shown_in : List Row → Option Form
+shown_in rows = if flag_in (codes "types") rows then option_and_then with_types (form_in rows) else form_in rows
 
 -- what both values ask for, where both are there
 abbrev pub asked_with : {X : Type 0} → (Text → X → Asked) → Option Text → Option X → Option Asked
@@ -88,7 +106,7 @@ asked_in name rows =
     else (if bytes_eq name (codes "upgrade") then asked_with Upgrades input (first_of (codes "OUT") rows)
     else (if bytes_eq name (codes "trace") then
     asked_between input (number_in (codes "from") rows) (number_in (codes "to") rows)
-    else (if bytes_eq name (codes "show") then asked_with Shows input (form_in rows)
+    else (if bytes_eq name (codes "show") then asked_with Shows input (shown_in rows)
     else (if bytes_eq name (codes "explain") then option_map Explains input
     else (if bytes_eq name (codes "cost") then asked_with Costs input (number_in (codes "fuel") rows)
     else (if bytes_eq name (codes "listing") then option_map Lists input
@@ -103,13 +121,15 @@ abbrev pub where_none : Kinds → Option Asked → Option Asked
 where_none [] asked = asked
 where_none (kind ∷ kinds) asked = None
 
--- where the subcommand is `show`, its form has one of the six names
+-- where the subcommand is `show`, its form has one of the six names, and can be shown with types where they are asked
+-- for
 abbrev pub NamesForm : Option (Text × List Row) → Type 0
 NamesForm None = Unit {0}
-NamesForm (Some entered) = bytes_eq entered.0 (codes "show") ≡ true → IsSome (form_in entered.1)
+NamesForm (Some entered) = bytes_eq entered.0 (codes "show") ≡ true → IsSome (shown_in entered.1)
 
--- The words are a command where they break no rule of `clap` by the description, and a form has one of the six names;
--- then the subcommand and its values say what is asked. The first word is the program's name.
+-- The words are a command where they break no rule of `clap` by the description, a form has one of the six names, and
+-- one that is asked for with types can be shown with them; then the subcommand and its values say what is asked. The
+-- first word is the program's name.
 unfoldable pub command_of : List Text → Option Asked
 command_of words = where_none (fault_of talc_app words) (asked_of (subcommand_of talc_app words))
 

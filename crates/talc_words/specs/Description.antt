@@ -2,7 +2,7 @@
 use Rattle.std.specs.Prelude.{true, [], ◌∷◌, Some, codes, fold}
 use Rattle.clap.specs.Words.{App, Rule, Text, new_app, new_rule, with_rule, with_subcommand}
 use Rattle.clap.specs.Simple.{on_top}
-use Rattle.clap.specs.declared.builder.action.ArgAction.TheVariants.{Set}
+use Rattle.clap.specs.declared.builder.action.ArgAction.TheVariants.{Set, SetTrue}
 use Rattle.clap.specs.declared.builder.value_parser.ValueParser.{ValueParser}
 use Rattle.clap.specs.declared.builder.value_parser.ValueParser.TheVariants.{Unsigned}
 
@@ -50,6 +50,10 @@ form_rule =
       action = Some Set;
     }
 
+-- the flag called `types`
+abbrev pub types_rule : Rule
+types_rule = record (new_rule (codes "types")) { long = Some (codes "types"); action = Some SetTrue }
+
 -- compile IN OUT, perhaps with --registers K
 abbrev pub compile_app : App
 compile_app =
@@ -86,9 +90,9 @@ trace_app =
     with_rule (with_rule (with_rule (new_app (codes "trace")) (file_rule (codes "IN"))) (number_rule (codes "from")))
     (number_rule (codes "to"))
 
--- show IN --form F
+-- show IN --form F, perhaps with --types
 abbrev pub show_app : App
-show_app = with_rule (with_rule (new_app (codes "show")) (file_rule (codes "IN"))) form_rule
+show_app = with_rule (with_rule (with_rule (new_app (codes "show")) (file_rule (codes "IN"))) form_rule) types_rule
 
 -- explain IN
 abbrev pub explain_app : App

@@ -5,7 +5,7 @@ use Rattle.talc_words.specs.Description.{talc_app}
 use Rattle.talc_words.specs.Command.{Asked, EnoughRegisters, NamesForm, command_of}
 
 -- the words are a command exactly where `clap`'s rules find no error in them by the description and, where they are
--- those of `show`, the form has one of the six names
+-- those of `show`, the form has one of the six names, and with `--types` it can be shown with types
 abbrev pub CommandWhereTaken : Type 0
 CommandWhereTaken = (words : List Text) → IsSome (command_of words)
     ↔ ((fault_of talc_app words ≡ []) × NamesForm (subcommand_of talc_app words))

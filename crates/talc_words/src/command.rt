@@ -54,7 +54,7 @@ pub enum Command<'a> {
         from: u64,
         to: u64,
     },
-    /// `show IN --form F`: shows a form of the program of the source text of a file.
+    /// `show IN --form F [--types]`: shows a form of the program of the source text of a file.
     Show {
         input: &'a str,
         form: Form,

@@ -3,7 +3,7 @@ ghost use Rattle.std.specs.Prelude.{◌≡◌, IfOk, codes, false, true};
 ghost use Rattle.clap.specs.Words.{App, Rule, app_of, new_app, rule_of, with_rule, with_subcommand};
 ghost use Rattle.talc_words.specs.Description.{file_rule, number_rule, registers_rule, compile_app, check_app, run_app};
 ghost use Rattle.talc_words.specs.Description.{typeof_app, eval_app, gen_app, upgrade_app, trace_app};
-ghost use Rattle.talc_words.specs.Description.{cost_app, explain_app, form_rule, listing_app, show_app};
+ghost use Rattle.talc_words.specs.Description.{cost_app, explain_app, form_rule, listing_app, show_app, types_rule};
 ghost use Rattle.talc_words.specs.Description.{bare_app, talc_app, types_app};
 
 use clap::builder::ValueParser;
@@ -57,6 +57,17 @@ fn form<'a>(alloc: Global) -> Arg<'a>
         .value_name("F")
         .required(true)
         .action(ArgAction::Set)
+}
+
+// The option that shows types.
+fn types<'a>(alloc: Global) -> Arg<'a>
+    ensures rule { rule_of result ≡ types_rule }
+    ensures local { result.global ≡ false }
+{
+    let arg = Arg::new(alloc, "types").help(
+        "Shows the type of what each `let` binds, in the form allocated",
+    );
+    arg.long("types").action(ArgAction::SetTrue)
 }
 
 // A command without its arguments.
@@ -186,7 +197,8 @@ pub(crate) fn show_words<'a>(alloc: Global) -> Result<Command<'a>, AllocError>
         "show",
         "Shows a form of the program of the source text IN",
     );
-    with(command, form(alloc))
+    let command = with(command, form(alloc));
+    with(command, types(alloc))
 }
 
 fn explain_words<'a>(alloc: Global) -> Result<Command<'a>, AllocError>

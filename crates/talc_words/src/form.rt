@@ -1,8 +1,9 @@
 // The forms of a program that can be shown.
 ghost use Rattle.std.specs.Prelude.{◌≡◌};
-ghost use Rattle.talc_words.specs.Command.{form_named};
+ghost use Rattle.talc_words.specs.Command.{form_named, with_types};
 
-/// A form of a program, from the source to the assembly text (own choice of names).
+/// A form of a program, from the source to the assembly text (own choice of names). The one that has a flag
+/// is shown with the type of what each `let` binds if `typed`.
 #[derive(Clone, Copy, Debug, PartialEq, Eq)]
 pub enum Form {
     /// `source`: the source program itself.
@@ -14,7 +15,7 @@ pub enum Form {
     /// `hoisted`: after hoisting.
     Hoisted,
     /// `allocated`: with explicit allocation.
-    Allocated,
+    Allocated { typed: bool },
     /// `assembly`: the assembly program, after code generation.
     Assembly,
 }
@@ -36,10 +37,20 @@ pub(crate) fn form_named(name: &str) -> Option<Form>
         return Some(Form::Hoisted);
     }
     if name == "allocated" {
-        return Some(Form::Allocated);
+        return Some(Form::Allocated { typed: false });
     }
     if name == "assembly" {
         return Some(Form::Assembly);
     }
     None
+}
+
+// The same form with types, if it can be shown with them.
+pub(crate) fn with_types(form: Form) -> Option<Form>
+    ensures { result ≡ with_types form }
+{
+    match form {
+        Form::Source | Form::Cps | Form::Closed | Form::Hoisted | Form::Assembly => None,
+        Form::Allocated { .. } => Some(Form::Allocated { typed: true }),
+    }
 }

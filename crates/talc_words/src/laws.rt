@@ -2,7 +2,8 @@
 ghost use Rattle.talc_words.specs.Laws.{CommandWhereTaken, RegistersAreEnough};
 
 /// Words are a command exactly where `clap`'s rules find no error in them by the description of the command line, and a
-/// form that they ask for has one of the six names: then each value of the command is there, and a number is one.
+/// form that they ask for has one of the six names, and can be shown with types where they are asked for: then
+/// each value of the command is there, and a number is one.
 pub fn command_where_taken()
     ensures { CommandWhereTaken }
 {}

@@ -3,13 +3,14 @@ ghost use Rattle.std.specs.Prelude.{◌≡◌, Some, codes, is_some, map, string
 ghost use Rattle.std.specs.Option.{option_map};
 ghost use Rattle.clap.specs.Words.{first_of, found_of, kind_of, one_of, rows_of, subcommand_rows_of};
 ghost use Rattle.clap.specs.declared.error.kind.ErrorKind.TheVariants.{OutOfMemory};
-ghost use Rattle.talc_words.specs.Command.{asked_between, asked_in, asked_of, asked_with, asked_within, form_in, number_in};
+ghost use Rattle.talc_words.specs.Command.{asked_between, asked_in, asked_of, asked_with, asked_within, form_in};
+ghost use Rattle.talc_words.specs.Command.{flag_in, number_in, shown_in};
 ghost use Rattle.talc_words.specs.Command.{Costs, Evaluates, Generates, Runs, Shows, Upgrades};
 ghost use Rattle.talc_words.specs.Reads.{asked_by, AsksFor, Reads};
 
 use crate::command::{Command, NoCommand};
 use crate::description::{show_words, talc_words};
-use crate::form::{Form, form_named};
+use crate::form::{Form, form_named, with_types};
 use clap::error::ErrorKind;
 use clap::{ArgMatches, Error};
 use std::alloc::{AllocError, Global};
@@ -33,6 +34,27 @@ fn form(matches: &ArgMatches) -> Option<Form>
     ensures { result ≡ form_in (rows_of (found_of matches.now)) }
 {
     form_named(value(matches, "form")?)
+}
+
+// Whether a flag was used.
+fn flag(matches: &ArgMatches, name: &str) -> bool
+    ensures { result ≡ flag_in name.now (rows_of (found_of matches.now)) }
+{
+    match value(matches, name) {
+        Some(text) => text == "true",
+        None => false,
+    }
+}
+
+// The form that is to be shown, with types or without.
+fn shown(matches: &ArgMatches) -> Option<Form>
+    ensures { result ≡ shown_in (rows_of (found_of matches.now)) }
+{
+    let form = form(matches)?;
+    if flag(matches, "types") {
+        return with_types(form);
+    }
+    Some(form)
 }
 
 // Whether an argument has a value.
@@ -112,9 +134,9 @@ fn tracing<'a>(matches: &ArgMatches<'a>) -> Option<Command<'a>>
 // What `show` asks for.
 fn showing<'a>(matches: &ArgMatches<'a>) -> Option<Command<'a>>
     ensures { option_map asked_by result ≡ asked_with Shows (first_of (codes "IN") (rows_of (found_of matches.now)))
-        (form_in (rows_of (found_of matches.now))) }
+        (shown_in (rows_of (found_of matches.now))) }
 {
-    let (input, form) = (value(matches, "IN")?, form(matches)?);
+    let (input, form) = (value(matches, "IN")?, shown(matches)?);
     Some(Command::Show { input, form })
 }
 
@@ -187,13 +209,17 @@ fn not_taken(alloc: Global, error: &Error) -> NoCommand
     }
 }
 
-// `clap`'s error on a value of `form` that names no form.
+// `clap`'s error on a value of `form` that names no form, or one that is not shown with types.
 fn no_form(alloc: Global, name: &str) -> Result<Error, AllocError> {
+    let mut show = show_words(alloc)?.bin_name("talc show")?;
+    if form_named(name).is_some() {
+        let text = format!(in alloc; "the argument '--types' cannot be used with '--form {name}'")?;
+        return show.error(ErrorKind::ArgumentConflict, text.as_str());
+    }
     let text = format!(in alloc;
         "invalid value '{name}' for '--form <F>'
   [possible values: source, cps, closed, hoisted, allocated, assembly]"
     )?;
-    let mut show = show_words(alloc)?.bin_name("talc show")?;
     show.error(ErrorKind::InvalidValue, text.as_str())
 }
 
@@ -220,7 +246,8 @@ fn asked_or_not<'a>(alloc: Global, matches: &ArgMatches<'a>) -> Result<Command<'
 }
 
 /// What the words ask for, where they are a command by the description of the command line; the program's own name is
-/// the first of them, and a form has one of the six names. Words that are none come back as `clap`'s text for the user.
+/// the first of them, a form has one of the six names, and with `--types` it is one that can be shown with types. Words
+/// that are none come back as `clap`'s text for the user.
 pub fn read<'a>(alloc: Global, words: &'a Vec<String>) -> Result<Command<'a>, NoCommand>
     ensures { Reads (map string_bytes words.entry.now.items) result }
 {

@@ -8,7 +8,7 @@ ghost use Rattle.k_pass.specs.Emit.{emit_of};
 use crate::give::give;
 use crate::resume::resume;
 use crate::walk::walk;
-use crate::work::{Control, Work};
+use crate::work::{Control, Given, Part, Work};
 use f_terms::{FTerm, FType};
 use idx_core::OutOfMemory;
 use k_terms::KNode;
@@ -34,10 +34,10 @@ pub fn emit(alloc: Global, term: &FTerm, types: &[FType]) -> Result<Vec<KNode>, 
     loop {
         match control {
             Control::Walk { node, depth } => {
-                control = walk(alloc, term, types, &mut work, node, depth)?;
+                control = walk(alloc, term, types, &mut work, Part { node, depth })?;
             }
             Control::Give { atom, depth } => {
-                control = give(alloc, &mut work, atom, depth)?;
+                control = give(alloc, &mut work, Given { atom, depth })?;
             }
             Control::Ended => match resume(alloc, &mut work)? {
                 Some(next) => {

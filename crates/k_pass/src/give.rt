@@ -11,7 +11,7 @@ use crate::access::{deeper, put_call, put_one, put_two};
 use crate::hand::{hand_over, take_tail};
 use crate::types::{k_type_at, opened_type, rest_types};
 use crate::walk::{enter, walk_fields};
-use crate::work::{Atom, Control, Frame, Pending, Work};
+use crate::work::{Atom, Control, Frame, Given, Pending, Tuple, Work};
 use f_terms::FType;
 use idx_core::{Op, OutOfMemory};
 use k_terms::KNode;
@@ -21,46 +21,45 @@ use std::alloc::Global;
 pub(crate) fn give<'a>(
     alloc: Global,
     work: &mut Work<'a>,
-    given: Atom,
-    depth: u64,
+    given: Given,
 ) -> Result<Control, OutOfMemory>
-    ensures steps { IfOk result (λ r. (t : ℕ → Noted) → Steps t work.old (controls.Give given depth) work.new r) }
+    ensures steps { IfOk result (λ r. (t : ℕ → Noted) →
+        Steps t work.old (controls.Give given.atom given.depth) work.new r) }
     ensures inside { IfOk result (λ r. (m : ℕ) → KeptIn m work.old → Inside m work.new r) }
 {
+    let Given { atom, depth } = given;
     match work.frames.pop() {
         None => {
-            put_one(&mut work.out, given, KNode::Halt)?;
+            put_one(&mut work.out, atom, KNode::Halt)?;
             Ok(Control::Ended)
         }
         Some(Frame::Fun { x, ty }) => {
-            let frame = Frame::Arg { f: given, ty };
+            let frame = Frame::Arg { f: atom, ty };
             enter(&mut work.frames, frame, x, depth)
         }
-        Some(Frame::Arg { f, ty }) => give_argument(alloc, work, f, ty, given, depth),
-        Some(Frame::Inst { arg, ty }) => give_inst(alloc, work, arg, ty, given, depth),
+        Some(Frame::Arg { f, ty }) => give_argument(alloc, work, f, ty, given),
+        Some(Frame::Inst { arg, ty }) => give_inst(alloc, work, arg, ty, given),
         Some(Frame::Left { op, b }) => {
-            enter(&mut work.frames, Frame::Right { op, a: given }, b, depth)
+            enter(&mut work.frames, Frame::Right { op, a: atom }, b, depth)
         }
-        Some(Frame::Right { op, a }) => give_right(work, op, a, given, depth),
-        Some(Frame::Proj { i, ty }) => give_proj(alloc, work, i, ty, given, depth),
+        Some(Frame::Right { op, a }) => give_right(work, op, a, given),
+        Some(Frame::Proj { i, ty }) => give_proj(alloc, work, i, ty, given),
         Some(Frame::Fields { rest, done, ty }) => {
-            give_field(alloc, work, rest, done, given, ty, depth)
+            give_field(alloc, work, Tuple { rest, done, ty }, given)
         }
-        Some(Frame::Tail { level }) => give_tail(alloc, work, level, given, depth),
-        Some(Frame::Test { zero, other, level }) => {
-            give_test(work, zero, other, level, given, depth)
-        }
-        Some(Frame::Let { body }) => give_let(work, body, given, depth),
-        Some(Frame::Open { body, ty }) => give_open(alloc, work, body, ty, given, depth),
-        Some(Frame::Leave) => give_leave(work, given, depth),
-        Some(Frame::LeaveType) => give_leave_type(work, given, depth),
-        Some(Frame::Pack { hidden, ty }) => give_pack(alloc, work, hidden, ty, given, depth),
-        Some(Frame::Ref { ty }) => give_ref(alloc, work, ty, given, depth),
-        Some(Frame::Deref { ty }) => give_deref(alloc, work, ty, given, depth),
+        Some(Frame::Tail { level }) => give_tail(alloc, work, level, given),
+        Some(Frame::Test { zero, other, level }) => { give_test(work, zero, other, level, given) }
+        Some(Frame::Let { body }) => give_let(work, body, given),
+        Some(Frame::Open { body, ty }) => give_open(alloc, work, body, ty, given),
+        Some(Frame::Leave) => give_leave(work, given),
+        Some(Frame::LeaveType) => give_leave_type(work, given),
+        Some(Frame::Pack { hidden, ty }) => give_pack(alloc, work, hidden, ty, given),
+        Some(Frame::Ref { ty }) => give_ref(alloc, work, ty, given),
+        Some(Frame::Deref { ty }) => give_deref(alloc, work, ty, given),
         Some(Frame::Cell { value }) => {
-            enter(&mut work.frames, Frame::Set { cell: given }, value, depth)
+            enter(&mut work.frames, Frame::Set { cell: atom }, value, depth)
         }
-        Some(Frame::Set { cell }) => give_set(work, cell, given, depth),
+        Some(Frame::Set { cell }) => give_set(work, cell, given),
     }
 }
 
@@ -70,20 +69,20 @@ fn give_argument<'a>(
     work: &mut Work<'a>,
     f: Atom,
     ty: &'a FType,
-    given: Atom,
-    depth: u64,
+    given: Given,
 ) -> Result<Control, OutOfMemory>
     ensures steps { IfOk result (λ r. (t : ℕ → Noted) →
-        Takes t work.old (frames.Arg f ty.entry) given depth work.new r) }
+        Takes t work.old (frames.Arg f ty.entry) given.atom given.depth work.new r) }
     ensures inside { IfOk result (λ r. (m : ℕ) → KeptIn m work.old → Inside m work.new r) }
 {
+    let Given { atom, depth } = given;
     let call = KNode::Call {
         level: depth,
         depth: work.types,
         types: Vec::new(alloc),
         count: 2,
     };
-    put_call(&mut work.out, f, call, given)?;
+    put_call(&mut work.out, f, call, atom)?;
     hand_over(alloc, work, ty, depth)
 }
 
@@ -93,13 +92,13 @@ fn give_inst<'a>(
     work: &mut Work<'a>,
     arg: &'a FType,
     ty: &'a FType,
-    given: Atom,
-    depth: u64,
+    given: Given,
 ) -> Result<Control, OutOfMemory>
     ensures steps { IfOk result (λ r. (t : ℕ → Noted) →
-        Takes t work.old (frames.Inst arg.entry ty.entry) given depth work.new r) }
+        Takes t work.old (frames.Inst arg.entry ty.entry) given.atom given.depth work.new r) }
     ensures inside { IfOk result (λ r. (m : ℕ) → KeptIn m work.old → Inside m work.new r) }
 {
+    let Given { atom, depth } = given;
     let types = rest_types(alloc, arg, work.types, &work.levels)?;
     let call = KNode::Call {
         level: depth,
@@ -107,7 +106,7 @@ fn give_inst<'a>(
         types,
         count: 1,
     };
-    put_one(&mut work.out, given, call)?;
+    put_one(&mut work.out, atom, call)?;
     hand_over(alloc, work, ty, depth)
 }
 
@@ -116,14 +115,14 @@ fn give_right<'a>(
     work: &mut Work<'a>,
     op: Op,
     a: Atom,
-    given: Atom,
-    depth: u64,
+    given: Given,
 ) -> Result<Control, OutOfMemory>
     ensures steps { IfOk result (λ r. (t : ℕ → Noted) →
-        Takes t work.old (frames.Right op a) given depth work.new r) }
+        Takes t work.old (frames.Right op a) given.atom given.depth work.new r) }
     ensures inside { IfOk result (λ r. (m : ℕ) → KeptIn m work.old → Inside m work.new r) }
 {
-    put_two(&mut work.out, a, given, KNode::Arith { level: depth, op })?;
+    let Given { atom, depth } = given;
+    put_two(&mut work.out, a, atom, KNode::Arith { level: depth, op })?;
     let inside = deeper(depth)?;
     Ok(Control::Give {
         atom: Atom::Level(depth),
@@ -137,20 +136,20 @@ fn give_proj<'a>(
     work: &mut Work<'a>,
     i: u64,
     ty: &'a FType,
-    given: Atom,
-    depth: u64,
+    given: Given,
 ) -> Result<Control, OutOfMemory>
     ensures steps { IfOk result (λ r. (t : ℕ → Noted) →
-        Takes t work.old (frames.Proj i ty.entry) given depth work.new r) }
+        Takes t work.old (frames.Proj i ty.entry) given.atom given.depth work.new r) }
     ensures inside { IfOk result (λ r. (m : ℕ) → KeptIn m work.old → Inside m work.new r) }
 {
+    let Given { atom, depth } = given;
     let ty = k_type_at(alloc, ty, work.types, &work.levels)?;
     let proj = KNode::Proj {
         level: depth,
         field: i,
         ty,
     };
-    put_one(&mut work.out, given, proj)?;
+    put_one(&mut work.out, atom, proj)?;
     let inside = deeper(depth)?;
     Ok(Control::Give {
         atom: Atom::Level(depth),
@@ -162,18 +161,18 @@ fn give_proj<'a>(
 fn give_field<'a>(
     alloc: Global,
     work: &mut Work<'a>,
-    rest: &'a [u64],
-    mut done: Vec<Atom>,
-    given: Atom,
-    ty: &'a FType,
-    depth: u64,
+    tuple: Tuple<'a>,
+    given: Given,
 ) -> Result<Control, OutOfMemory>
     ensures steps { IfOk result (λ r. (t : ℕ → Noted) →
-        FieldsGo t work.old rest.now (map atom done.items ++ atom given ∷ []) (tree ty.now) depth work.new r) }
-    ensures inside { IfOk result (λ r. (m : ℕ) → All (λ i. i < m) rest.now → KeptIn m work.old → Inside m work.new r) }
+        FieldsGo t work.old tuple.entry.rest.now (map atom tuple.entry.done.items ++ atom given.atom ∷ [])
+        (tree tuple.entry.ty.now) given.depth work.new r) }
+    ensures inside { IfOk result (λ r. (m : ℕ) →
+        All (λ i. i < m) tuple.entry.rest.now → KeptIn m work.old → Inside m work.new r) }
 {
-    done.push(given)?;
-    let next = walk_fields(alloc, work, rest, done, ty, depth)?;
+    let Tuple { rest, mut done, ty } = tuple;
+    done.push(given.atom)?;
+    let next = walk_fields(alloc, work, Tuple { rest, done, ty }, given.depth)?;
     Ok(next)
 }
 
@@ -182,20 +181,20 @@ fn give_tail<'a>(
     alloc: Global,
     work: &mut Work<'a>,
     level: u64,
-    given: Atom,
-    depth: u64,
+    given: Given,
 ) -> Result<Control, OutOfMemory>
     ensures steps { IfOk result (λ r. (t : ℕ → Noted) →
-        Takes t work.old (frames.Tail level) given depth work.new r) }
+        Takes t work.old (frames.Tail level) given.atom given.depth work.new r) }
     ensures inside { IfOk result (λ r. (m : ℕ) → KeptIn m work.old → Inside m work.new r) }
 {
+    let Given { atom, depth } = given;
     let call = KNode::Call {
         level: depth,
         depth: work.types,
         types: Vec::new(alloc),
         count: 1,
     };
-    put_call(&mut work.out, Atom::Level(level), call, given)?;
+    put_call(&mut work.out, Atom::Level(level), call, atom)?;
     Ok(Control::Ended)
 }
 
@@ -205,14 +204,14 @@ fn give_test<'a>(
     zero: u64,
     other: u64,
     level: u64,
-    given: Atom,
-    depth: u64,
+    given: Given,
 ) -> Result<Control, OutOfMemory>
     ensures steps { IfOk result (λ r. (t : ℕ → Noted) →
-        Takes t work.old (frames.Test zero other level) given depth work.new r) }
+        Takes t work.old (frames.Test zero other level) given.atom given.depth work.new r) }
     ensures inside { IfOk result (λ r. (m : ℕ) → zero < m → other < m → KeptIn m work.old → Inside m work.new r) }
 {
-    put_one(&mut work.out, given, KNode::If0)?;
+    let Given { atom, depth } = given;
+    put_one(&mut work.out, atom, KNode::If0)?;
     work.pending.push(Pending::Other {
         node: other,
         depth,
@@ -225,17 +224,13 @@ fn give_test<'a>(
 // What a name of the source stands for is given: the name is the innermost one in the body, which comes now. It goes
 // where the body ends; where the body isn't in tail place, it goes already where what the body gives is handed on, and
 // comes again for what was begun in the body and ends later.
-fn give_let<'a>(
-    work: &mut Work<'a>,
-    body: u64,
-    given: Atom,
-    depth: u64,
-) -> Result<Control, OutOfMemory>
+fn give_let<'a>(work: &mut Work<'a>, body: u64, given: Given) -> Result<Control, OutOfMemory>
     ensures steps { IfOk result (λ r. (t : ℕ → Noted) →
-        Takes t work.old (frames.Let body) given depth work.new r) }
+        Takes t work.old (frames.Let body) given.atom given.depth work.new r) }
     ensures inside { IfOk result (λ r. (m : ℕ) → body < m → KeptIn m work.old → Inside m work.new r) }
 {
-    work.names.push(given)?;
+    let Given { atom, depth } = given;
+    work.names.push(atom)?;
     work.pending.push(Pending::Leave)?;
     match take_tail(&mut work.frames) {
         Some(level) => enter(&mut work.frames, Frame::Tail { level }, body, depth),
@@ -249,13 +244,13 @@ fn give_open<'a>(
     work: &mut Work<'a>,
     body: u64,
     ty: &'a FType,
-    given: Atom,
-    depth: u64,
+    given: Given,
 ) -> Result<Control, OutOfMemory>
     ensures steps { IfOk result (λ r. (t : ℕ → Noted) →
-        Takes t work.old (frames.Open body ty.entry) given depth work.new r) }
+        Takes t work.old (frames.Open body ty.entry) given.atom given.depth work.new r) }
     ensures inside { IfOk result (λ r. (m : ℕ) → body < m → KeptIn m work.old → Inside m work.new r) }
 {
+    let Given { atom, depth } = given;
     let types = work.types;
     let ty = opened_type(alloc, ty, types, &work.levels)?;
     let unpack = KNode::Unpack {
@@ -263,7 +258,7 @@ fn give_open<'a>(
         depth: types,
         ty,
     };
-    put_one(&mut work.out, given, unpack)?;
+    put_one(&mut work.out, atom, unpack)?;
     let inside = deeper(depth)?;
     let under = deeper(types)?;
     work.types = under;
@@ -281,30 +276,44 @@ fn give_open<'a>(
 }
 
 // The innermost name goes, and comes again for what was begun under it and ends later.
-fn give_leave<'a>(work: &mut Work<'a>, given: Atom, depth: u64) -> Result<Control, OutOfMemory>
-    ensures steps { IfOk result (λ r. (t : ℕ → Noted) → Takes t work.old frames.Leave given depth work.new r) }
+fn give_leave<'a>(work: &mut Work<'a>, given: Given) -> Result<Control, OutOfMemory>
+    ensures steps { IfOk result (λ r. (t : ℕ → Noted) →
+        Takes t work.old frames.Leave given.atom given.depth work.new r) }
     ensures inside { IfOk result (λ r. (m : ℕ) → KeptIn m work.old → Inside m work.new r) }
 {
     match work.names.pop() {
         Some(atom) => {
             work.pending.push(Pending::Enter { atom })?;
-            Ok(Control::Give { atom: given, depth })
+            Ok(Control::Give {
+                atom: given.atom,
+                depth: given.depth,
+            })
         }
-        None => Ok(Control::Give { atom: given, depth }),
+        None => Ok(Control::Give {
+            atom: given.atom,
+            depth: given.depth,
+        }),
     }
 }
 
 // The innermost type name goes.
-fn give_leave_type<'a>(work: &mut Work<'a>, given: Atom, depth: u64) -> Result<Control, OutOfMemory>
-    ensures steps { IfOk result (λ r. (t : ℕ → Noted) → Takes t work.old frames.LeaveType given depth work.new r) }
+fn give_leave_type<'a>(work: &mut Work<'a>, given: Given) -> Result<Control, OutOfMemory>
+    ensures steps { IfOk result (λ r. (t : ℕ → Noted) →
+        Takes t work.old frames.LeaveType given.atom given.depth work.new r) }
     ensures inside { IfOk result (λ r. (m : ℕ) → KeptIn m work.old → Inside m work.new r) }
 {
     match work.levels.pop() {
         Some(level) => {
             work.pending.push(Pending::EnterType { level })?;
-            Ok(Control::Give { atom: given, depth })
+            Ok(Control::Give {
+                atom: given.atom,
+                depth: given.depth,
+            })
         }
-        None => Ok(Control::Give { atom: given, depth }),
+        None => Ok(Control::Give {
+            atom: given.atom,
+            depth: given.depth,
+        }),
     }
 }
 
@@ -314,13 +323,13 @@ fn give_pack<'a>(
     work: &mut Work<'a>,
     hidden: &'a FType,
     ty: &'a FType,
-    given: Atom,
-    depth: u64,
+    given: Given,
 ) -> Result<Control, OutOfMemory>
     ensures steps { IfOk result (λ r. (t : ℕ → Noted) →
-        Takes t work.old (frames.Pack hidden.entry ty.entry) given depth work.new r) }
+        Takes t work.old (frames.Pack hidden.entry ty.entry) given.atom given.depth work.new r) }
     ensures inside { IfOk result (λ r. (m : ℕ) → KeptIn m work.old → Inside m work.new r) }
 {
+    let Given { atom, depth } = given;
     let types = work.types;
     let hidden = k_type_at(alloc, hidden, types, &work.levels)?;
     let shape = k_type_at(alloc, ty, types, &work.levels)?;
@@ -330,7 +339,7 @@ fn give_pack<'a>(
         hidden,
         shape,
     };
-    put_one(&mut work.out, given, pack)?;
+    put_one(&mut work.out, atom, pack)?;
     let inside = deeper(depth)?;
     Ok(Control::Give {
         atom: Atom::Level(depth),
@@ -343,15 +352,15 @@ fn give_ref<'a>(
     alloc: Global,
     work: &mut Work<'a>,
     ty: &'a FType,
-    given: Atom,
-    depth: u64,
+    given: Given,
 ) -> Result<Control, OutOfMemory>
     ensures steps { IfOk result (λ r. (t : ℕ → Noted) →
-        Takes t work.old (frames.Ref ty.entry) given depth work.new r) }
+        Takes t work.old (frames.Ref ty.entry) given.atom given.depth work.new r) }
     ensures inside { IfOk result (λ r. (m : ℕ) → KeptIn m work.old → Inside m work.new r) }
 {
+    let Given { atom, depth } = given;
     let ty = k_type_at(alloc, ty, work.types, &work.levels)?;
-    put_one(&mut work.out, given, KNode::Cell { level: depth, ty })?;
+    put_one(&mut work.out, atom, KNode::Cell { level: depth, ty })?;
     let inside = deeper(depth)?;
     Ok(Control::Give {
         atom: Atom::Level(depth),
@@ -364,15 +373,15 @@ fn give_deref<'a>(
     alloc: Global,
     work: &mut Work<'a>,
     ty: &'a FType,
-    given: Atom,
-    depth: u64,
+    given: Given,
 ) -> Result<Control, OutOfMemory>
     ensures steps { IfOk result (λ r. (t : ℕ → Noted) →
-        Takes t work.old (frames.Deref ty.entry) given depth work.new r) }
+        Takes t work.old (frames.Deref ty.entry) given.atom given.depth work.new r) }
     ensures inside { IfOk result (λ r. (m : ℕ) → KeptIn m work.old → Inside m work.new r) }
 {
+    let Given { atom, depth } = given;
     let ty = k_type_at(alloc, ty, work.types, &work.levels)?;
-    put_one(&mut work.out, given, KNode::Get { level: depth, ty })?;
+    put_one(&mut work.out, atom, KNode::Get { level: depth, ty })?;
     let inside = deeper(depth)?;
     Ok(Control::Give {
         atom: Atom::Level(depth),
@@ -381,17 +390,13 @@ fn give_deref<'a>(
 }
 
 // What is put in a cell is given: the empty tuple is named.
-fn give_set<'a>(
-    work: &mut Work<'a>,
-    cell: Atom,
-    given: Atom,
-    depth: u64,
-) -> Result<Control, OutOfMemory>
+fn give_set<'a>(work: &mut Work<'a>, cell: Atom, given: Given) -> Result<Control, OutOfMemory>
     ensures steps { IfOk result (λ r. (t : ℕ → Noted) →
-        Takes t work.old (frames.Set cell) given depth work.new r) }
+        Takes t work.old (frames.Set cell) given.atom given.depth work.new r) }
     ensures inside { IfOk result (λ r. (m : ℕ) → KeptIn m work.old → Inside m work.new r) }
 {
-    put_two(&mut work.out, cell, given, KNode::Set { level: depth })?;
+    let Given { atom, depth } = given;
+    put_two(&mut work.out, cell, atom, KNode::Set { level: depth })?;
     let inside = deeper(depth)?;
     Ok(Control::Give {
         atom: Atom::Level(depth),

@@ -9,7 +9,7 @@ ghost use Rattle.k_pass.specs.declared.work.Pending.TheVariants as pendings;
 use crate::access::{deeper, leave, leave_type, put};
 use crate::types::{fix_type, gen_type, rest_type};
 use crate::walk::enter;
-use crate::work::{Atom, Control, Frame, Pending, Work};
+use crate::work::{Atom, Choice, Control, Frame, Pending, Place, Work};
 use f_terms::FType;
 use idx_core::OutOfMemory;
 use k_terms::{KNode, KType};
@@ -56,14 +56,14 @@ fn follow<'a>(
             types,
             arg,
             res,
-        } => name_fix(alloc, work, depth, types, arg, res),
-        Pending::Gen { depth, types, ty } => name_gen(alloc, work, depth, types, ty),
+        } => name_fix(alloc, work, Place { depth, types }, arg, res),
+        Pending::Gen { depth, types, ty } => { name_gen(alloc, work, Place { depth, types }, ty) }
         Pending::Other {
             node,
             depth,
             types,
             level,
-        } => walk_other(work, node, depth, types, level),
+        } => walk_other(work, node, Place { depth, types }, level),
         Pending::If0 {
             test,
             zero,
@@ -71,7 +71,10 @@ fn follow<'a>(
             depth,
             types,
             ty,
-        } => walk_test(alloc, work, test, zero, other, depth, types, ty),
+        } => {
+            let choice = Choice { test, zero, other };
+            walk_test(alloc, work, choice, Place { depth, types }, ty)
+        }
         Pending::End => put_end(work),
         Pending::Leave => leave_name(work),
         Pending::LeaveType => leave_type_name(work),
@@ -84,16 +87,17 @@ fn follow<'a>(
 fn name_fix<'a>(
     alloc: Global,
     work: &mut Work<'a>,
-    depth: u64,
-    types: u64,
+    place: Place,
     arg: &'a FType,
     res: &'a FType,
 ) -> Result<Control, OutOfMemory>
     ensures steps { IfOk result (λ r. (t : ℕ → Noted) →
-        Follows t work.old (pendings.Fix depth types arg.entry res.entry) work.new r) }
+        Follows t work.old (pendings.Fix place.depth place.types arg.entry res.entry) work.new r) }
     ensures inside { IfOk result (λ r. (m : ℕ) →
-        PendingIn m (pendings.Fix depth types arg.entry res.entry) → KeptIn m work.old → Inside m work.new r) }
+        PendingIn m (pendings.Fix place.depth place.types arg.entry res.entry) → KeptIn m work.old →
+        Inside m work.new r) }
 {
+    let Place { depth, types } = place;
     leave(&mut work.names);
     leave(&mut work.names);
     work.types = types;
@@ -110,15 +114,15 @@ fn name_fix<'a>(
 fn name_gen<'a>(
     alloc: Global,
     work: &mut Work<'a>,
-    depth: u64,
-    types: u64,
+    place: Place,
     ty: &'a FType,
 ) -> Result<Control, OutOfMemory>
     ensures steps { IfOk result (λ r. (t : ℕ → Noted) →
-        Follows t work.old (pendings.Gen depth types ty.entry) work.new r) }
+        Follows t work.old (pendings.Gen place.depth place.types ty.entry) work.new r) }
     ensures inside { IfOk result (λ r. (m : ℕ) →
-        PendingIn m (pendings.Gen depth types ty.entry) → KeptIn m work.old → Inside m work.new r) }
+        PendingIn m (pendings.Gen place.depth place.types ty.entry) → KeptIn m work.old → Inside m work.new r) }
 {
+    let Place { depth, types } = place;
     let under = deeper(types)?;
     let ty = gen_type(alloc, ty, under, &work.levels)?;
     leave_type(&mut work.levels);
@@ -135,15 +139,15 @@ fn name_gen<'a>(
 fn walk_other<'a>(
     work: &mut Work<'a>,
     node: u64,
-    depth: u64,
-    types: u64,
+    place: Place,
     level: u64,
 ) -> Result<Control, OutOfMemory>
     ensures steps { IfOk result (λ r. (t : ℕ → Noted) →
-        Follows t work.old (pendings.Other node depth types level) work.new r) }
+        Follows t work.old (pendings.Other node place.depth place.types level) work.new r) }
     ensures inside { IfOk result (λ r. (m : ℕ) →
-        PendingIn m (pendings.Other node depth types level) → KeptIn m work.old → Inside m work.new r) }
+        PendingIn m (pendings.Other node place.depth place.types level) → KeptIn m work.old → Inside m work.new r) }
 {
+    let Place { depth, types } = place;
     let mark = KNode::Else { depth: types };
     put(&mut work.out, mark)?;
     work.types = types;
@@ -154,18 +158,19 @@ fn walk_other<'a>(
 fn walk_test<'a>(
     alloc: Global,
     work: &mut Work<'a>,
-    test: u64,
-    zero: u64,
-    other: u64,
-    depth: u64,
-    types: u64,
+    choice: Choice,
+    place: Place,
     ty: &'a FType,
 ) -> Result<Control, OutOfMemory>
     ensures steps { IfOk result (λ r. (t : ℕ → Noted) →
-        Follows t work.old (pendings.If0 test zero other depth types ty.entry) work.new r) }
+        Follows t work.old
+        (pendings.If0 choice.test choice.zero choice.other place.depth place.types ty.entry) work.new r) }
     ensures inside { IfOk result (λ r. (m : ℕ) →
-        PendingIn m (pendings.If0 test zero other depth types ty.entry) → KeptIn m work.old → Inside m work.new r) }
+        PendingIn m (pendings.If0 choice.test choice.zero choice.other place.depth place.types ty.entry) →
+        KeptIn m work.old → Inside m work.new r) }
 {
+    let Choice { test, zero, other } = choice;
+    let Place { depth, types } = place;
     work.types = types;
     let ty = rest_type(alloc, ty, types, &work.levels)?;
     put_name(&mut work.out, depth, ty)?;

@@ -14,7 +14,7 @@ ghost use Rattle.k_pass.specs.declared.work.Control.TheVariants as controls;
 use crate::access::{atom_of, deeper, node_at, put, put_atom};
 use crate::hand::{open_rest, take_tail};
 use crate::types::{fix_types, gen_types, k_type_at, under_all};
-use crate::work::{Atom, Control, Frame, Pending, Work};
+use crate::work::{Atom, Choice, Control, Frame, Part, Pending, Tuple, Work};
 use f_terms::{FShape, FTerm, FType};
 use idx_core::OutOfMemory;
 use k_terms::{KNode, KType};
@@ -40,15 +40,15 @@ pub(crate) fn walk<'a>(
     term: &'a FTerm,
     types: &'a [FType],
     work: &mut Work<'a>,
-    node: u64,
-    depth: u64,
+    part: Part,
 ) -> Result<Control, OutOfMemory>
-    requires here { node < count term.now }
+    requires here { part.node < count term.now }
     requires table { count term.now ≤ length types.now }
     ensures steps { IfOk result (λ r. Steps (noted_at term.now types.now) work.old
-        (controls.Walk node depth) work.new r) }
+        (controls.Walk part.node part.depth) work.new r) }
     ensures inside { IfOk result (λ r. KeptIn (count term.now) work.old → Inside (count term.now) work.new r) }
 {
+    let Part { node, depth } = part;
     let found = node_at(term, types, node);
     let ty = found.1;
     match &found.0.shape {
@@ -60,16 +60,24 @@ pub(crate) fn walk<'a>(
             atom: Atom::Literal(*n),
             depth,
         }),
-        FShape::Fix { arg, res, body } => walk_fix(alloc, work, arg, res, *body, depth),
+        FShape::Fix { arg, res, body } => {
+            walk_fix(alloc, work, arg, res, Part { node: *body, depth })
+        }
         FShape::App(f, x) => enter(&mut work.frames, Frame::Fun { x: *x, ty }, *f, depth),
-        FShape::Gen(body) => walk_gen(alloc, work, *body, under_all(ty), depth),
+        FShape::Gen(body) => { walk_gen(alloc, work, Part { node: *body, depth }, under_all(ty)) }
         FShape::Inst(e, arg) => enter(&mut work.frames, Frame::Inst { arg, ty }, *e, depth),
-        FShape::Tuple(es) => walk_fields(alloc, work, es, Vec::new(alloc), ty, depth),
+        FShape::Tuple(es) => {
+            let done = Vec::new(alloc);
+            walk_fields(alloc, work, Tuple { rest: es, done, ty }, depth)
+        }
         FShape::Proj(i, e) => enter(&mut work.frames, Frame::Proj { i: *i, ty }, *e, depth),
         FShape::Arith(op, a, b) => {
             enter(&mut work.frames, Frame::Left { op: *op, b: *b }, *a, depth)
         }
-        FShape::If0(test, zero, other) => { walk_if0(alloc, work, *test, *zero, *other, ty, depth) }
+        FShape::If0(test, zero, other) => {
+            let (test, zero, other) = (*test, *zero, *other);
+            walk_if0(alloc, work, Choice { test, zero, other }, ty, depth)
+        }
         FShape::Let(a, b) => enter(&mut work.frames, Frame::Let { body: *b }, *a, depth),
         FShape::Pack {
             hidden,
@@ -94,13 +102,13 @@ fn walk_fix<'a>(
     work: &mut Work<'a>,
     arg: &'a FType,
     res: &'a FType,
-    body: u64,
-    depth: u64,
+    body: Part,
 ) -> Result<Control, OutOfMemory>
     ensures steps { IfOk result (λ r. (t : ℕ → Noted) →
-        Goes t work.old (EFix (tree arg.now) (tree res.now) (t body)) depth work.new r) }
-    ensures inside { IfOk result (λ r. (m : ℕ) → body < m → KeptIn m work.old → Inside m work.new r) }
+        Goes t work.old (EFix (tree arg.now) (tree res.now) (t body.node)) body.depth work.new r) }
+    ensures inside { IfOk result (λ r. (m : ℕ) → body.node < m → KeptIn m work.old → Inside m work.new r) }
 {
+    let Part { node, depth } = body;
     let types = work.types;
     let args = fix_types(alloc, arg, res, types, &work.levels)?;
     let code = KNode::Code {
@@ -121,21 +129,21 @@ fn walk_fix<'a>(
         arg,
         res,
     })?;
-    enter(&mut work.frames, Frame::Tail { level }, body, inside)
+    enter(&mut work.frames, Frame::Tail { level }, node, inside)
 }
 
 // A suspended body is named, the body comes first.
 fn walk_gen<'a>(
     alloc: Global,
     work: &mut Work<'a>,
-    body: u64,
+    body: Part,
     ty: &'a FType,
-    depth: u64,
 ) -> Result<Control, OutOfMemory>
     ensures steps { IfOk result (λ r. (t : ℕ → Noted) →
-        Goes t work.old (EGen (t body) (tree ty.now)) depth work.new r) }
-    ensures inside { IfOk result (λ r. (m : ℕ) → body < m → KeptIn m work.old → Inside m work.new r) }
+        Goes t work.old (EGen (t body.node) (tree ty.now)) body.depth work.new r) }
+    ensures inside { IfOk result (λ r. (m : ℕ) → body.node < m → KeptIn m work.old → Inside m work.new r) }
 {
+    let Part { node, depth } = body;
     let types = work.types;
     let under = deeper(types)?;
     work.types = under;
@@ -151,24 +159,23 @@ fn walk_gen<'a>(
     let level = deeper(depth)?;
     let inside = deeper(level)?;
     work.pending.push(Pending::Gen { depth, types, ty })?;
-    enter(&mut work.frames, Frame::Tail { level }, body, inside)
+    enter(&mut work.frames, Frame::Tail { level }, node, inside)
 }
 
 // The test comes first where the term is in tail place; else what comes after the term is named first.
 fn walk_if0<'a>(
     alloc: Global,
     work: &mut Work<'a>,
-    test: u64,
-    zero: u64,
-    other: u64,
+    choice: Choice,
     ty: &'a FType,
     depth: u64,
 ) -> Result<Control, OutOfMemory>
     ensures steps { IfOk result (λ r. (t : ℕ → Noted) →
-        Goes t work.old (EIf (t test) (t zero) (t other) (tree ty.now)) depth work.new r) }
-    ensures inside { IfOk result (λ r. (m : ℕ) → test < m → zero < m → other < m → KeptIn m work.old →
-        Inside m work.new r) }
+        Goes t work.old (EIf (t choice.test) (t choice.zero) (t choice.other) (tree ty.now)) depth work.new r) }
+    ensures inside { IfOk result (λ r. (m : ℕ) →
+        choice.test < m → choice.zero < m → choice.other < m → KeptIn m work.old → Inside m work.new r) }
 {
+    let Choice { test, zero, other } = choice;
     match take_tail(&mut work.frames) {
         Some(level) => {
             let frame = Frame::Test { zero, other, level };
@@ -192,15 +199,16 @@ fn walk_if0<'a>(
 pub(crate) fn walk_fields<'a>(
     alloc: Global,
     work: &mut Work<'a>,
-    rest: &'a [u64],
-    done: Vec<Atom>,
-    ty: &'a FType,
+    tuple: Tuple<'a>,
     depth: u64,
 ) -> Result<Control, OutOfMemory>
     ensures steps { IfOk result (λ r. (t : ℕ → Noted) →
-        FieldsGo t work.old rest.now (map atom done.items) (tree ty.now) depth work.new r) }
-    ensures inside { IfOk result (λ r. (m : ℕ) → All (λ i. i < m) rest.now → KeptIn m work.old → Inside m work.new r) }
+        FieldsGo t work.old tuple.entry.rest.now (map atom tuple.entry.done.items)
+        (tree tuple.entry.ty.now) depth work.new r) }
+    ensures inside { IfOk result (λ r. (m : ℕ) →
+        All (λ i. i < m) tuple.entry.rest.now → KeptIn m work.old → Inside m work.new r) }
 {
+    let Tuple { rest, done, ty } = tuple;
     match rest.split_first() {
         None => {
             let made = k_type_at(alloc, ty, work.types, &work.levels)?;

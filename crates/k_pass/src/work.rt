@@ -145,6 +145,43 @@ pub(crate) enum Pending<'a> {
     },
 }
 
+/// A term that is to be converted: its node, and how many names are around it.
+#[derive(Clone, Copy)]
+pub(crate) struct Part {
+    pub(crate) node: u64,
+    pub(crate) depth: u64,
+}
+
+/// An atom that is there, and how many names are around it.
+#[derive(Clone, Copy)]
+pub(crate) struct Given {
+    pub(crate) atom: Atom,
+    pub(crate) depth: u64,
+}
+
+/// How many names and how many type variables are around a term.
+#[derive(Clone, Copy)]
+pub(crate) struct Place {
+    pub(crate) depth: u64,
+    pub(crate) types: u64,
+}
+
+/// The nodes of an `if0`'s parts.
+#[derive(Clone, Copy)]
+pub(crate) struct Choice {
+    pub(crate) test: u64,
+    pub(crate) zero: u64,
+    pub(crate) other: u64,
+}
+
+/// A tuple that is being made: the nodes of the fields that are next, the fields that are done, and its type.
+#[derive(Drop)]
+pub(crate) struct Tuple<'a> {
+    pub(crate) rest: &'a [u64],
+    pub(crate) done: Vec<Atom>,
+    pub(crate) ty: &'a FType,
+}
+
 /// What is next.
 #[derive(Clone, Copy)]
 pub(crate) enum Control {

@@ -14,9 +14,9 @@ returns-in-Some-clause-steps c =
     let w = c.args.work.now in
     next_is c.enter.result (C.Walk c.args.body c.in_ok-inside.inside) _ c.enter.ensures
     (λ waits t. open_tail t w c.put_one.new.out c.take_tail.new.stack c.enter.new.frames c.push-3.new.self
-    c.push-4.new.self c.push-2.new.self c.push.new.self c.args.body c.in-Some.level c.args.ty c.args.given
-    c.args.depth c.in_ok-inside.inside c.in_ok-under.under _
-    c.in_ok-put_one.ensures (ap (λ (u : K.KTy). NUnpack c.args.depth w.types u) c.in_ok-ty.ensures)
+    c.push-4.new.self c.push-2.new.self c.push.new.self c.args.body c.in-Some.level c.args.ty c.args.given.atom
+    c.args.given.depth c.in_ok-inside.inside c.in_ok-under.under _
+    c.in_ok-put_one.ensures (ap (λ (u : K.KTy). NUnpack c.args.given.depth w.types u) c.in_ok-ty.ensures)
     (c.in-Some.ensures t) waits
     c.in_ok-push-2.ensures.items c.in_ok-push.ensures.items c.in_ok-push-3.ensures.items c.in_ok-push-4.ensures.items
     c.in_ok-inside.ensures c.in_ok-under.ensures)
@@ -27,9 +27,9 @@ returns-in_ok-push-in-None-clause-steps c =
     next_is c.enter-in-None.result (C.Walk c.args.body c.in_ok-inside.inside) _ c.enter-in-None.ensures
     (λ waits t. let none = c.in-None.ensures t in
     open_rest t w c.put_one.new.out c.take_tail.new.stack c.push-in-None.new.self c.enter-in-None.new.frames
-    c.push-3.new.self c.push-4.new.self c.push-2.new.self c.push.new.self c.args.body c.args.ty c.args.given
-    c.args.depth c.in_ok-inside.inside c.in_ok-under.under _
-    c.in_ok-put_one.ensures (ap (λ (u : K.KTy). NUnpack c.args.depth w.types u) c.in_ok-ty.ensures) none.0 none.1
+    c.push-3.new.self c.push-4.new.self c.push-2.new.self c.push.new.self c.args.body c.args.ty c.args.given.atom
+    c.args.given.depth c.in_ok-inside.inside c.in_ok-under.under _
+    c.in_ok-put_one.ensures (ap (λ (u : K.KTy). NUnpack c.args.given.depth w.types u) c.in_ok-ty.ensures) none.0 none.1
     c.in_ok-push-in-None.ensures.items waits
     c.in_ok-push-2.ensures.items c.in_ok-push.ensures.items c.in_ok-push-3.ensures.items c.in_ok-push-4.ensures.items
     c.in_ok-inside.ensures c.in_ok-under.ensures)

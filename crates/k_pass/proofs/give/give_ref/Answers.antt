@@ -11,6 +11,6 @@ use Rattle.k_pass.proofs.give.give_ref.Goals as goal
 pub returns-clause-steps : goal.returns-clause-steps
 returns-clause-steps c = λ t.
     let w = c.args.work.now in
-    takes_one t w c.put_one.new.out (F.Ref c.args.ty) c.args.given c.args.depth c.in_ok-inside.inside
-    (cell_node (at w).0 (tree c.args.ty.now) w.types c.args.depth) _ refl refl
-    c.in_ok-put_one.ensures (ap (λ (u : K.KTy). NCell c.args.depth u) c.in_ok-ty.ensures) c.in_ok-inside.ensures
+    takes_one t w c.put_one.new.out (F.Ref c.args.ty) c.args.given.atom c.args.given.depth c.in_ok-inside.inside
+    (cell_node (at w).0 (tree c.args.ty.now) w.types c.args.given.depth) _ refl refl
+    c.in_ok-put_one.ensures (ap (λ (u : K.KTy). NCell c.args.given.depth u) c.in_ok-ty.ensures) c.in_ok-inside.ensures

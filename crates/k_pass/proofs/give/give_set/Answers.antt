@@ -6,6 +6,6 @@ use Rattle.k_pass.proofs.give.give_set.Goals as goal
 
 pub returns-clause-steps : goal.returns-clause-steps
 returns-clause-steps c = λ t.
-    takes_two t c.args.work.now c.put_two.new.out (F.Set c.args.cell) c.args.cell c.args.given c.args.depth
-    c.in_ok-inside.inside (NSet c.args.depth) refl refl
+    takes_two t c.args.work.now c.put_two.new.out (F.Set c.args.cell) c.args.cell c.args.given.atom c.args.given.depth
+    c.in_ok-inside.inside (NSet c.args.given.depth) refl refl
     c.in_ok-put_two.ensures c.in_ok-inside.ensures

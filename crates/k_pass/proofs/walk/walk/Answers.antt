@@ -19,8 +19,8 @@ pub returns-in-App-clause-steps : goal.returns-in-App-clause-steps
 returns-in-App-clause-steps c =
     let t = noted_at c.args.term.now c.args.types.now in
     let s = c.in-App in
-    next_is c.enter.result (C.Walk s.f c.args.depth) _ c.enter.ensures
-    (λ waits. walks t c.args.work.now c.args.node c.args.depth
+    next_is c.enter.result (C.Walk s.f c.args.part.depth) _ c.enter.ensures
+    (λ waits. walks t c.args.work.now c.args.part.node c.args.part.depth
     (EApp (t s.f) (t s.x) (tree c.node_at-found.result.1.now))
     (record {
       out = c.args.work.now.out;
@@ -30,16 +30,16 @@ returns-in-App-clause-steps c =
       levels = c.args.work.now.levels;
       types = c.args.work.now.types;
     })
-    (C.Walk s.f c.args.depth)
+    (C.Walk s.f c.args.part.depth)
     (c.node_at-found.ensures.tree ∙ ap (noted_shape t (tree c.node_at-found.result.1.now)) s.is)
-    (goes_app t c.args.work.now c.enter.new.frames s.f s.x _ c.args.depth waits))
+    (goes_app t c.args.work.now c.enter.new.frames s.f s.x _ c.args.part.depth waits))
 
 pub returns-in-Inst-clause-steps : goal.returns-in-Inst-clause-steps
 returns-in-Inst-clause-steps c =
     let t = noted_at c.args.term.now c.args.types.now in
     let s = c.in-Inst in
-    next_is c.enter-in-Inst.result (C.Walk s.e c.args.depth) _ c.enter-in-Inst.ensures
-    (λ waits. walks t c.args.work.now c.args.node c.args.depth
+    next_is c.enter-in-Inst.result (C.Walk s.e c.args.part.depth) _ c.enter-in-Inst.ensures
+    (λ waits. walks t c.args.work.now c.args.part.node c.args.part.depth
     (EInst (t s.e) (tree s.arg) (tree c.node_at-found.result.1.now))
     (record {
       out = c.args.work.now.out;
@@ -49,16 +49,17 @@ returns-in-Inst-clause-steps c =
       levels = c.args.work.now.levels;
       types = c.args.work.now.types;
     })
-    (C.Walk s.e c.args.depth)
+    (C.Walk s.e c.args.part.depth)
     (c.node_at-found.ensures.tree ∙ ap (noted_shape t (tree c.node_at-found.result.1.now)) s.is)
-    (goes_inst t c.args.work.now c.enter-in-Inst.new.frames s.e _ _ c.args.depth waits))
+    (goes_inst t c.args.work.now c.enter-in-Inst.new.frames s.e _ _ c.args.part.depth waits))
 
 pub returns-in-Proj-clause-steps : goal.returns-in-Proj-clause-steps
 returns-in-Proj-clause-steps c =
     let t = noted_at c.args.term.now c.args.types.now in
     let s = c.in-Proj in
-    next_is c.enter-in-Proj.result (C.Walk s.e c.args.depth) _ c.enter-in-Proj.ensures
-    (λ waits. walks t c.args.work.now c.args.node c.args.depth (EProj s.i (t s.e) (tree c.node_at-found.result.1.now))
+    next_is c.enter-in-Proj.result (C.Walk s.e c.args.part.depth) _ c.enter-in-Proj.ensures
+    (λ waits. walks t c.args.work.now c.args.part.node c.args.part.depth
+    (EProj s.i (t s.e) (tree c.node_at-found.result.1.now))
     (record {
       out = c.args.work.now.out;
       frames = c.enter-in-Proj.new.frames;
@@ -67,16 +68,16 @@ returns-in-Proj-clause-steps c =
       levels = c.args.work.now.levels;
       types = c.args.work.now.types;
     })
-    (C.Walk s.e c.args.depth)
+    (C.Walk s.e c.args.part.depth)
     (c.node_at-found.ensures.tree ∙ ap (noted_shape t (tree c.node_at-found.result.1.now)) s.is)
-    (goes_proj t c.args.work.now c.enter-in-Proj.new.frames s.i s.e _ c.args.depth waits))
+    (goes_proj t c.args.work.now c.enter-in-Proj.new.frames s.i s.e _ c.args.part.depth waits))
 
 pub returns-in-Arith-clause-steps : goal.returns-in-Arith-clause-steps
 returns-in-Arith-clause-steps c =
     let t = noted_at c.args.term.now c.args.types.now in
     let s = c.in-Arith in
-    next_is c.enter-in-Arith.result (C.Walk s.a c.args.depth) _ c.enter-in-Arith.ensures
-    (λ waits. walks t c.args.work.now c.args.node c.args.depth (EArith s.op (t s.a) (t s.b))
+    next_is c.enter-in-Arith.result (C.Walk s.a c.args.part.depth) _ c.enter-in-Arith.ensures
+    (λ waits. walks t c.args.work.now c.args.part.node c.args.part.depth (EArith s.op (t s.a) (t s.b))
     (record {
       out = c.args.work.now.out;
       frames = c.enter-in-Arith.new.frames;
@@ -85,16 +86,16 @@ returns-in-Arith-clause-steps c =
       levels = c.args.work.now.levels;
       types = c.args.work.now.types;
     })
-    (C.Walk s.a c.args.depth)
+    (C.Walk s.a c.args.part.depth)
     (c.node_at-found.ensures.tree ∙ ap (noted_shape t (tree c.node_at-found.result.1.now)) s.is)
-    (goes_arith t c.args.work.now c.enter-in-Arith.new.frames s.op s.a s.b c.args.depth waits))
+    (goes_arith t c.args.work.now c.enter-in-Arith.new.frames s.op s.a s.b c.args.part.depth waits))
 
 pub returns-in-App-clause-inside : goal.returns-in-App-clause-inside
 returns-in-App-clause-inside c =
     let m = count c.args.term.now in
     let s = c.in-App in
     let k = kids_two m c.node_at-found.result.0.now.shape s.f s.x (ap children s.is) c.node_at-found.ensures.kids in
-    next_is c.enter.result (C.Walk s.f c.args.depth) _ c.enter.ensures
+    next_is c.enter.result (C.Walk s.f c.args.part.depth) _ c.enter.ensures
     (λ waits kept. (k.0, all_push (FrameIn m) _ _ _ waits kept.0 k.1, kept.1))
 
 pub returns-in-Arith-clause-inside : goal.returns-in-Arith-clause-inside
@@ -102,7 +103,7 @@ returns-in-Arith-clause-inside c =
     let m = count c.args.term.now in
     let s = c.in-Arith in
     let k = kids_two m c.node_at-found.result.0.now.shape s.a s.b (ap children s.is) c.node_at-found.ensures.kids in
-    next_is c.enter-in-Arith.result (C.Walk s.a c.args.depth) _ c.enter-in-Arith.ensures
+    next_is c.enter-in-Arith.result (C.Walk s.a c.args.part.depth) _ c.enter-in-Arith.ensures
     (λ waits kept. (k.0, all_push (FrameIn m) _ _ _ waits kept.0 k.1, kept.1))
 
 pub returns-in-Inst-clause-inside : goal.returns-in-Inst-clause-inside
@@ -110,7 +111,7 @@ returns-in-Inst-clause-inside c =
     let m = count c.args.term.now in
     let s = c.in-Inst in
     let k = kids_one m c.node_at-found.result.0.now.shape s.e (ap children s.is) c.node_at-found.ensures.kids in
-    next_is c.enter-in-Inst.result (C.Walk s.e c.args.depth) _ c.enter-in-Inst.ensures
+    next_is c.enter-in-Inst.result (C.Walk s.e c.args.part.depth) _ c.enter-in-Inst.ensures
     (λ waits kept. (k, all_push (FrameIn m) _ _ _ waits kept.0 tt, kept.1))
 
 pub returns-in-Proj-clause-inside : goal.returns-in-Proj-clause-inside
@@ -118,7 +119,7 @@ returns-in-Proj-clause-inside c =
     let m = count c.args.term.now in
     let s = c.in-Proj in
     let k = kids_one m c.node_at-found.result.0.now.shape s.e (ap children s.is) c.node_at-found.ensures.kids in
-    next_is c.enter-in-Proj.result (C.Walk s.e c.args.depth) _ c.enter-in-Proj.ensures
+    next_is c.enter-in-Proj.result (C.Walk s.e c.args.part.depth) _ c.enter-in-Proj.ensures
     (λ waits kept. (k, all_push (FrameIn m) _ _ _ waits kept.0 tt, kept.1))
 
 pub returns-in-Fix-clause-inside : goal.returns-in-Fix-clause-inside
@@ -158,7 +159,7 @@ returns-in-Fix-clause-steps c =
     let t = noted_at c.args.term.now c.args.types.now in
     let s = c.in-Fix in
     IfOk-weaker c.walk_fix.result _ _
-    (λ next h. walks t c.args.work.now c.args.node c.args.depth (EFix (tree s.arg) (tree s.res) (t s.body))
+    (λ next h. walks t c.args.work.now c.args.part.node c.args.part.depth (EFix (tree s.arg) (tree s.res) (t s.body))
     c.walk_fix.new.work next
     (c.node_at-found.ensures.tree ∙ ap (noted_shape t (tree c.node_at-found.result.1.now)) s.is) (h t))
     c.walk_fix.ensures.steps
@@ -168,7 +169,8 @@ returns-in-Gen-clause-steps c =
     let t = noted_at c.args.term.now c.args.types.now in
     let s = c.in-Gen in
     IfOk-weaker c.walk_gen.result _ _
-    (λ next h. walks t c.args.work.now c.args.node c.args.depth (EGen (t s.body) (tree c.under_all.result.now))
+    (λ next h. walks t c.args.work.now c.args.part.node c.args.part.depth
+    (EGen (t s.body) (tree c.under_all.result.now))
     c.walk_gen.new.work next
     (c.node_at-found.ensures.tree ∙ ap (noted_shape t (tree c.node_at-found.result.1.now)) s.is
     ∙ ap (EGen (t s.body)) (sym c.under_all.ensures)) (h t)) c.walk_gen.ensures.steps
@@ -179,11 +181,11 @@ returns-in-Tuple-clause-steps c =
     let s = c.in-Tuple in
     let ty = tree c.node_at-found.result.1.now in
     IfOk-weaker c.walk_fields.result _ _
-    (λ next h. walks t c.args.work.now c.args.node c.args.depth (ETuple (noteds (map t s.es.items)) ty)
+    (λ next h. walks t c.args.work.now c.args.part.node c.args.part.depth (ETuple (noteds (map t s.es.items)) ty)
     c.walk_fields.new.work next
     (c.node_at-found.ensures.tree ∙ ap (noted_shape t ty) s.is)
-    (goes_tuple t c.args.work.now s.es.items c.deref-in-Tuple.result.now c.new.result.items ty c.args.depth
-    c.walk_fields.new.work next c.deref-in-Tuple.ensures.value c.new.ensures.items (h t)))
+    (goes_tuple t c.args.work.now s.es.items c.deref-in-Tuple.result.now c.new-done.result.items ty c.args.part.depth
+    c.walk_fields.new.work next c.deref-in-Tuple.ensures.value c.new-done.ensures.items (h t)))
     c.walk_fields.ensures.steps
 
 pub returns-in-If0-clause-steps : goal.returns-in-If0-clause-steps
@@ -191,7 +193,7 @@ returns-in-If0-clause-steps c =
     let t = noted_at c.args.term.now c.args.types.now in
     let s = c.in-If0 in
     IfOk-weaker c.walk_if0.result _ _
-    (λ next h. walks t c.args.work.now c.args.node c.args.depth
+    (λ next h. walks t c.args.work.now c.args.part.node c.args.part.depth
     (EIf (t s.test) (t s.zero) (t s.other) (tree c.node_at-found.result.1.now)) c.walk_if0.new.work next
     (c.node_at-found.ensures.tree ∙ ap (noted_shape t (tree c.node_at-found.result.1.now)) s.is) (h t))
     c.walk_if0.ensures.steps
@@ -200,8 +202,8 @@ pub returns-in-Let-clause-steps : goal.returns-in-Let-clause-steps
 returns-in-Let-clause-steps c =
     let t = noted_at c.args.term.now c.args.types.now in
     let s = c.in-Let in
-    next_is c.enter-in-Let.result (C.Walk s.a c.args.depth) _ c.enter-in-Let.ensures
-    (λ waits. walks t c.args.work.now c.args.node c.args.depth (ELet (t s.a) (t s.b))
+    next_is c.enter-in-Let.result (C.Walk s.a c.args.part.depth) _ c.enter-in-Let.ensures
+    (λ waits. walks t c.args.work.now c.args.part.node c.args.part.depth (ELet (t s.a) (t s.b))
     (record {
       out = c.args.work.now.out;
       frames = c.enter-in-Let.new.frames;
@@ -210,16 +212,17 @@ returns-in-Let-clause-steps c =
       levels = c.args.work.now.levels;
       types = c.args.work.now.types;
     })
-    (C.Walk s.a c.args.depth)
+    (C.Walk s.a c.args.part.depth)
     (c.node_at-found.ensures.tree ∙ ap (noted_shape t (tree c.node_at-found.result.1.now)) s.is)
-    (goes_let t c.args.work.now c.enter-in-Let.new.frames s.a s.b c.args.depth waits))
+    (goes_let t c.args.work.now c.enter-in-Let.new.frames s.a s.b c.args.part.depth waits))
 
 pub returns-in-Pack-clause-steps : goal.returns-in-Pack-clause-steps
 returns-in-Pack-clause-steps c =
     let t = noted_at c.args.term.now c.args.types.now in
     let s = c.in-Pack in
-    next_is c.enter-in-Pack.result (C.Walk s.inner c.args.depth) _ c.enter-in-Pack.ensures
-    (λ waits. walks t c.args.work.now c.args.node c.args.depth (EPack (tree s.hidden) (t s.inner) (tree s.shape))
+    next_is c.enter-in-Pack.result (C.Walk s.inner c.args.part.depth) _ c.enter-in-Pack.ensures
+    (λ waits. walks t c.args.work.now c.args.part.node c.args.part.depth
+    (EPack (tree s.hidden) (t s.inner) (tree s.shape))
     (record {
       out = c.args.work.now.out;
       frames = c.enter-in-Pack.new.frames;
@@ -228,16 +231,16 @@ returns-in-Pack-clause-steps c =
       levels = c.args.work.now.levels;
       types = c.args.work.now.types;
     })
-    (C.Walk s.inner c.args.depth)
+    (C.Walk s.inner c.args.part.depth)
     (c.node_at-found.ensures.tree ∙ ap (noted_shape t (tree c.node_at-found.result.1.now)) s.is)
-    (goes_pack t c.args.work.now c.enter-in-Pack.new.frames s.inner _ _ c.args.depth waits))
+    (goes_pack t c.args.work.now c.enter-in-Pack.new.frames s.inner _ _ c.args.part.depth waits))
 
 pub returns-in-Open-clause-steps : goal.returns-in-Open-clause-steps
 returns-in-Open-clause-steps c =
     let t = noted_at c.args.term.now c.args.types.now in
     let s = c.in-Open in
-    next_is c.enter-in-Open.result (C.Walk s.a c.args.depth) _ c.enter-in-Open.ensures
-    (λ waits. walks t c.args.work.now c.args.node c.args.depth
+    next_is c.enter-in-Open.result (C.Walk s.a c.args.part.depth) _ c.enter-in-Open.ensures
+    (λ waits. walks t c.args.work.now c.args.part.node c.args.part.depth
     (EOpen (t s.a) (t s.b) (tree c.node_at-found.result.1.now))
     (record {
       out = c.args.work.now.out;
@@ -247,16 +250,17 @@ returns-in-Open-clause-steps c =
       levels = c.args.work.now.levels;
       types = c.args.work.now.types;
     })
-    (C.Walk s.a c.args.depth)
+    (C.Walk s.a c.args.part.depth)
     (c.node_at-found.ensures.tree ∙ ap (noted_shape t (tree c.node_at-found.result.1.now)) s.is)
-    (goes_open t c.args.work.now c.enter-in-Open.new.frames s.a s.b _ c.args.depth waits))
+    (goes_open t c.args.work.now c.enter-in-Open.new.frames s.a s.b _ c.args.part.depth waits))
 
 pub returns-in-Ref-clause-steps : goal.returns-in-Ref-clause-steps
 returns-in-Ref-clause-steps c =
     let t = noted_at c.args.term.now c.args.types.now in
     let s = c.in-Ref in
-    next_is c.enter-in-Ref.result (C.Walk s.e c.args.depth) _ c.enter-in-Ref.ensures
-    (λ waits. walks t c.args.work.now c.args.node c.args.depth (ERef (t s.e) (tree c.node_at-found.result.1.now))
+    next_is c.enter-in-Ref.result (C.Walk s.e c.args.part.depth) _ c.enter-in-Ref.ensures
+    (λ waits. walks t c.args.work.now c.args.part.node c.args.part.depth
+    (ERef (t s.e) (tree c.node_at-found.result.1.now))
     (record {
       out = c.args.work.now.out;
       frames = c.enter-in-Ref.new.frames;
@@ -265,16 +269,17 @@ returns-in-Ref-clause-steps c =
       levels = c.args.work.now.levels;
       types = c.args.work.now.types;
     })
-    (C.Walk s.e c.args.depth)
+    (C.Walk s.e c.args.part.depth)
     (c.node_at-found.ensures.tree ∙ ap (noted_shape t (tree c.node_at-found.result.1.now)) s.is)
-    (goes_ref t c.args.work.now c.enter-in-Ref.new.frames s.e _ c.args.depth waits))
+    (goes_ref t c.args.work.now c.enter-in-Ref.new.frames s.e _ c.args.part.depth waits))
 
 pub returns-in-Deref-clause-steps : goal.returns-in-Deref-clause-steps
 returns-in-Deref-clause-steps c =
     let t = noted_at c.args.term.now c.args.types.now in
     let s = c.in-Deref in
-    next_is c.enter-in-Deref.result (C.Walk s.e c.args.depth) _ c.enter-in-Deref.ensures
-    (λ waits. walks t c.args.work.now c.args.node c.args.depth (EDeref (t s.e) (tree c.node_at-found.result.1.now))
+    next_is c.enter-in-Deref.result (C.Walk s.e c.args.part.depth) _ c.enter-in-Deref.ensures
+    (λ waits. walks t c.args.work.now c.args.part.node c.args.part.depth
+    (EDeref (t s.e) (tree c.node_at-found.result.1.now))
     (record {
       out = c.args.work.now.out;
       frames = c.enter-in-Deref.new.frames;
@@ -283,16 +288,16 @@ returns-in-Deref-clause-steps c =
       levels = c.args.work.now.levels;
       types = c.args.work.now.types;
     })
-    (C.Walk s.e c.args.depth)
+    (C.Walk s.e c.args.part.depth)
     (c.node_at-found.ensures.tree ∙ ap (noted_shape t (tree c.node_at-found.result.1.now)) s.is)
-    (goes_deref t c.args.work.now c.enter-in-Deref.new.frames s.e _ c.args.depth waits))
+    (goes_deref t c.args.work.now c.enter-in-Deref.new.frames s.e _ c.args.part.depth waits))
 
 pub returns-in-Assign-clause-steps : goal.returns-in-Assign-clause-steps
 returns-in-Assign-clause-steps c =
     let t = noted_at c.args.term.now c.args.types.now in
     let s = c.in-Assign in
-    next_is c.enter-in-Assign.result (C.Walk s.a c.args.depth) _ c.enter-in-Assign.ensures
-    (λ waits. walks t c.args.work.now c.args.node c.args.depth (EAssign (t s.a) (t s.b))
+    next_is c.enter-in-Assign.result (C.Walk s.a c.args.part.depth) _ c.enter-in-Assign.ensures
+    (λ waits. walks t c.args.work.now c.args.part.node c.args.part.depth (EAssign (t s.a) (t s.b))
     (record {
       out = c.args.work.now.out;
       frames = c.enter-in-Assign.new.frames;
@@ -301,16 +306,16 @@ returns-in-Assign-clause-steps c =
       levels = c.args.work.now.levels;
       types = c.args.work.now.types;
     })
-    (C.Walk s.a c.args.depth)
+    (C.Walk s.a c.args.part.depth)
     (c.node_at-found.ensures.tree ∙ ap (noted_shape t (tree c.node_at-found.result.1.now)) s.is)
-    (goes_assign t c.args.work.now c.enter-in-Assign.new.frames s.a s.b c.args.depth waits))
+    (goes_assign t c.args.work.now c.enter-in-Assign.new.frames s.a s.b c.args.part.depth waits))
 
 pub returns-in-Let-clause-inside : goal.returns-in-Let-clause-inside
 returns-in-Let-clause-inside c =
     let m = count c.args.term.now in
     let s = c.in-Let in
     let k = kids_two m c.node_at-found.result.0.now.shape s.a s.b (ap children s.is) c.node_at-found.ensures.kids in
-    next_is c.enter-in-Let.result (C.Walk s.a c.args.depth) _ c.enter-in-Let.ensures
+    next_is c.enter-in-Let.result (C.Walk s.a c.args.part.depth) _ c.enter-in-Let.ensures
     (λ waits kept. (k.0, all_push (FrameIn m) _ _ _ waits kept.0 k.1, kept.1))
 
 pub returns-in-Pack-clause-inside : goal.returns-in-Pack-clause-inside
@@ -318,7 +323,7 @@ returns-in-Pack-clause-inside c =
     let m = count c.args.term.now in
     let s = c.in-Pack in
     let k = kids_one m c.node_at-found.result.0.now.shape s.inner (ap children s.is) c.node_at-found.ensures.kids in
-    next_is c.enter-in-Pack.result (C.Walk s.inner c.args.depth) _ c.enter-in-Pack.ensures
+    next_is c.enter-in-Pack.result (C.Walk s.inner c.args.part.depth) _ c.enter-in-Pack.ensures
     (λ waits kept. (k, all_push (FrameIn m) _ _ _ waits kept.0 tt, kept.1))
 
 pub returns-in-Open-clause-inside : goal.returns-in-Open-clause-inside
@@ -326,7 +331,7 @@ returns-in-Open-clause-inside c =
     let m = count c.args.term.now in
     let s = c.in-Open in
     let k = kids_two m c.node_at-found.result.0.now.shape s.a s.b (ap children s.is) c.node_at-found.ensures.kids in
-    next_is c.enter-in-Open.result (C.Walk s.a c.args.depth) _ c.enter-in-Open.ensures
+    next_is c.enter-in-Open.result (C.Walk s.a c.args.part.depth) _ c.enter-in-Open.ensures
     (λ waits kept. (k.0, all_push (FrameIn m) _ _ _ waits kept.0 k.1, kept.1))
 
 pub returns-in-Ref-clause-inside : goal.returns-in-Ref-clause-inside
@@ -334,7 +339,7 @@ returns-in-Ref-clause-inside c =
     let m = count c.args.term.now in
     let s = c.in-Ref in
     let k = kids_one m c.node_at-found.result.0.now.shape s.e (ap children s.is) c.node_at-found.ensures.kids in
-    next_is c.enter-in-Ref.result (C.Walk s.e c.args.depth) _ c.enter-in-Ref.ensures
+    next_is c.enter-in-Ref.result (C.Walk s.e c.args.part.depth) _ c.enter-in-Ref.ensures
     (λ waits kept. (k, all_push (FrameIn m) _ _ _ waits kept.0 tt, kept.1))
 
 pub returns-in-Deref-clause-inside : goal.returns-in-Deref-clause-inside
@@ -342,7 +347,7 @@ returns-in-Deref-clause-inside c =
     let m = count c.args.term.now in
     let s = c.in-Deref in
     let k = kids_one m c.node_at-found.result.0.now.shape s.e (ap children s.is) c.node_at-found.ensures.kids in
-    next_is c.enter-in-Deref.result (C.Walk s.e c.args.depth) _ c.enter-in-Deref.ensures
+    next_is c.enter-in-Deref.result (C.Walk s.e c.args.part.depth) _ c.enter-in-Deref.ensures
     (λ waits kept. (k, all_push (FrameIn m) _ _ _ waits kept.0 tt, kept.1))
 
 pub returns-in-Assign-clause-inside : goal.returns-in-Assign-clause-inside
@@ -350,5 +355,5 @@ returns-in-Assign-clause-inside c =
     let m = count c.args.term.now in
     let s = c.in-Assign in
     let k = kids_two m c.node_at-found.result.0.now.shape s.a s.b (ap children s.is) c.node_at-found.ensures.kids in
-    next_is c.enter-in-Assign.result (C.Walk s.a c.args.depth) _ c.enter-in-Assign.ensures
+    next_is c.enter-in-Assign.result (C.Walk s.a c.args.part.depth) _ c.enter-in-Assign.ensures
     (λ waits kept. (k.0, all_push (FrameIn m) _ _ _ waits kept.0 k.1, kept.1))

@@ -16,12 +16,13 @@ use Rattle.k_pass.proofs.walk.walk_fields.Goals as goal
 pub returns-in-Some-clause-steps : goal.returns-in-Some-clause-steps
 returns-in-Some-clause-steps c =
     next_is c.enter.result (C.Walk c.in-Some.e.now c.args.depth) _ c.enter.ensures
-    (λ waits t. fields_next t c.args.work.now c.enter.new.frames c.args.rest.now c.in-Some.e.now c.in-Some.rest
-    c.args.done _ c.args.depth c.in-Some.ensures.cases.0 waits)
+    (λ waits t. fields_next t c.args.work.now c.enter.new.frames c.args.tuple.rest.now c.in-Some.e.now c.in-Some.rest
+    c.args.tuple.done _ c.args.depth c.in-Some.ensures.cases.0 waits)
 
 pub returns-in_ok-inside-in-None-clause-steps : goal.returns-in_ok-inside-in-None-clause-steps
 returns-in_ok-inside-in-None-clause-steps c = λ t.
-    fields_end t c.args.work.now c.put_tuple.new.out c.args.rest.now (map atom c.args.done.items) (tree c.args.ty.now)
+    fields_end t c.args.work.now c.put_tuple.new.out c.args.tuple.rest.now (map atom c.args.tuple.done.items)
+    (tree c.args.tuple.ty.now)
     (ktree c.in_ok-made-in-None.made) c.args.depth c.in_ok-inside-in-None.inside
     c.in-None.ensures.cases
     (λ ns. c.in_ok-put_tuple-in-None.ensures ns

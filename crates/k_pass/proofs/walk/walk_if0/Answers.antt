@@ -10,20 +10,20 @@ use Rattle.k_pass.proofs.walk.walk_if0.Goals as goal
 
 pub returns-in-Some-clause-steps : goal.returns-in-Some-clause-steps
 returns-in-Some-clause-steps c =
-    next_is c.enter.result (C.Walk c.args.test c.args.depth) _ c.enter.ensures
-    (λ waits t. if_tail t c.args.work.now c.take_tail.new.stack c.enter.new.frames (tree c.args.ty.now) c.args.test
-    c.args.zero c.args.other c.args.depth c.in-Some.level (c.in-Some.ensures t) waits)
+    next_is c.enter.result (C.Walk c.args.choice.test c.args.depth) _ c.enter.ensures
+    (λ waits t. if_tail t c.args.work.now c.take_tail.new.stack c.enter.new.frames (tree c.args.ty.now)
+    c.args.choice.test c.args.choice.zero c.args.choice.other c.args.depth c.in-Some.level (c.in-Some.ensures t) waits)
 
 pub returns-in-None-clause-steps : goal.returns-in-None-clause-steps
 returns-in-None-clause-steps c =
     next_is c.open_rest.result (C.Give (A.Level (suc c.args.depth)) (suc (suc c.args.depth))) _ c.open_rest.ensures
     (λ made t. let none = c.in-None.ensures t in
-    if_rest t c.args.work.now c.take_tail.new.stack c.open_rest.new.work c.args.ty c.args.test c.args.zero c.args.other
-    c.args.depth none.0 none.1 made)
+    if_rest t c.args.work.now c.take_tail.new.stack c.open_rest.new.work c.args.ty c.args.choice.test
+    c.args.choice.zero c.args.choice.other c.args.depth none.0 none.1 made)
 
 pub returns-in-Some-clause-inside : goal.returns-in-Some-clause-inside
 returns-in-Some-clause-inside c =
-    next_is c.enter.result (C.Walk c.args.test c.args.depth) _ c.enter.ensures
+    next_is c.enter.result (C.Walk c.args.choice.test c.args.depth) _ c.enter.ensures
     (λ waits m low a b kept. (
       low,
       all_push (FrameIn m) _ _ _ waits (all_pop (FrameIn m) _ _ _ (c.in-Some.ensures (λ i. EVar 0)) kept.0).0

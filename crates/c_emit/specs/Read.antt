@@ -16,9 +16,9 @@ info i = record {
   apply = ctys i.apply.items;
   hidden = ctree i.hidden;
   shape = ctree i.shape;
-  apply_in = ctys i.apply_in.items;
-  hidden_in = ctree i.hidden_in;
-  shape_in = ctree i.shape_in;
+  apply_in = ctys i.inside.apply.items;
+  hidden_in = ctree i.inside.hidden;
+  shape_in = ctree i.inside.shape;
 }
 
 abbrev pub frame : Frame → E.Frame

@@ -15,4 +15,4 @@ pub mod vars;
 
 pub use free_state::Found;
 pub use names::{Renaming, Side};
-pub use parts::{Frame, Info, Note};
+pub use parts::{Frame, Info, Inside, Note};

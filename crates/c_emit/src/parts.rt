@@ -2,6 +2,18 @@
 use c_rules::Levels;
 use c_terms::CType;
 
+/// The types of a code's closure, inside the code: what it is applied to there, the type of its environment, and its
+/// own. Nothing and `int` where the code's own name is not used.
+#[derive(Drop)]
+pub struct Inside {
+    /// The types that the closed code is applied to in its closure.
+    pub apply: Vec<CType>,
+    /// The type of its environment.
+    pub hidden: CType,
+    /// The type of its closure.
+    pub shape: CType,
+}
+
 /// What is known of a code before it is met: its free variables, whether its own name is used, and the types of the
 /// closed code and of its closure, outside it and, where its own name is used, inside it.
 #[derive(Drop)]
@@ -20,12 +32,8 @@ pub struct Info {
     pub hidden: CType,
     /// The type of its closure, outside it.
     pub shape: CType,
-    /// What `apply` is inside it; nothing where its own name is not used.
-    pub apply_in: Vec<CType>,
-    /// What `hidden` is inside it; `int` where its own name is not used.
-    pub hidden_in: CType,
-    /// What `shape` is inside it; `int` where its own name is not used.
-    pub shape_in: CType,
+    /// What these three are inside it.
+    pub inside: Inside,
 }
 
 /// What is known of a call or a package before it is met: its types.

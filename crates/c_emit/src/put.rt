@@ -6,7 +6,7 @@ ghost use Rattle.c_terms.specs.Read.{cnode, ctree, ctys, written};
 ghost use Rattle.c_rules.specs.Emit as E;
 ghost use Rattle.c_emit.specs.Read.{frame, info};
 
-use crate::parts::{Frame, Info};
+use crate::parts::{Frame, Info, Inside};
 use c_terms::{CNode, CType};
 use idx_core::{OutOfMemory, sum};
 
@@ -68,20 +68,18 @@ fn put_fields(out: &mut Vec<CNode>, k: u64, first: u64) -> Result<(), OutOfMemor
 }
 
 // The code's own closure, where it is used, named at a level; the first level after it.
-fn put_own(
-    out: &mut Vec<CNode>,
-    own: bool,
-    apply: Vec<CType>,
-    hidden: CType,
-    shape: CType,
-    level: u64,
-) -> Result<u64, OutOfMemory>
+fn put_own(out: &mut Vec<CNode>, own: bool, inside: Inside, level: u64) -> Result<u64, OutOfMemory>
     ensures start { IfOk result (λ r. r ≡ after_one own level) }
     ensures nodes { OnOk result ((i : E.Info) (rest : List S.CNd) →
-        i.apply_in ≡ ctys apply.items → i.hidden_in ≡ ctree hidden → i.shape_in ≡ ctree shape →
+        i.apply_in ≡ ctys inside.apply.items → i.hidden_in ≡ ctree inside.hidden → i.shape_in ≡ ctree inside.shape →
         written out.new.items rest ≡ written out.old.items (E.own_closure own level i rest)) }
 {
     if own {
+        let Inside {
+            apply,
+            hidden,
+            shape,
+        } = inside;
         put(out, CNode::Var(0))?;
         put(out, CNode::Apply(apply))?;
         put(out, CNode::Var(1))?;
@@ -115,9 +113,7 @@ pub fn enter(
         apply,
         hidden,
         shape,
-        apply_in,
-        hidden_in,
-        shape_in,
+        inside,
     } = known;
     let split = sum(count, level)?;
     let split = sum(split, 1)?;
@@ -126,7 +122,7 @@ pub fn enter(
     let last = sum(first, length)?;
     put(out, CNode::Code { owes, args })?;
     put_fields(out, length, first)?;
-    let start = put_own(out, own, apply_in, hidden_in, shape_in, last)?;
+    let start = put_own(out, own, inside, last)?;
     Ok(Frame {
         level,
         split,

@@ -11,10 +11,10 @@ ghost use Rattle.c_emit.specs.Names.{side};
 ghost use Rattle.c_pass.specs.Read.{bounds, var_of, info_parts, side_from, told};
 
 use crate::bounds::bound_levels;
-use crate::state::{Bound, Header};
-use crate::translate::{closed, types_at, variables};
+use crate::state::{Bound, CodeNode, Header, Sides};
+use crate::translate::{Place, closed, types_at, variables};
 use c_emit::close_type::close_types;
-use c_emit::{Found, Info, Renaming, Side};
+use c_emit::{Found, Info, Inside, Renaming, Side};
 use c_rules::Levels;
 use c_rules::levels::known;
 use c_terms::CType;
@@ -28,35 +28,29 @@ pub fn side_of(
     xs: &[Bound],
     types: Levels,
     kept: &[u64],
-    depth: u64,
-    owes: u64,
+    node: &CodeNode,
 ) -> Result<Side, OutOfMemory>
-    ensures { IfOk result (λ r. side r ≡ side_from depth owes types.list.items kept.now (bounds xs.now)) }
+    ensures { IfOk result (λ r. side r
+        ≡ side_from node.now.depth node.now.owes types.list.items kept.now (bounds xs.now)) }
 {
     let mut types = types.list;
     bound_levels(xs, kept, &mut types)?;
-    let kept = known(types, depth, alloc)?;
+    let kept = known(types, node.depth, alloc)?;
     Ok(Side {
-        depth,
-        owes,
+        depth: node.depth,
+        owes: node.owes,
         kept,
         calling: false,
     })
 }
 
 // The type of an environment.
-fn env(
-    alloc: Global,
-    xs: &[Bound],
-    levels: &[u64],
-    depth: u64,
-    f: &Side,
-    outside: bool,
-) -> Result<CType, OutOfMemory>
+fn env(alloc: Global, xs: &[Bound], levels: &[u64], place: &Place) -> Result<CType, OutOfMemory>
     ensures { IfOk result
-        (λ r. ctree r ≡ TCTuple (W.bound_types (var_of outside (side f.now)) depth (bounds xs.now) levels.now)) }
+        (λ r. ctree r ≡ TCTuple (W.bound_types (var_of place.now.outside (side place.now.side.now)) place.now.depth
+        (bounds xs.now) levels.now)) }
 {
-    let made = types_at(alloc, xs, levels, depth, f, outside)?;
+    let made = types_at(alloc, xs, levels, place)?;
     Ok(CType::Tuple(made))
 }
 
@@ -69,14 +63,6 @@ fn arguments(alloc: Global, env: CType, args: &[KType], g: &Side) -> Result<Vec<
     own.push(env)?;
     let made = close_types(alloc, args, &Renaming::Here { side: g, raise: 0 }, own)?;
     Ok(made)
-}
-
-// The types of a code's closure, inside it.
-#[derive(Drop)]
-struct Inside {
-    apply: Vec<CType>,
-    hidden: CType,
-    shape: CType,
 }
 
 // The types of a code's closure inside it, where its own name is used; where it is not, nobody looks at them.
@@ -98,10 +84,14 @@ fn closure_inside(
         TCInt) }
 {
     if found.own {
-        let depth = header.depth;
-        let hidden = env(alloc, xs, &found.kept.list, depth, g, true)?;
+        let place = Place {
+            side: g,
+            depth: header.depth,
+            outside: true,
+        };
+        let hidden = env(alloc, xs, &found.kept.list, &place)?;
         let shape = closed(alloc, header.own_type, g, true, 0)?;
-        let apply = variables(alloc, &g.kept.list, depth, g, true)?;
+        let apply = variables(alloc, &g.kept.list, &place)?;
         Ok(Inside {
             apply,
             hidden,
@@ -116,35 +106,37 @@ fn closure_inside(
     }
 }
 
-/// What the last walk is told of a code whose type variables stand in it where `g` says, in what is around it where `f`
-/// says.
+/// What the last walk is told of a code whose type variables stand in it, and in what is around it, where these say.
 pub fn info_from(
     alloc: Global,
     header: &Header,
     found: Found,
     xs: &[Bound],
-    f: &Side,
-    g: &Side,
+    sides: &Sides,
 ) -> Result<Info, OutOfMemory>
     requires { ktree header.now.own_type.now ≡ TKCode header.now.owes (ktys header.now.args.now) }
     ensures { IfOk result
         (λ r. info r ≡ told (info_parts header.now.depth header.now.owes (ktys header.now.args.now)
-        found.kept.list.items found.own (bounds xs.now) (side f.now) (side g.now))) }
+        found.kept.list.items found.own (bounds xs.now) (side sides.now.around.now) (side sides.now.inside.now))) }
 {
-    let inner = closure_inside(alloc, header, &found, xs, g)?;
+    let inside = closure_inside(alloc, header, &found, xs, sides.inside)?;
     let Found { kept, own } = found;
-    let depth = header.depth;
-    let hidden = env(alloc, xs, &kept.list, depth, f, false)?;
-    let shape = closed(alloc, header.own_type, f, false, 0)?;
-    let apply = variables(alloc, &g.kept.list, depth, f, false)?;
-    let first = env(alloc, xs, &kept.list, depth, g, true)?;
-    let args = arguments(alloc, first, header.args, g)?;
-    let owes = sum(header.owes, g.kept.list.len() as u64)?;
-    let Inside {
-        apply: apply_in,
-        hidden: hidden_in,
-        shape: shape_in,
-    } = inner;
+    let here = Place {
+        side: sides.around,
+        depth: header.depth,
+        outside: false,
+    };
+    let within = Place {
+        side: sides.inside,
+        depth: header.depth,
+        outside: true,
+    };
+    let hidden = env(alloc, xs, &kept.list, &here)?;
+    let shape = closed(alloc, header.own_type, sides.around, false, 0)?;
+    let apply = variables(alloc, &sides.inside.kept.list, &here)?;
+    let first = env(alloc, xs, &kept.list, &within)?;
+    let args = arguments(alloc, first, header.args, sides.inside)?;
+    let owes = sum(header.owes, sides.inside.kept.list.len() as u64)?;
     Ok(Info {
         kept,
         own,
@@ -153,8 +145,6 @@ pub fn info_from(
         apply,
         hidden,
         shape,
-        apply_in,
-        hidden_in,
-        shape_in,
+        inside,
     })
 }

@@ -14,7 +14,7 @@ ghost use Rattle.c_pass.specs.Read.{total, opened_total, called_total};
 
 use crate::bounds::{bind, bind_all};
 use crate::info::{info_from, side_of};
-use crate::state::{Bound, Clue, Header, Knowledge};
+use crate::state::{Bound, Clue, CodeNode, Header, Knowledge, Sides};
 use crate::translate::closed;
 use c_emit::close_type::close_types;
 use c_emit::{Found, Note, Renaming, Side};
@@ -48,38 +48,34 @@ fn call_types(alloc: Global, f: &Side, types: &[KType]) -> Result<Vec<CType>, Ou
 
 impl Knowledge {
     // A code begins.
-    fn open(
-        &mut self,
-        alloc: Global,
-        level: u64,
-        depth: u64,
-        owes: u64,
-        args: &[KType],
-        c: Clue,
-    ) -> Result<(), OutOfMemory>
+    fn open(&mut self, alloc: Global, node: &CodeNode, c: Clue) -> Result<(), OutOfMemory>
         ensures { OnOk result
-            ((rest : List KNd) →
-            total self.new rest ≡ opened_total self.old level depth owes (ktys args.now) (clue c) rest) }
+            ((rest : List KNd) → total self.new rest ≡ opened_total self.old node.now.level node.now.depth
+            node.now.owes (ktys node.now.args.now) (clue c) rest) }
     {
         let Clue { kept, own, types } = c;
         let own_type = KType::Code {
-            owes,
-            args: copy_all(alloc, args)?,
+            owes: node.owes,
+            args: copy_all(alloc, node.args)?,
         };
-        let g = side_of(alloc, &self.bounds, types, &kept.list, depth, owes)?;
+        let g = side_of(alloc, &self.bounds, types, &kept.list, node)?;
         let header = Header {
-            depth,
-            owes,
-            args,
+            depth: node.depth,
+            owes: node.owes,
+            args: node.args,
             own_type: &own_type,
         };
         let found = Found { kept, own };
-        let known = info_from(alloc, &header, found, &self.bounds, &self.side, &g)?;
+        let sides = Sides {
+            around: &self.side,
+            inside: &g,
+        };
+        let known = info_from(alloc, &header, found, &self.bounds, &sides)?;
         self.infos.push_back(known)?;
-        bind(&mut self.bounds, level, own_type, depth)?;
-        let inside = sum(owes, depth)?;
-        let first = sum(level, 1)?;
-        bind_all(alloc, &mut self.bounds, first, args, inside)?;
+        bind(&mut self.bounds, node.level, own_type, node.depth)?;
+        let inside = sum(node.owes, node.depth)?;
+        let first = sum(node.level, 1)?;
+        bind_all(alloc, &mut self.bounds, first, node.args, inside)?;
         let around = mem::replace(&mut self.side, g);
         self.outer.push_front(around)?;
         Ok(())
@@ -178,7 +174,16 @@ impl Knowledge {
                 args,
             } => match self.clues.pop_front() {
                 None => Ok(()),
-                Some(c) => Ok(self.open(alloc, *level, *depth, *owes, args, c)?),
+                Some(c) => {
+                    let node = CodeNode {
+                        level: *level,
+                        depth: *depth,
+                        owes: *owes,
+                        args,
+                    };
+                    self.open(alloc, &node, c)?;
+                    Ok(())
+                }
             },
             KNode::End => {
                 self.close();

@@ -20,6 +20,16 @@ pub struct Bound {
     pub depth: u64,
 }
 
+/// A code's node: the level of its own name, the number of type variables around it, how many types it takes, and the
+/// types of its arguments.
+#[derive(Clone, Copy)]
+pub struct CodeNode<'a> {
+    pub level: u64,
+    pub depth: u64,
+    pub owes: u64,
+    pub args: &'a [KType],
+}
+
 /// What a code says of itself: the number of type variables around it, how many types it takes, the types of its
 /// arguments, and its own type.
 #[derive(Clone, Copy)]
@@ -28,6 +38,13 @@ pub struct Header<'a> {
     pub owes: u64,
     pub args: &'a [KType],
     pub own_type: &'a KType,
+}
+
+/// The type variables of what is around a code, and those of the code.
+#[derive(Clone, Copy)]
+pub struct Sides<'a> {
+    pub around: &'a Side,
+    pub inside: &'a Side,
 }
 
 /// The types of the variables by level, the type variables of the code where the walk stands and of those around it,

@@ -18,6 +18,15 @@ use idx_core::OutOfMemory;
 use k_terms::KType;
 use std::alloc::Global;
 
+/// Where types are written: the type variables of a code, how many there are at the place in the source, and whether
+/// the place is outside the code.
+#[derive(Clone, Copy)]
+pub struct Place<'a> {
+    pub side: &'a Side,
+    pub depth: u64,
+    pub outside: bool,
+}
+
 /// A type, its type variables where `f` says, from inside its code or from outside it.
 pub fn closed(
     alloc: Global,
@@ -38,20 +47,14 @@ pub fn closed(
 }
 
 // The type of the variable of a level, translated.
-fn type_at(
-    alloc: Global,
-    xs: &[Bound],
-    l: u64,
-    depth: u64,
-    f: &Side,
-    outside: bool,
-) -> Result<CType, OutOfMemory>
-    ensures { IfOk result (λ r. ctree r ≡ W.bound_type (var_of outside (side f.now)) depth
-        (W.bound_at (bounds xs.now) l)) }
+fn type_at(alloc: Global, xs: &[Bound], l: u64, place: &Place) -> Result<CType, OutOfMemory>
+    ensures { IfOk result (λ r. ctree r ≡ W.bound_type (var_of place.now.outside (side place.now.side.now))
+        place.now.depth (W.bound_at (bounds xs.now) l)) }
 {
     if l < xs.len() as u64 {
         let x = &xs[l as usize];
-        let t = closed(alloc, &x.ty, f, outside, depth.saturating_sub(x.depth))?;
+        let raise = place.depth.saturating_sub(x.depth);
+        let t = closed(alloc, &x.ty, place.side, place.outside, raise)?;
         Ok(t)
     } else {
         Ok(CType::Int)
@@ -63,16 +66,14 @@ pub fn types_at(
     alloc: Global,
     xs: &[Bound],
     levels: &[u64],
-    depth: u64,
-    f: &Side,
-    outside: bool,
+    place: &Place,
 ) -> Result<Vec<CType>, OutOfMemory>
-    ensures { IfOk result (λ r. ctys r.items ≡ W.bound_types (var_of outside (side f.now)) depth
-        (bounds xs.now) levels.now) }
+    ensures { IfOk result (λ r. ctys r.items ≡ W.bound_types (var_of place.now.outside (side place.now.side.now))
+        place.now.depth (bounds xs.now) levels.now) }
 {
     let mut made = Vec::with_capacity(alloc, levels.len())?;
     for l in levels {
-        let t = type_at(alloc, xs, *l, depth, f, outside)?;
+        let t = type_at(alloc, xs, *l, place)?;
         made.push(t)?;
     }
     Ok(made)
@@ -91,18 +92,13 @@ fn var(f: &Side, outside: bool, i: u64) -> Result<u64, OutOfMemory>
 }
 
 /// Type variables by their levels.
-pub fn variables(
-    alloc: Global,
-    levels: &[u64],
-    depth: u64,
-    f: &Side,
-    outside: bool,
-) -> Result<Vec<CType>, OutOfMemory>
-    ensures { IfOk result (λ r. ctys r.items ≡ W.variables (var_of outside (side f.now)) depth levels.now) }
+pub fn variables(alloc: Global, levels: &[u64], place: &Place) -> Result<Vec<CType>, OutOfMemory>
+    ensures { IfOk result (λ r. ctys r.items ≡ W.variables (var_of place.now.outside (side place.now.side.now))
+        place.now.depth levels.now) }
 {
     let mut made = Vec::with_capacity(alloc, levels.len())?;
     for l in levels {
-        let at = var(f, outside, level_of(depth, *l))?;
+        let at = var(place.side, place.outside, level_of(place.depth, *l))?;
         made.push(CType::Var(at))?;
     }
     Ok(made)

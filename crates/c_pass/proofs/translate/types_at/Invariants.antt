@@ -7,5 +7,6 @@ use Rattle.c_pass.proofs.translate.types_at.Given as goal
 
 abbrev pub invariant-loop-l : goal.invariant-loop-l
 invariant-loop-l l =
-    joined l.made.items (W.bound_types (var_of l.outside (side l.f)) l.depth (bounds l.xs) (drop l.l-index l.levels))
-    ≡ W.bound_types (var_of l.outside (side l.f)) l.depth (bounds l.xs) l.levels
+    let r = var_of l.place.outside (side l.place.side.now) in
+    joined l.made.items (W.bound_types r l.place.depth (bounds l.xs) (drop l.l-index l.levels))
+    ≡ W.bound_types r l.place.depth (bounds l.xs) l.levels

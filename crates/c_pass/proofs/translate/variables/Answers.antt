@@ -11,18 +11,20 @@ use Rattle.c_pass.proofs.translate.variables.Goals as goal
 
 pub loop-l-preserved : goal.loop-l-preserved
 loop-l-preserved c =
-    let r = var_of c.args.outside (side c.args.f.now) in
-    let rest = W.variables r c.args.depth (drop (c.loop-l.l-index + 1) c.args.levels.now) in
+    let p = c.args.place.now in
+    let r = var_of p.outside (side p.side.now) in
+    let rest = W.variables r p.depth (drop (c.loop-l.l-index + 1) c.args.levels.now) in
     ap (λ (ys : List CType). joined ys rest) c.in_ok-push.ensures.items
     ∙ joined_push _ _ rest
     ∙ ap (λ n. joined c.loop-l.made.items (C.MoreCTys (C.TCVar n) rest)) (c.in_ok-at.ensures ∙ ap r c.level_of.ensures)
-    ∙ ap (λ (ls : List ℕ). joined c.loop-l.made.items (W.variables r c.args.depth ls))
+    ∙ ap (λ (ls : List ℕ). joined c.loop-l.made.items (W.variables r p.depth ls))
     (sym (drop_plus c.args.levels.now c.loop-l.l-index 0 c.loop-l-test.true))
     ∙ c.loop-l.invariant
 
 pub returns : goal.returns
 returns c =
-    let r = var_of c.args.outside (side c.args.f.now) in
+    let p = c.args.place.now in
+    let r = var_of p.outside (side p.side.now) in
     sym (joined_nil c.loop-l.made.items)
-    ∙ ap (λ (ls : List ℕ). joined c.loop-l.made.items (W.variables r c.args.depth ls))
+    ∙ ap (λ (ls : List ℕ). joined c.loop-l.made.items (W.variables r p.depth ls))
     (sym (drop_end c.args.levels.now c.loop-l.l-index c.loop-l-test.false)) ∙ c.loop-l.invariant

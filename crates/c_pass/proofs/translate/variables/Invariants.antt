@@ -6,5 +6,6 @@ use Rattle.c_pass.specs.Read.{var_of}
 use Rattle.c_pass.proofs.translate.variables.Given as goal
 
 abbrev pub invariant-loop-l : goal.invariant-loop-l
-invariant-loop-l l = joined l.made.items (W.variables (var_of l.outside (side l.f)) l.depth (drop l.l-index l.levels))
-    ≡ W.variables (var_of l.outside (side l.f)) l.depth l.levels
+invariant-loop-l l =
+    let r = var_of l.place.outside (side l.place.side.now) in
+    joined l.made.items (W.variables r l.place.depth (drop l.l-index l.levels)) ≡ W.variables r l.place.depth l.levels

@@ -18,7 +18,8 @@ use Rattle.calc_core.proofs.Lifts.{lift_add}
 
 pub info_from-requires : goal.info_from-requires
 info_from-requires c =
-    tree_Code c.args.owes c.in_ok-copy_all.field-0 ∙ ap (K.TKCode c.args.owes) c.in_ok-copy_all.ensures
+    let owes = c.args.node.now.owes in
+    tree_Code owes c.in_ok-copy_all.field-0 ∙ ap (K.TKCode owes) c.in_ok-copy_all.ensures
 
 abbrev known : List E.Info → List E.Note → W.Known
 known is cs = record { infos = is; notes = cs }
@@ -37,9 +38,10 @@ returns c = λ rest.
     let w = c.args.self.now in
     let xs = bounds w.bounds.items in
     let f = side w.side in
-    let td = c.args.depth in
-    let owes = c.args.owes in
-    let args = ktys c.args.args.now in
+    let level = c.args.node.now.level in
+    let td = c.args.node.now.depth in
+    let owes = c.args.node.now.owes in
+    let args = ktys c.args.node.now.args.now in
     let cl = clue c.args.c in
     let g = W.side_of td owes cl xs in
     let cs = clues_of w.clues.items in
@@ -53,14 +55,14 @@ returns c = λ rest.
     (side c.in_ok-g.g))) c.deref-3.ensures.value
     ∙ ap (λ s. told (info_parts td owes args c.args.c.kept.list.items c.args.c.own xs f s)) ge in
     let own = tree_Code owes c.in_ok-copy_all.field-0 ∙ ap (K.TKCode owes) c.in_ok-copy_all.ensures in
-    let n1 : c.in_ok-first.first ≡ suc c.args.level = omega (arith, c.in_ok-first.ensures) in
+    let n1 : c.in_ok-first.first ≡ suc level = omega (arith, c.in_ok-first.ensures) in
     let n2 : c.in_ok-inside.inside ≡ lift owes td = omega (arith, c.in_ok-inside.ensures, lift_add owes td) in
-    let be : bounds c.bind_all.new.xs.items ≡ W.bind_all (W.bind xs c.args.level (K.TKCode owes args) td)
-    (suc c.args.level) args (lift owes td) =
+    let be : bounds c.bind_all.new.xs.items ≡ W.bind_all (W.bind xs level (K.TKCode owes args) td)
+    (suc level) args (lift owes td) =
     c.in_ok-bind_all.ensures
     ∙ ap (λ (ys : List W.Bound). W.bind_all ys c.in_ok-first.first args c.in_ok-inside.inside)
-    (c.in_ok-bind.ensures ∙ ap (λ t. W.bind xs c.args.level t td) own)
-    ∙ ap₂ (λ n m. W.bind_all (W.bind xs c.args.level (K.TKCode owes args) td) n args m) n1 n2 in
+    (c.in_ok-bind.ensures ∙ ap (λ t. W.bind xs level t td) own)
+    ∙ ap₂ (λ n m. W.bind_all (W.bind xs level (K.TKCode owes args) td) n args m) n1 n2 in
     let se : side c.replace-around.new.dest ≡ g = ap side c.replace-around.ensures.after ∙ ge in
     let oe : sides c.push_front.new.self.items ≡ f ∷ sides w.outer.items =
     ap (λ (ss : List Side). sides ss) c.in_ok-push_front.ensures.items
@@ -69,14 +71,14 @@ returns c = λ rest.
     (notes_onto w.notes.items)
     (W.know rest (bounds c.bind_all.new.xs.items) (side c.replace-around.new.dest) (sides c.push_front.new.self.items)
     cs)
-    (W.know rest (W.bind_all (W.bind xs c.args.level (K.TKCode owes args) td) (suc c.args.level) args (lift owes td)) g
+    (W.know rest (W.bind_all (W.bind xs level (K.TKCode owes args) td) (suc level) args (lift owes td)) g
     (f ∷ sides w.outer.items) cs)
     c.in_ok-push_back.ensures.items ie
     (ap (λ (ys : List W.Bound). W.know rest ys (side c.replace-around.new.dest) (sides c.push_front.new.self.items) cs)
     be
     ∙ ap (λ s. W.know rest
-    (W.bind_all (W.bind xs c.args.level (K.TKCode owes args) td) (suc c.args.level) args (lift owes td)) s
+    (W.bind_all (W.bind xs level (K.TKCode owes args) td) (suc level) args (lift owes td)) s
     (sides c.push_front.new.self.items) cs) se
     ∙ ap (λ (ss : List W.Side).
-    W.know rest (W.bind_all (W.bind xs c.args.level (K.TKCode owes args) td) (suc c.args.level) args
+    W.know rest (W.bind_all (W.bind xs level (K.TKCode owes args) td) (suc level) args
     (lift owes td)) g ss cs) oe)

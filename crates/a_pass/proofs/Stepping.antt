@@ -30,6 +30,8 @@ use Rattle.a_terms.specs.declared.nodes.AData.{AData}
 use Rattle.a_terms.specs.declared.nodes.ANode.{ANode}
 use Rattle.a_pass.specs.declared.state.Name.{Name}
 use Rattle.a_pass.specs.declared.state.Place.{Place}
+use Rattle.a_pass.specs.declared.state.Progress.{Progress}
+use Rattle.a_pass.specs.declared.state.Run.{Run}
 use Rattle.a_pass.specs.declared.state.Seen.{Seen}
 use Rattle.a_pass.specs.Scope.{knowns, typed, type_in, constant_in, value_at, scope, Under, pending, pending_data, Fit}
 use Rattle.a_pass.specs.Emits.{Emits, Made, Declares, Ends, Stepped, Steps, tops}
@@ -38,9 +40,15 @@ use Rattle.a_pass.proofs.Places.{onto_push}
 use Rattle.a_pass.proofs.Terms.{step_let, step_end, step_if, keep_let, keep_end, keep_if, row_step, fit_more}
 use Rattle.a_pass.proofs.Terms.{under_push, scope_open}
 
-module _ (ks : HBlks) (us : List HVal) (ns ms : List Name) (place : Place) (ps qs : List Place) (old new : List ANode)
-    (kept tuples : List AData)
+module _ (ks : HBlks) (us : List HVal) (ns : List Name) (place : Place) (ps : List Place) (old : List ANode)
+    (new : Progress) (kept tuples : List AData)
     (len : length ns ≡ place.names) (bound : Under place.binders ns) where
+  abbrev ms : List Name
+  ms = new.names.items
+
+  abbrev qs : List Place
+  qs = new.places.items
+
   let_stepped : (mid : List ANode) (vs : List AValue) (m : ℕ) (e : HDecl) (form : HForm) (af : AForm) (ty : a.ATy)
       (stands : Option a.AVal) (binders : ℕ) →
       Emits old mid (pre_d ks (scope place.binders ns) (knowns ns) (length kept) place.depth e) →
@@ -48,13 +56,13 @@ module _ (ks : HBlks) (us : List HVal) (ns ms : List Name) (place : Place) (ps q
       length tuples ≡ n_d (knowns ns) (length kept) e →
       a_data tuples ≡ a_data kept ++ data_d ks (scope place.binders ns) (knowns ns) (length kept) e →
       stands ≡ d_const (knowns ns) (length kept) e →
-      Declares af vs ty stands m (length ns) binders ns ms ps qs mid new →
+      Declares af vs ty stands m binders ns ps mid new →
       ((hs : List HTm) → h_build form us hs ≡ HLet e (top no_term hs) ∷ others hs) → h_kids form ≡ 1 →
       ((xs : List a.ATm) → a_build af (map a_value vs) xs ≡ a_let (dcl (knowns ns) (length kept) place.depth e) xs) →
       AArity af (map a_value vs) → a_kids af ≡ 1 → place.binders ≤ binders →
       ((n : Name) → n.under ≤ binders → typed binders n ≡ ty →
       scope binders (ns ++ n ∷ []) ≡ d_types ks (scope place.binders ns) e) →
-      Stepped ks place form us ns ms ps qs old new kept tuples
+      Stepped ks place form us ns ps old new kept tuples
   let_stepped mid vs m e form af ty stands binders emits is_next number keeps const dec build kids abuild fine akids le
       types =
       let g = scope place.binders ns in
@@ -107,7 +115,7 @@ module _ (ks : HBlks) (us : List HVal) (ns ms : List Name) (place : Place) (ps q
       }
 
   end_stepped : (mid : List ANode) (vs : List AValue) (h : HTm) (r : a.ATm) (form : HForm) (af : AForm) → ms ≡ ns →
-      qs ≡ ps → Ends af vs mid new →
+      qs ≡ ps → Ends af vs mid new.nodes.items →
       ((hs : List HTm) → h_build form us hs ≡ h ∷ hs) → h_kids form ≡ 0 →
       Emits old mid (pre_vs ks (scope place.binders ns) (knowns ns) (length kept) place.depth (tied us)) →
       length tuples ≡ n_t (knowns ns) (length kept) place.depth h →
@@ -115,7 +123,7 @@ module _ (ks : HBlks) (us : List HVal) (ns ms : List Name) (place : Place) (ps q
       alloc_t ks (scope place.binders ns) (knowns ns) (length kept) place.depth h
       ≡ pre_vs ks (scope place.binders ns) (knowns ns) (length kept) place.depth (tied us) r →
       ((xs : List a.ATm) → a_build af (map a_value vs) xs ≡ r ∷ xs) → AArity af (map a_value vs) → a_kids af ≡ 0 →
-      Stepped ks place form us ns ms ps qs old new kept tuples
+      Stepped ks place form us ns ps old new kept tuples
   end_stepped mid vs h r form af ms_is qs_is end build kids emits number keeps is abuild fine akids =
       let vals_is : a_values end.node.values.items ≡ map a_value vs = ap (map a_value) end.values in
       record {
@@ -148,9 +156,9 @@ module _ (ks : HBlks) (us : List HVal) (ns ms : List Name) (place : Place) (ps q
       m ≡ v_next (knowns ns) place.depth v → length tuples ≡ n_v (knowns ns) (length kept) v →
       a_data tuples ≡ a_data kept ++ data_v ks (scope place.binders ns) (knowns ns) (length kept) v →
       map a_value vs ≡ val (knowns ns) (length kept) place.depth m v ∷ [] → ms ≡ ns → qs ≡ (ps ++ p ∷ []) ++ p ∷ [] →
-      Ends A.If0 vs mid new → p.depth ≡ m → p.names ≡ place.names → p.binders ≡ place.binders → form ≡ H.If0 →
-      us ≡ v ∷ [] →
-      Stepped ks place form us ns ms ps qs old new kept tuples
+      Ends A.If0 vs mid new.nodes.items → p.depth ≡ m → p.names ≡ place.names → p.binders ≡ place.binders →
+      form ≡ H.If0 → us ≡ v ∷ [] →
+      Stepped ks place form us ns ps old new kept tuples
   if_stepped mid vs m v form p emits m_is number keeps vals ms_is qs_is end depth count binders form_is us_is =
       let g = scope place.binders ns in
       let ls = knowns ns in
@@ -198,9 +206,26 @@ keep_two : (us vs ws xs : List a.AConsts) → us ≡ vs ++ (ws ++ (xs ++ [])) �
 keep_two us vs ws xs e = e ∙ ap (λ zs. vs ++ (ws ++ zs)) (append-nil xs)
 
 -- each form: lv are the values by level, and vs as they stand there
-module _ (ns ms : List Name) (place : Place) (ps qs : List Place) (mid new : List ANode) (lv vs : List AValue)
-    (ts : List Seen) (m : ℕ)
-    (len : length ns ≡ place.names) (bound : Under place.binders ns) where
+module _ (old new : Progress) (place : Place) (run : Run) (vs : List AValue)
+    (len : length old.names.items ≡ place.names) (bound : Under place.binders old.names.items) where
+  abbrev ns : List Name
+  ns = old.names.items
+
+  abbrev ps : List Place
+  ps = old.places.items
+
+  abbrev mid : List ANode
+  mid = old.nodes.items
+
+  abbrev lv : List AValue
+  lv = run.values.items
+
+  abbrev ts : List Seen
+  ts = run.types.items
+
+  abbrev m : ℕ
+  m = run.depth
+
   abbrev g : List a.ATy
   g = scope place.binders ns
 
@@ -216,15 +241,15 @@ module _ (ns ms : List Name) (place : Place) (ps qs : List Place) (mid new : Lis
 
   module _ (same : map a_value vs ≡ map (value_at m) lv) where
     pub name_stepped : (ty : a.ATy) (stands : Option a.AVal) →
-        Declares A.Value vs ty stands m (length ns) place.binders ns ms ps qs mid new → OneType ty (λ t. t) →
+        Declares A.Value vs ty stands m place.binders ns ps mid new → OneType ty (λ t. t) →
         ((o : Option a.AVal) → map (constant_in ls) ts ≡ o ∷ [] → stands ≡ o) →
-        Steps place H.Name lv ts m ns ms ps qs mid new
-    name_stepped ty stands dec has const ks [] old kept tuples made one = absurd one
-    name_stepped ty stands dec has const ks (v ∷ w ∷ us) old kept tuples made one = absurd one
-    name_stepped ty stands dec has const ks (v ∷ []) old kept tuples made one =
+        Steps place H.Name run old new
+    name_stepped ty stands dec has const ks [] begin kept tuples made one = absurd one
+    name_stepped ty stands dec has const ks (v ∷ w ∷ us) begin kept tuples made one = absurd one
+    name_stepped ty stands dec has const ks (v ∷ []) begin kept tuples made one =
         let vals = same ∙ made.values m in
-        let_stepped ks (v ∷ []) ns ms place ps qs old new kept tuples len bound mid vs m (HName v) H.Name A.Value ty
-        stands place.binders (emits_same old mid _ _ (λ r. refl) made.emits) made.depth made.number
+        let_stepped ks (v ∷ []) ns place ps begin new kept tuples len bound mid vs m (HName v) H.Name A.Value ty
+        stands place.binders (emits_same begin mid _ _ (λ r. refl) made.emits) made.depth made.number
         (keep_one _ (a_data kept) (data_v ks g ls (length kept) v) made.keeps) (const _ made.consts) dec
         (λ hs. refl) refl
         (λ xs. ap (λ ws. a_build A.Value ws xs) vals
@@ -233,14 +258,14 @@ module _ (ns ms : List Name) (place : Place) (ps qs : List Place) (mid new : Lis
         (λ n u is. same_scope n (v_type ks g v) u (is ∙ has (v_type ks g v) made.types))
 
     pub proj_stepped : (i : ℕ) (ty : a.ATy) →
-        Declares (A.Proj i) vs ty None m (length ns) place.binders ns ms ps qs mid new →
-        OneType ty (λ t. field_of i (Some t)) → Steps place (H.Proj i) lv ts m ns ms ps qs mid new
-    proj_stepped i ty dec has ks [] old kept tuples made one = absurd one
-    proj_stepped i ty dec has ks (v ∷ w ∷ us) old kept tuples made one = absurd one
-    proj_stepped i ty dec has ks (v ∷ []) old kept tuples made one =
+        Declares (A.Proj i) vs ty None m place.binders ns ps mid new →
+        OneType ty (λ t. field_of i (Some t)) → Steps place (H.Proj i) run old new
+    proj_stepped i ty dec has ks [] begin kept tuples made one = absurd one
+    proj_stepped i ty dec has ks (v ∷ w ∷ us) begin kept tuples made one = absurd one
+    proj_stepped i ty dec has ks (v ∷ []) begin kept tuples made one =
         let vals = same ∙ made.values m in
-        let_stepped ks (v ∷ []) ns ms place ps qs old new kept tuples len bound mid vs m (HProj i v) (H.Proj i)
-        (A.Proj i) ty None place.binders (emits_same old mid _ _ (λ r. refl) made.emits) made.depth made.number
+        let_stepped ks (v ∷ []) ns place ps begin new kept tuples len bound mid vs m (HProj i v) (H.Proj i)
+        (A.Proj i) ty None place.binders (emits_same begin mid _ _ (λ r. refl) made.emits) made.depth made.number
         (keep_one _ (a_data kept) (data_v ks g ls (length kept) v) made.keeps) refl dec (λ hs. refl) refl
         (λ xs. ap (λ ws. a_build (A.Proj i) ws xs) vals
         ∙ ap (λ k. a_let (a.Proj i (val ls (length kept) place.depth k v)) xs) made.depth)
@@ -248,14 +273,14 @@ module _ (ns ms : List Name) (place : Place) (ps qs : List Place) (mid new : Lis
         (λ n u is. same_scope n (field_of i (Some (v_type ks g v))) u (is ∙ has (v_type ks g v) made.types))
 
     pub get_stepped : (i : ℕ) (ty : a.ATy) → i ≡ 1 →
-        Declares (A.Proj i) vs ty None m (length ns) place.binders ns ms ps qs mid new →
-        OneType ty (λ t. field_of i (Some t)) → Steps place H.Get lv ts m ns ms ps qs mid new
-    get_stepped i ty e dec has ks [] old kept tuples made one = absurd one
-    get_stepped i ty e dec has ks (v ∷ w ∷ us) old kept tuples made one = absurd one
-    get_stepped i ty e dec has ks (v ∷ []) old kept tuples made one =
+        Declares (A.Proj i) vs ty None m place.binders ns ps mid new →
+        OneType ty (λ t. field_of i (Some t)) → Steps place H.Get run old new
+    get_stepped i ty e dec has ks [] begin kept tuples made one = absurd one
+    get_stepped i ty e dec has ks (v ∷ w ∷ us) begin kept tuples made one = absurd one
+    get_stepped i ty e dec has ks (v ∷ []) begin kept tuples made one =
         let vals = same ∙ made.values m in
-        let_stepped ks (v ∷ []) ns ms place ps qs old new kept tuples len bound mid vs m (HGet v) H.Get
-        (A.Proj i) ty None place.binders (emits_same old mid _ _ (λ r. refl) made.emits) made.depth made.number
+        let_stepped ks (v ∷ []) ns place ps begin new kept tuples len bound mid vs m (HGet v) H.Get
+        (A.Proj i) ty None place.binders (emits_same begin mid _ _ (λ r. refl) made.emits) made.depth made.number
         (keep_one _ (a_data kept) (data_v ks g ls (length kept) v) made.keeps) refl dec (λ hs. refl) refl
         (λ xs. ap (λ ws. a_build (A.Proj i) ws xs) vals
         ∙ ap₂ (λ k j. a_let (a.Proj j (val ls (length kept) place.depth k v)) xs) made.depth e)
@@ -264,15 +289,15 @@ module _ (ns ms : List Name) (place : Place) (ps qs : List Place) (mid new : Lis
         (is ∙ has (v_type ks g v) made.types ∙ ap (λ j. field_of j (Some (v_type ks g v))) e))
 
     pub arith_stepped : (o : Op) (ty : a.ATy) →
-        Declares (A.Arith o) vs ty None m (length ns) place.binders ns ms ps qs mid new → ty ≡ a.AInt →
-        Steps place (H.Arith o) lv ts m ns ms ps qs mid new
-    arith_stepped o ty dec has ks [] old kept tuples made two = absurd two
-    arith_stepped o ty dec has ks (v ∷ []) old kept tuples made two = absurd two
-    arith_stepped o ty dec has ks (v ∷ w ∷ x ∷ us) old kept tuples made two = absurd two
-    arith_stepped o ty dec has ks (v ∷ w ∷ []) old kept tuples made two =
+        Declares (A.Arith o) vs ty None m place.binders ns ps mid new → ty ≡ a.AInt →
+        Steps place (H.Arith o) run old new
+    arith_stepped o ty dec has ks [] begin kept tuples made two = absurd two
+    arith_stepped o ty dec has ks (v ∷ []) begin kept tuples made two = absurd two
+    arith_stepped o ty dec has ks (v ∷ w ∷ x ∷ us) begin kept tuples made two = absurd two
+    arith_stepped o ty dec has ks (v ∷ w ∷ []) begin kept tuples made two =
         let vals = same ∙ made.values m in
-        let_stepped ks (v ∷ w ∷ []) ns ms place ps qs old new kept tuples len bound mid vs m (HArith o v w) (H.Arith o)
-        (A.Arith o) ty None place.binders (emits_same old mid _ _ (λ r. refl) made.emits) made.depth made.number
+        let_stepped ks (v ∷ w ∷ []) ns place ps begin new kept tuples len bound mid vs m (HArith o v w) (H.Arith o)
+        (A.Arith o) ty None place.binders (emits_same begin mid _ _ (λ r. refl) made.emits) made.depth made.number
         (keep_two _ (a_data kept) (data_v ks g ls (length kept) v) (data_v ks g ls (n_v ls (length kept) v) w)
         made.keeps) refl dec (λ hs. refl) refl
         (λ xs. ap (λ ws. a_build (A.Arith o) ws xs) vals
@@ -283,14 +308,14 @@ module _ (ns ms : List Name) (place : Place) (ps qs : List Place) (mid new : Lis
         (λ n u is. same_scope n a.AInt u (is ∙ has))
 
     pub unpack_stepped : (ty : a.ATy) (binders : ℕ) → binders ≡ suc place.binders →
-        Declares A.Unpack vs ty None m (length ns) binders ns ms ps qs mid new → OneType ty (λ t. body_of (Some t)) →
-        Steps place H.Unpack lv ts m ns ms ps qs mid new
-    unpack_stepped ty binders b dec has ks [] old kept tuples made one = absurd one
-    unpack_stepped ty binders b dec has ks (v ∷ w ∷ us) old kept tuples made one = absurd one
-    unpack_stepped ty binders b dec has ks (v ∷ []) old kept tuples made one =
+        Declares A.Unpack vs ty None m binders ns ps mid new → OneType ty (λ t. body_of (Some t)) →
+        Steps place H.Unpack run old new
+    unpack_stepped ty binders b dec has ks [] begin kept tuples made one = absurd one
+    unpack_stepped ty binders b dec has ks (v ∷ w ∷ us) begin kept tuples made one = absurd one
+    unpack_stepped ty binders b dec has ks (v ∷ []) begin kept tuples made one =
         let vals = same ∙ made.values m in
-        let_stepped ks (v ∷ []) ns ms place ps qs old new kept tuples len bound mid vs m (HUnpack v) H.Unpack A.Unpack
-        ty None binders (emits_same old mid _ _ (λ r. refl) made.emits) made.depth made.number
+        let_stepped ks (v ∷ []) ns place ps begin new kept tuples len bound mid vs m (HUnpack v) H.Unpack A.Unpack
+        ty None binders (emits_same begin mid _ _ (λ r. refl) made.emits) made.depth made.number
         (keep_one _ (a_data kept) (data_v ks g ls (length kept) v) made.keeps) refl dec (λ hs. refl) refl
         (λ xs. ap (λ ws. a_build A.Unpack ws xs) vals
         ∙ ap (λ k. a_let (a.Unpack (val ls (length kept) place.depth k v)) xs) made.depth)
@@ -303,12 +328,13 @@ module _ (ns ms : List Name) (place : Place) (ps qs : List Place) (mid new : Lis
         opened ks v n u is = onto_push (typed binders) [] ns n
             ∙ ap₂ (λ x xs. x ∷ xs) is (ap (λ k. scope k ns) b ∙ scope_open place.binders ns bound)
 
-    pub halt_stepped : ms ≡ ns → qs ≡ ps → Ends A.Halt vs mid new → Steps place H.Halt lv ts m ns ms ps qs mid new
-    halt_stepped ms_is qs_is end ks [] old kept tuples made one = absurd one
-    halt_stepped ms_is qs_is end ks (v ∷ w ∷ us) old kept tuples made one = absurd one
-    halt_stepped ms_is qs_is end ks (v ∷ []) old kept tuples made one =
+    pub halt_stepped : new.names.items ≡ ns → new.places.items ≡ ps → Ends A.Halt vs mid new.nodes.items →
+        Steps place H.Halt run old new
+    halt_stepped ms_is qs_is end ks [] begin kept tuples made one = absurd one
+    halt_stepped ms_is qs_is end ks (v ∷ w ∷ us) begin kept tuples made one = absurd one
+    halt_stepped ms_is qs_is end ks (v ∷ []) begin kept tuples made one =
         let vals = same ∙ made.values m in
-        end_stepped ks (v ∷ []) ns ms place ps qs old new kept tuples len bound mid vs (HHalt v)
+        end_stepped ks (v ∷ []) ns place ps begin new kept tuples len bound mid vs (HHalt v)
         (a.Halt (val ls (length kept) place.depth (v_next ls place.depth v) v)) H.Halt A.Halt ms_is qs_is end
         (λ hs. refl) refl made.emits made.number
         (keep_one _ (a_data kept) (data_v ks g ls (length kept) v) made.keeps) refl
@@ -316,16 +342,16 @@ module _ (ns ms : List Name) (place : Place) (ps qs : List Place) (mid new : Lis
         ∙ ap (λ k. a.Halt (val ls (length kept) place.depth k v) ∷ xs) made.depth) (subst r.IsOne (sym vals) tt)
         refl
 
-    pub call_stepped : (xs : Vec CType Global) (ys : Vec AType Global) → ms ≡ ns → qs ≡ ps →
-        atrees ys.items ≡ atypes (ctys xs.items) → Ends (A.Call ys) vs mid new →
-        Steps place (H.Call xs) lv ts m ns ms ps qs mid new
-    call_stepped xs ys ms_is qs_is types end ks [] old kept tuples made some = absurd some
-    call_stepped xs ys ms_is qs_is types end ks (f ∷ us) old kept tuples made some =
+    pub call_stepped : (xs : Vec CType Global) (ys : Vec AType Global) → new.names.items ≡ ns → new.places.items ≡ ps →
+        atrees ys.items ≡ atypes (ctys xs.items) → Ends (A.Call ys) vs mid new.nodes.items →
+        Steps place (H.Call xs) run old new
+    call_stepped xs ys ms_is qs_is types end ks [] begin kept tuples made some = absurd some
+    call_stepped xs ys ms_is qs_is types end ks (f ∷ us) begin kept tuples made some =
         let vals = same ∙ made.values m in
         let start = v_next ls place.depth f in
         let last = vs_next ls start (tied us) in
         let b1 = n_v ls (length kept) f in
-        end_stepped ks (f ∷ us) ns ms place ps qs old new kept tuples len bound mid vs
+        end_stepped ks (f ∷ us) ns place ps begin new kept tuples len bound mid vs
         (HCall f (ctys xs.items) (tied us))
         (a.Call (val ls (length kept) place.depth last f) (atypes (ctys xs.items))
         (the_vals ls b1 start last (tied us))) (H.Call xs) (A.Call ys) ms_is qs_is end (λ hs. refl) refl made.emits
@@ -334,13 +360,14 @@ module _ (ns ms : List Name) (place : Place) (ps qs : List Place) (mid new : Lis
         ∙ ap₂ (λ k us2. a.Call (val ls (length kept) place.depth k f) us2 (the_vals ls b1 start k (tied us)) ∷ zs)
         made.depth types) (subst r.IsSome (sym vals) tt) refl
 
-    pub branch_stepped : (p : Place) → ms ≡ ns → qs ≡ (ps ++ p ∷ []) ++ p ∷ [] → p.depth ≡ m → p.names ≡ place.names →
-        p.binders ≡ place.binders → Ends A.If0 vs mid new → Steps place H.If0 lv ts m ns ms ps qs mid new
-    branch_stepped p ms_is qs_is depth count binders end ks [] old kept tuples made one = absurd one
-    branch_stepped p ms_is qs_is depth count binders end ks (v ∷ w ∷ us) old kept tuples made one = absurd one
-    branch_stepped p ms_is qs_is depth count binders end ks (v ∷ []) old kept tuples made one =
-        if_stepped ks (v ∷ []) ns ms place ps qs old new kept tuples len bound mid vs m v H.If0 p
-        (emits_same old mid _ _ (λ r. refl) made.emits) made.depth made.number
+    pub branch_stepped : (p : Place) → new.names.items ≡ ns → new.places.items ≡ (ps ++ p ∷ []) ++ p ∷ [] →
+        p.depth ≡ m → p.names ≡ place.names → p.binders ≡ place.binders → Ends A.If0 vs mid new.nodes.items →
+        Steps place H.If0 run old new
+    branch_stepped p ms_is qs_is depth count binders end ks [] begin kept tuples made one = absurd one
+    branch_stepped p ms_is qs_is depth count binders end ks (v ∷ w ∷ us) begin kept tuples made one = absurd one
+    branch_stepped p ms_is qs_is depth count binders end ks (v ∷ []) begin kept tuples made one =
+        if_stepped ks (v ∷ []) ns place ps begin new kept tuples len bound mid vs m v H.If0 p
+        (emits_same begin mid _ _ (λ r. refl) made.emits) made.depth made.number
         (keep_one _ (a_data kept) (data_v ks g ls (length kept) v) made.keeps) (same ∙ made.values m) ms_is qs_is
         end depth count binders refl refl
 
@@ -350,12 +377,12 @@ module _ (ns ms : List Name) (place : Place) (ps qs : List Place) (mid new : Lis
       Emits mid mid2 (λ r. a.Let (a.Malloc (a.MoreATys (ty) a.NoATys)) r) →
       ((d : ℕ) (v : a.AVal) → map (value_at d) lv ≡ v ∷ [] → value_at d x ≡ v) →
       map a_value vs ≡ a.Var 0 ∷ value_at k x ∷ [] →
-      Declares (A.Init 1) vs whole None k (length ns) place.binders ns ms ps qs mid2 new →
-      Steps place H.Cell lv ts m ns ms ps qs mid new
-  cell_stepped mid2 k ty whole x k_is has whole_is malloc only vals dec ks [] old kept tuples made one = absurd one
-  cell_stepped mid2 k ty whole x k_is has whole_is malloc only vals dec ks (v ∷ w ∷ us) old kept tuples made one =
+      Declares (A.Init 1) vs whole None k place.binders ns ps mid2 new →
+      Steps place H.Cell run old new
+  cell_stepped mid2 k ty whole x k_is has whole_is malloc only vals dec ks [] begin kept tuples made one = absurd one
+  cell_stepped mid2 k ty whole x k_is has whole_is malloc only vals dec ks (v ∷ w ∷ us) begin kept tuples made one =
       absurd one
-  cell_stepped mid2 k ty whole x k_is has whole_is malloc only vals dec ks (v ∷ []) old kept tuples made one =
+  cell_stepped mid2 k ty whole x k_is has whole_is malloc only vals dec ks (v ∷ []) begin kept tuples made one =
       let t = v_type ks g v in
       let ty_is : ty ≡ t = has t made.types in
       let k_now : k ≡ suc (v_next ls place.depth v) = k_is ∙ ap suc made.depth in
@@ -364,10 +391,10 @@ module _ (ns ms : List Name) (place : Place) (ps qs : List Place) (mid new : Lis
       ∙ ap (λ n. val ls (length kept) place.depth n v) k_now in
       let vals2 : map a_value vs ≡ a.Var 0 ∷ val ls (length kept) place.depth (suc (v_next ls place.depth v)) v ∷ [] =
       vals ∙ ap (λ y. a.Var 0 ∷ y ∷ []) content in
-      let emits = emits_same old mid2 _ _
+      let emits = emits_same begin mid2 _ _
       (λ r. ap (λ y. pre_vs ks g ls (length kept) place.depth (tied (v ∷ []))
-      (a.Let (a.Malloc (a.MoreATys y a.NoATys)) r)) ty_is) (emits_then old mid mid2 _ _ made.emits malloc) in
-      let_stepped ks (v ∷ []) ns ms place ps qs old new kept tuples len bound mid2 vs k (HCell v) H.Cell
+      (a.Let (a.Malloc (a.MoreATys y a.NoATys)) r)) ty_is) (emits_then begin mid mid2 _ _ made.emits malloc) in
+      let_stepped ks (v ∷ []) ns place ps begin new kept tuples len bound mid2 vs k (HCell v) H.Cell
       (A.Init 1) whole None place.binders emits k_now made.number
       (keep_one _ (a_data kept) (data_v ks g ls (length kept) v) made.keeps) refl dec (λ hs. refl) refl
       (λ xs. ap (λ ws. a_build (A.Init 1) ws xs) vals2) (subst r.IsTwo (sym vals2) tt) refl (omega arith)
@@ -379,36 +406,35 @@ module _ (ns ms : List Name) (place : Place) (ps qs : List Place) (mid new : Lis
       atrees room.items ≡ a.NoATys → ty ≡ a.ATuple a.NoAFields →
       ((v w : a.AVal) → map (value_at m) lv ≡ v ∷ w ∷ [] → Emits mid mid2 (λ r. a.Let (a.Init v 1 w) r)) →
       map a_value vs ≡ [] →
-      Declares (A.Malloc room) vs ty None k (length ns) place.binders ns ms ps qs mid2 new →
-      Steps place H.Set lv ts m ns ms ps qs mid new
-  set_stepped mid2 k room ty k_is room_is ty_is init vals dec ks [] old kept tuples made two = absurd two
-  set_stepped mid2 k room ty k_is room_is ty_is init vals dec ks (v ∷ []) old kept tuples made two = absurd two
-  set_stepped mid2 k room ty k_is room_is ty_is init vals dec ks (v ∷ w ∷ x ∷ us) old kept tuples made two = absurd two
-  set_stepped mid2 k room ty k_is room_is ty_is init vals dec ks (v ∷ w ∷ []) old kept tuples made two =
+      Declares (A.Malloc room) vs ty None k place.binders ns ps mid2 new →
+      Steps place H.Set run old new
+  set_stepped mid2 k room ty k_is room_is ty_is init vals dec ks [] begin kept tuples made two = absurd two
+  set_stepped mid2 k room ty k_is room_is ty_is init vals dec ks (v ∷ []) begin kept tuples made two = absurd two
+  set_stepped mid2 k room ty k_is room_is ty_is init vals dec ks (v ∷ w ∷ x ∷ us) begin kept tuples made two = absurd two
+  set_stepped mid2 k room ty k_is room_is ty_is init vals dec ks (v ∷ w ∷ []) begin kept tuples made two =
       let d1 = v_next ls place.depth v in
       let d2 = v_next ls d1 w in
       let b1 = n_v ls (length kept) v in
       let step = init (val ls (length kept) place.depth m v) (val ls b1 d1 m w) (made.values m) in
-      let emits = emits_same old mid2 _ _
+      let emits = emits_same begin mid2 _ _
       (λ r. ap (λ n. pre_vs ks g ls (length kept) place.depth (tied (v ∷ w ∷ []))
       (a.Let (a.Init (val ls (length kept) place.depth n v) 1 (val ls b1 d1 n w)) r)) made.depth)
-      (emits_then old mid mid2 _ _ made.emits step) in
-      let_stepped ks (v ∷ w ∷ []) ns ms place ps qs old new kept tuples len bound mid2 vs k (HSet v w) H.Set
+      (emits_then begin mid mid2 _ _ made.emits step) in
+      let_stepped ks (v ∷ w ∷ []) ns place ps begin new kept tuples len bound mid2 vs k (HSet v w) H.Set
       (A.Malloc room) ty None place.binders emits (k_is ∙ ap suc made.depth) made.number
       (keep_two _ (a_data kept) (data_v ks g ls (length kept) v) (data_v ks g ls (n_v ls (length kept) v) w)
       made.keeps) refl dec (λ hs. refl) refl
       (λ xs. ap (λ us2. a_let (a.Malloc us2) xs) room_is) (subst r.IsNone (sym vals) tt) refl (omega arith)
       (λ n u is. same_scope n (a.ATuple a.NoAFields) u (is ∙ ty_is))
 
-pub steps_for : (place : Place) (f h : HForm) (vs : List AValue) (ts : List Seen) (m : ℕ) (ns ms : List Name)
-    (ps qs : List Place) (mid new : List ANode) → f ≡ h → Steps place f vs ts m ns ms ps qs mid new →
-    Steps place h vs ts m ns ms ps qs mid new
-steps_for place f h vs ts m ns ms ps qs mid new e s = subst (λ x. Steps place x vs ts m ns ms ps qs mid new) e s
+pub steps_for : (place : Place) (f h : HForm) (run : Run) (old new : Progress) → f ≡ h → Steps place f run old new →
+    Steps place h run old new
+steps_for place f h run old new e s = subst (λ x. Steps place x run old new) e s
 
-pub made_for : (ks : HBlks) (b c d : ℕ) (xs ns : List Name) (ps qs : List HPart) (old mid : List ANode)
-    (kept tuples : List AData) (vs : List AValue) (ts : List Seen) (m : ℕ) → xs ≡ ns → ps ≡ qs →
-    Made ks (scope b xs) (knowns xs) c d (reads [] ps) old kept vs ts m mid tuples →
-    Made ks (scope b ns) (knowns ns) c d (reads [] qs) old kept vs ts m mid tuples
-made_for ks b c d xs ns ps qs old mid kept tuples vs ts m e f r =
-    subst (λ ys. Made ks (scope b ys) (knowns ys) c d (reads [] qs) old kept vs ts m mid tuples) e
-    (subst (λ ys. Made ks (scope b xs) (knowns xs) c d (reads [] ys) old kept vs ts m mid tuples) f r)
+pub made_for : (ks : HBlks) (b c d : ℕ) (xs ys : List Name) (hs is : List HPart) (old mid : List ANode)
+    (kept tuples : List AData) (vs : List AValue) (ts : List Seen) (m : ℕ) → xs ≡ ys → hs ≡ is →
+    Made ks (scope b xs) (knowns xs) c d (reads [] hs) old kept vs ts m mid tuples →
+    Made ks (scope b ys) (knowns ys) c d (reads [] is) old kept vs ts m mid tuples
+made_for ks b c d xs ys hs is old mid kept tuples vs ts m e f r =
+    subst (λ zs. Made ks (scope b zs) (knowns zs) c d (reads [] is) old kept vs ts m mid tuples) e
+    (subst (λ zs. Made ks (scope b xs) (knowns xs) c d (reads [] zs) old kept vs ts m mid tuples) f r)

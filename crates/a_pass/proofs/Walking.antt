@@ -21,6 +21,7 @@ use Rattle.a_terms.specs.declared.nodes.AData.{AData}
 use Rattle.a_terms.specs.declared.nodes.ANode.{ANode}
 use Rattle.a_pass.specs.declared.state.Name.{Name}
 use Rattle.a_pass.specs.declared.state.Place.{Place}
+use Rattle.a_pass.specs.declared.state.Progress.{Progress}
 use Rattle.a_pass.specs.Scope.{kept, known_name, knowns, typed, scope, Under, pending, pending_data, Fit}
 use Rattle.a_pass.specs.Emits.{Stepped, tops}
 use Rattle.a_pass.proofs.Places.{onto_push}
@@ -36,11 +37,12 @@ pub record Walked (ks : HBlks) (rest : List HNode) (ns : List Name) (ps : List P
   pub rows : (more : List ANode) → ARow more (length ps) → ARow (now ++ more) 1
 
 pub walk_begins : (ks : HBlks) (nodes : List HNode) (ns : List Name) (p : Place) (ps : List Place) (now : List ANode)
-    (tuples : List AData) (d : ℕ) → HRow nodes 1 → Under 0 ns → now ≡ [] → ps ≡ p ∷ [] → p.names ≡ length ns →
-    p.binders ≡ 0 → p.depth ≡ d →
-    Walked ks nodes ns ps now tuples (alloc_t ks (scope 0 ns) (knowns ns) (length tuples) d (h_tree nodes) ∷ [])
-    (a_data tuples ++ data_t ks (scope 0 ns) (knowns ns) (length tuples) d (h_tree nodes))
-walk_begins ks nodes ns p ps now tuples d row bound now_is ps_is count binders depth =
+    (tuples : List AData) → HRow nodes 1 → Under 0 ns → now ≡ [] → ps ≡ p ∷ [] → p.names ≡ length ns →
+    p.binders ≡ 0 → p.depth ≡ length ns →
+    Walked ks nodes ns ps now tuples
+    (alloc_t ks (scope 0 ns) (knowns ns) (length tuples) (length ns) (h_tree nodes) ∷ [])
+    (a_data tuples ++ data_t ks (scope 0 ns) (knowns ns) (length tuples) (length ns) (h_tree nodes))
+walk_begins ks nodes ns p ps now tuples row bound now_is ps_is count binders depth =
     let all : take p.names ns ≡ ns = take_all p.names ns (omega (arith, count)) in
     let c = length tuples in
     record {
@@ -86,10 +88,10 @@ module _ (ks : HBlks) (before rest : List HNode) (node : HNode) (ns kept : List 
   pub walk_bound : Under place.binders kept
   walk_bound = subst (Under place.binders) (sym cut) fits.1
 
-  pub walk_goes : (ms : List Name) (rs : List Place) (new : List ANode) (more2 : List AData) →
-      Stepped ks place node.form (values node) kept ms qs rs now new tuples more2 →
-      Walked ks rest ms rs new more2 whole all
-  walk_goes ms rs new more2 s =
+  pub walk_goes : (new : Progress) (more2 : List AData) →
+      Stepped ks place node.form (values node) kept qs now new tuples more2 →
+      Walked ks rest new.names.items new.places.items new.nodes.items more2 whole all
+  walk_goes new more2 s =
       let fit : Fit kept place.names (tops qs) =
       subst (λ xs. Fit xs place.names (tops qs)) (sym cut)
       (fit_take ns place.names (tops qs) place.names (omega arith) fits.2) in
@@ -196,16 +198,16 @@ pub named_all : (args : List CType) (i : ℕ) (ns : List Name) → length args �
 named_all args i ns le named = subst (λ xs. Named xs ns) (take_all i args le) named
 
 -- a block's body
-pub body_is : (ks : HBlks) (args : List CType) (ns : List Name) (c d : ℕ) (t : HTm) → d ≡ length ns →
+pub body_is : (ks : HBlks) (args : List CType) (ns : List Name) (c : ℕ) (t : HTm) →
     knowns ns ≡ arg_levels 0 [] (ctys args) → scope 0 ns ≡ types_of (atypes (ctys args)) [] →
     length ns ≡ arg_depth 0 (ctys args) →
-    (alloc_t ks (scope 0 ns) (knowns ns) c d t
+    (alloc_t ks (scope 0 ns) (knowns ns) c (length ns) t
     ≡ alloc_t ks (types_of (atypes (ctys args)) []) (arg_levels 0 [] (ctys args)) c (arg_depth 0 (ctys args)) t)
-    × (data_t ks (scope 0 ns) (knowns ns) c d t
+    × (data_t ks (scope 0 ns) (knowns ns) c (length ns) t
     ≡ data_t ks (types_of (atypes (ctys args)) []) (arg_levels 0 [] (ctys args)) c (arg_depth 0 (ctys args)) t)
-body_is ks args ns c d t long ls g depth = (
-  ap₂ (λ x y. alloc_t ks x y c d t) g ls
-      ∙ ap (λ k. alloc_t ks (types_of (atypes (ctys args)) []) (arg_levels 0 [] (ctys args)) c k t) (long ∙ depth),
-  ap₂ (λ x y. data_t ks x y c d t) g ls
-      ∙ ap (λ k. data_t ks (types_of (atypes (ctys args)) []) (arg_levels 0 [] (ctys args)) c k t) (long ∙ depth),
+body_is ks args ns c t ls g depth = (
+  ap₂ (λ x y. alloc_t ks x y c (length ns) t) g ls
+      ∙ ap (λ k. alloc_t ks (types_of (atypes (ctys args)) []) (arg_levels 0 [] (ctys args)) c k t) depth,
+  ap₂ (λ x y. data_t ks x y c (length ns) t) g ls
+      ∙ ap (λ k. data_t ks (types_of (atypes (ctys args)) []) (arg_levels 0 [] (ctys args)) c k t) depth,
 )

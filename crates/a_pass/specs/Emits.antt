@@ -14,6 +14,8 @@ use Rattle.a_terms.specs.declared.nodes.ANode.{ANode}
 use Rattle.a_laws.specs.Allocate.{Known, data_vs, n_vs, v_type, vals, vs_next, pre_vs}
 use Rattle.a_pass.specs.declared.state.Name.{Name}
 use Rattle.a_pass.specs.declared.state.Place.{Place}
+use Rattle.a_pass.specs.declared.state.Progress.{Progress}
+use Rattle.a_pass.specs.declared.state.Run.{Run}
 use Rattle.a_pass.specs.declared.state.Seen.{Seen}
 use Rattle.a_pass.specs.Scope.{value_at, type_in, constant_in, constants, field_at, onto, knowns, scope, pending}
 use Rattle.a_pass.specs.Scope.{pending_data, typed, Fit}
@@ -60,20 +62,20 @@ abbrev pub tops : List Place → List Place
 tops ps = onto (λ p. p) [] ps
 
 -- one more node, which names something
-pub record Declares (form : AForm) (vs : List AValue) (ty : a.ATy) (value : Option a.AVal) (depth count binders : ℕ)
-    (ns ms : List Name) (ps qs : List Place) (old new : List ANode) : Type 0 where
+pub record Declares (form : AForm) (vs : List AValue) (ty : a.ATy) (value : Option a.AVal) (depth binders : ℕ)
+    (ns : List Name) (ps : List Place) (mid : List ANode) (new : Progress) : Type 0 where
   pub name : Name
   pub place : Place
   pub node : ANode
-  pub names : ms ≡ ns ++ name ∷ []
-  pub places : qs ≡ ps ++ place ∷ []
-  pub nodes : new ≡ old ++ node ∷ []
+  pub names : new.names.items ≡ ns ++ name ∷ []
+  pub places : new.places.items ≡ ps ++ place ∷ []
+  pub nodes : new.nodes.items ≡ mid ++ node ∷ []
   pub level : name.level ≡ depth
   pub type : typed binders name ≡ ty
   pub under : name.under ≤ binders
   pub constant : option_map a_value name.constant ≡ value
   pub deep : place.depth ≡ suc depth
-  pub many : place.names ≡ suc count
+  pub many : place.names ≡ suc (length ns)
   pub bound : place.binders ≡ binders
   pub shape : node.form ≡ form
   pub values : node.values.items ≡ vs
@@ -86,23 +88,23 @@ pub record Ends (form : AForm) (vs : List AValue) (old new : List ANode) : Type 
   pub values : node.values.items ≡ vs
 
 -- what one node of a term does
-pub record Stepped (ks : HBlks) (place : Place) (form : HForm) (us : List HVal) (ns ms : List Name)
-    (ps qs : List Place) (old new : List ANode) (kept tuples : List AData) : Type 0 where
+pub record Stepped (ks : HBlks) (place : Place) (form : HForm) (us : List HVal) (ns : List Name) (ps : List Place)
+    (old : List ANode) (new : Progress) (kept tuples : List AData) : Type 0 where
   pub terms : Fit ns place.names (tops ps) → (ts : List HTm) →
-      a_onto new (pending ks ms (tops qs) (length tuples) ts)
+      a_onto new.nodes.items (pending ks new.names.items (tops new.places.items) (length tuples) ts)
       ≡ a_onto old (pending ks ns (place ∷ tops ps) (length kept) (h_build form us ts))
   pub keeps : Fit ns place.names (tops ps) → (ts : List HTm) →
-      a_data tuples ++ pending_data ks ms (tops qs) (length tuples) ts
+      a_data tuples ++ pending_data ks new.names.items (tops new.places.items) (length tuples) ts
       ≡ a_data kept ++ pending_data ks ns (place ∷ tops ps) (length kept) (h_build form us ts)
-  pub fit : Fit ns place.names (tops ps) → Fit ms (length ms) (tops qs)
+  pub fit : Fit ns place.names (tops ps) → Fit new.names.items (length new.names.items) (tops new.places.items)
   pub rows : (m : ℕ) → ((rest : List ANode) → ARow rest (suc (length ps)) → ARow (old ++ rest) m) →
-      (rest : List ANode) → ARow rest (length qs) → ARow (new ++ rest) m
-  pub count : length qs ≡ lift (h_kids form) (length ps)
+      (rest : List ANode) → ARow rest (length new.places.items) → ARow (new.nodes.items ++ rest) m
+  pub count : length new.places.items ≡ lift (h_kids form) (length ps)
 
 -- what a node of this form does to what stands after its values were read, whatever they stand for
-abbrev pub Steps : Place → HForm → List AValue → List Seen → ℕ → List Name → List Name → List Place → List Place →
-    List ANode → List ANode → Type 0
-Steps place form vs ts m ns ms ps qs mid new =
+abbrev pub Steps : Place → HForm → Run → Progress → Progress → Type 0
+Steps place form run old new =
     (ks : HBlks) (us : List HVal) (begin : List ANode) (kept tuples : List AData) →
-    Made ks (scope place.binders ns) (knowns ns) (length kept) place.depth us begin kept vs ts m mid tuples →
-    HArity form us → Stepped ks place form us ns ms ps qs begin new kept tuples
+    Made ks (scope place.binders old.names.items) (knowns old.names.items) (length kept) place.depth us begin kept
+    run.values.items run.types.items run.depth old.nodes.items tuples →
+    HArity form us → Stepped ks place form us old.names.items old.places.items begin new kept tuples

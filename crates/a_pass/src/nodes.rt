@@ -61,16 +61,14 @@ fn declare<'a>(
     name: Name<'a>,
     binders: u64,
     progress: &mut Progress<'a>,
-    out: &mut Vec<ANode>,
 ) -> Result<(), OutOfMemory>
     requires { name.under ≤ binders }
     ensures { OnOk result (Declares node.form node.values.items (typed binders name.entry)
-        (option_map a_value name.entry.constant) name.entry.level
-        (length progress.old.names.items) binders progress.old.names.items progress.new.names.items
-        progress.old.places.items progress.new.places.items out.old.items out.new.items) }
+        (option_map a_value name.entry.constant) name.entry.level binders progress.old.names.items
+        progress.old.places.items progress.old.nodes.items progress.new) }
 {
     let next = after(name.level)?;
-    out.push(node)?;
+    progress.nodes.push(node)?;
     progress.names.push(name)?;
     let names = progress.names.len();
     progress.places.push(Place {
@@ -88,18 +86,10 @@ fn end(form: AForm, values: Vec<AValue>, out: &mut Vec<ANode>) -> Result<(), Out
     Ok(())
 }
 
-fn name<'a>(
-    alloc: Global,
-    run: Run<'a>,
-    place: Place,
-    progress: &mut Progress<'a>,
-    out: &mut Vec<ANode>,
-) -> Result<(), OutOfMemory>
+fn name<'a>(run: Run<'a>, place: Place, progress: &mut Progress<'a>) -> Result<(), OutOfMemory>
     requires names { length progress.old.names.items ≡ place.names }
     requires bound { Under place.binders progress.old.names.items }
-    ensures { OnOk result (Steps place H.Name run.entry.values.items run.entry.types.items run.entry.depth
-        progress.old.names.items
-        progress.new.names.items progress.old.places.items progress.new.places.items out.old.items out.new.items) }
+    ensures { OnOk result (Steps place H.Name run.entry progress.old progress.new) }
 {
     let Run {
         values,
@@ -107,9 +97,9 @@ fn name<'a>(
         depth,
     } = run;
     let Seen { ty: kind, constant } = only(types);
-    let Noted { ty, under } = value_noted(alloc, &progress.names, place.binders, &kind)?;
-    let constant = constant_value(alloc, &progress.names, constant)?;
-    let values = under_all(alloc, values, depth)?;
+    let Noted { ty, under } = value_noted(progress.alloc, &progress.names, place.binders, &kind)?;
+    let constant = constant_value(progress.alloc, &progress.names, constant)?;
+    let values = under_all(progress.alloc, values, depth)?;
     let node = ANode {
         form: AForm::Value,
         values,
@@ -120,28 +110,20 @@ fn name<'a>(
         under,
         constant,
     };
-    declare(node, name, place.binders, progress, out)?;
+    declare(node, name, place.binders, progress)?;
     Ok(())
 }
 
 fn project<'a>(
-    alloc: Global,
     i: u64,
     run: Run<'a>,
     place: Place,
     progress: &mut Progress<'a>,
-    out: &mut Vec<ANode>,
 ) -> Result<(), OutOfMemory>
     requires names { length progress.old.names.items ≡ place.names }
     requires bound { Under place.binders progress.old.names.items }
-    ensures field { OnOk result (Steps place
-        (H.Proj i) run.entry.values.items run.entry.types.items run.entry.depth progress.old.names.items
-        progress.new.names.items
-        progress.old.places.items progress.new.places.items out.old.items out.new.items) }
-    ensures cell { OnOk result (i ≡ 1 →
-        Steps place H.Get run.entry.values.items run.entry.types.items run.entry.depth progress.old.names.items
-        progress.new.names.items
-        progress.old.places.items progress.new.places.items out.old.items out.new.items) }
+    ensures field { OnOk result (Steps place (H.Proj i) run.entry progress.old progress.new) }
+    ensures cell { OnOk result (i ≡ 1 → Steps place H.Get run.entry progress.old progress.new) }
 {
     let Run {
         values,
@@ -149,8 +131,14 @@ fn project<'a>(
         depth,
     } = run;
     let whole = only(types).ty;
-    let Noted { ty, under } = field_noted(alloc, &progress.names, place.binders, &whole, i)?;
-    let values = under_all(alloc, values, depth)?;
+    let Noted { ty, under } = field_noted(
+        progress.alloc,
+        &progress.names,
+        place.binders,
+        &whole,
+        i,
+    )?;
+    let values = under_all(progress.alloc, values, depth)?;
     let node = ANode {
         form: AForm::Proj(i),
         values,
@@ -161,31 +149,26 @@ fn project<'a>(
         under,
         constant: None,
     };
-    declare(node, name, place.binders, progress, out)?;
+    declare(node, name, place.binders, progress)?;
     Ok(())
 }
 
 fn operate<'a>(
-    alloc: Global,
     op: Op,
     run: Run<'a>,
     place: Place,
     progress: &mut Progress<'a>,
-    out: &mut Vec<ANode>,
 ) -> Result<(), OutOfMemory>
     requires names { length progress.old.names.items ≡ place.names }
     requires bound { Under place.binders progress.old.names.items }
-    ensures { OnOk result (Steps place
-        (H.Arith op) run.entry.values.items run.entry.types.items run.entry.depth progress.old.names.items
-        progress.new.names.items
-        progress.old.places.items progress.new.places.items out.old.items out.new.items) }
+    ensures { OnOk result (Steps place (H.Arith op) run.entry progress.old progress.new) }
 {
     let Run {
         values,
         types: _,
         depth,
     } = run;
-    let values = under_all(alloc, values, depth)?;
+    let values = under_all(progress.alloc, values, depth)?;
     let node = ANode {
         form: AForm::Arith(op),
         values,
@@ -196,22 +179,14 @@ fn operate<'a>(
         under: place.binders,
         constant: None,
     };
-    declare(node, name, place.binders, progress, out)?;
+    declare(node, name, place.binders, progress)?;
     Ok(())
 }
 
-fn unpack<'a>(
-    alloc: Global,
-    run: Run<'a>,
-    place: Place,
-    progress: &mut Progress<'a>,
-    out: &mut Vec<ANode>,
-) -> Result<(), OutOfMemory>
+fn unpack<'a>(run: Run<'a>, place: Place, progress: &mut Progress<'a>) -> Result<(), OutOfMemory>
     requires names { length progress.old.names.items ≡ place.names }
     requires bound { Under place.binders progress.old.names.items }
-    ensures { OnOk result (Steps place H.Unpack run.entry.values.items run.entry.types.items run.entry.depth
-        progress.old.names.items
-        progress.new.names.items progress.old.places.items progress.new.places.items out.old.items out.new.items) }
+    ensures { OnOk result (Steps place H.Unpack run.entry progress.old progress.new) }
 {
     let Run {
         values,
@@ -220,8 +195,14 @@ fn unpack<'a>(
     } = run;
     let inner = after(place.binders)?;
     let whole = only(types).ty;
-    let Noted { ty, under } = body_noted(alloc, &progress.names, place.binders, &whole, inner)?;
-    let values = under_all(alloc, values, depth)?;
+    let Noted { ty, under } = body_noted(
+        progress.alloc,
+        &progress.names,
+        place.binders,
+        &whole,
+        inner,
+    )?;
+    let values = under_all(progress.alloc, values, depth)?;
     let node = ANode {
         form: AForm::Unpack,
         values,
@@ -232,7 +213,7 @@ fn unpack<'a>(
         under,
         constant: None,
     };
-    declare(node, name, inner, progress, out)?;
+    declare(node, name, inner, progress)?;
     Ok(())
 }
 
@@ -249,18 +230,10 @@ fn one_field(alloc: Global, ty: AType, out: &mut Vec<ANode>) -> Result<AType, Ou
     Ok(cell)
 }
 
-fn cell<'a>(
-    alloc: Global,
-    run: Run<'a>,
-    place: Place,
-    progress: &mut Progress<'a>,
-    out: &mut Vec<ANode>,
-) -> Result<(), OutOfMemory>
+fn cell<'a>(run: Run<'a>, place: Place, progress: &mut Progress<'a>) -> Result<(), OutOfMemory>
     requires names { length progress.old.names.items ≡ place.names }
     requires bound { Under place.binders progress.old.names.items }
-    ensures { OnOk result (Steps place H.Cell run.entry.values.items run.entry.types.items run.entry.depth
-        progress.old.names.items
-        progress.new.names.items progress.old.places.items progress.new.places.items out.old.items out.new.items) }
+    ensures { OnOk result (Steps place H.Cell run.entry progress.old progress.new) }
 {
     let Run {
         values,
@@ -268,10 +241,10 @@ fn cell<'a>(
         depth,
     } = run;
     let kind = only(types).ty;
-    let ty = own(alloc, &progress.names, place.binders, &kind)?;
-    let whole = one_field(alloc, ty, out)?;
+    let ty = own(progress.alloc, &progress.names, place.binders, &kind)?;
+    let whole = one_field(progress.alloc, ty, &mut progress.nodes)?;
     let newest = after(depth)?;
-    let values = content(alloc, only_value(alloc, values), newest)?;
+    let values = content(progress.alloc, only_value(progress.alloc, values), newest)?;
     let node = ANode {
         form: AForm::Init(1),
         values,
@@ -282,7 +255,7 @@ fn cell<'a>(
         under: place.binders,
         constant: None,
     };
-    declare(node, name, place.binders, progress, out)?;
+    declare(node, name, place.binders, progress)?;
     Ok(())
 }
 
@@ -306,28 +279,20 @@ fn assign(
     Ok(next)
 }
 
-fn set<'a>(
-    alloc: Global,
-    run: Run<'a>,
-    place: Place,
-    progress: &mut Progress<'a>,
-    out: &mut Vec<ANode>,
-) -> Result<(), OutOfMemory>
+fn set<'a>(run: Run<'a>, place: Place, progress: &mut Progress<'a>) -> Result<(), OutOfMemory>
     requires names { length progress.old.names.items ≡ place.names }
     requires bound { Under place.binders progress.old.names.items }
-    ensures { OnOk result (Steps place H.Set run.entry.values.items run.entry.types.items run.entry.depth
-        progress.old.names.items
-        progress.new.names.items progress.old.places.items progress.new.places.items out.old.items out.new.items) }
+    ensures { OnOk result (Steps place H.Set run.entry progress.old progress.new) }
 {
     let Run {
         values,
         types: _,
         depth,
     } = run;
-    let next = assign(alloc, values, depth, out)?;
-    let room = Vec::new(alloc);
-    let none = set_tuple(alloc, &room)?;
-    let empty = Vec::new(alloc);
+    let next = assign(progress.alloc, values, depth, &mut progress.nodes)?;
+    let room = Vec::new(progress.alloc);
+    let none = set_tuple(progress.alloc, &room)?;
+    let empty = Vec::new(progress.alloc);
     let node = ANode {
         form: AForm::Malloc(room),
         values: empty,
@@ -338,48 +303,35 @@ fn set<'a>(
         under: place.binders,
         constant: None,
     };
-    declare(node, name, place.binders, progress, out)?;
+    declare(node, name, place.binders, progress)?;
     Ok(())
 }
 
 fn call(
-    alloc: Global,
     types: &Vec<CType>,
     run: Run,
     place: Place,
-    progress: &Progress,
-    out: &mut Vec<ANode>,
+    progress: &mut Progress,
 ) -> Result<(), OutOfMemory>
-    requires names { length progress.now.names.items ≡ place.names }
-    requires bound { Under place.binders progress.now.names.items }
-    ensures { OnOk result (Steps place
-        (H.Call types.now) run.entry.values.items run.entry.types.items run.entry.depth progress.now.names.items
-        progress.now.names.items
-        progress.now.places.items progress.now.places.items out.old.items out.new.items) }
+    requires names { length progress.old.names.items ≡ place.names }
+    requires bound { Under place.binders progress.old.names.items }
+    ensures { OnOk result (Steps place (H.Call types.now) run.entry progress.old progress.new) }
 {
     let Run {
         values,
         types: _,
         depth,
     } = run;
-    let types = a_types(alloc, types)?;
-    let values = under_all(alloc, values, depth)?;
-    end(AForm::Call(types), values, out)?;
+    let types = a_types(progress.alloc, types)?;
+    let values = under_all(progress.alloc, values, depth)?;
+    end(AForm::Call(types), values, &mut progress.nodes)?;
     Ok(())
 }
 
-fn choose<'a>(
-    alloc: Global,
-    run: Run<'a>,
-    place: Place,
-    progress: &mut Progress<'a>,
-    out: &mut Vec<ANode>,
-) -> Result<(), OutOfMemory>
+fn choose<'a>(run: Run<'a>, place: Place, progress: &mut Progress<'a>) -> Result<(), OutOfMemory>
     requires names { length progress.old.names.items ≡ place.names }
     requires bound { Under place.binders progress.old.names.items }
-    ensures { OnOk result (Steps place H.If0 run.entry.values.items run.entry.types.items run.entry.depth
-        progress.old.names.items
-        progress.new.names.items progress.old.places.items progress.new.places.items out.old.items out.new.items) }
+    ensures { OnOk result (Steps place H.If0 run.entry progress.old progress.new) }
 {
     let Run {
         values,
@@ -391,87 +343,80 @@ fn choose<'a>(
         names: place.names,
         binders: place.binders,
     };
-    let values = under_all(alloc, values, depth)?;
-    end(AForm::If0, values, out)?;
+    let values = under_all(progress.alloc, values, depth)?;
+    end(AForm::If0, values, &mut progress.nodes)?;
     progress.places.push(branch)?;
     progress.places.push(branch)?;
     Ok(())
 }
 
-fn halt(
-    alloc: Global,
-    run: Run,
-    place: Place,
-    progress: &Progress,
-    out: &mut Vec<ANode>,
-) -> Result<(), OutOfMemory>
-    requires names { length progress.now.names.items ≡ place.names }
-    requires bound { Under place.binders progress.now.names.items }
-    ensures { OnOk result (Steps place H.Halt run.entry.values.items run.entry.types.items run.entry.depth
-        progress.now.names.items
-        progress.now.names.items progress.now.places.items progress.now.places.items out.old.items out.new.items) }
+fn halt(run: Run, place: Place, progress: &mut Progress) -> Result<(), OutOfMemory>
+    requires names { length progress.old.names.items ≡ place.names }
+    requires bound { Under place.binders progress.old.names.items }
+    ensures { OnOk result (Steps place H.Halt run.entry progress.old progress.new) }
 {
     let Run {
         values,
         types: _,
         depth,
     } = run;
-    let values = under_all(alloc, values, depth)?;
-    end(AForm::Halt, values, out)?;
+    let values = under_all(progress.alloc, values, depth)?;
+    end(AForm::Halt, values, &mut progress.nodes)?;
     Ok(())
 }
 
 // What a node of this form does, once its values are read.
 fn form<'a>(
-    alloc: Global,
     form: &HForm,
     run: Run<'a>,
     place: Place,
     progress: &mut Progress<'a>,
-    out: &mut Vec<ANode>,
 ) -> Result<(), OutOfMemory>
     requires names { length progress.old.names.items ≡ place.names }
     requires bound { Under place.binders progress.old.names.items }
-    ensures { OnOk result (Steps place form.now run.entry.values.items run.entry.types.items run.entry.depth
-        progress.old.names.items
-        progress.new.names.items progress.old.places.items progress.new.places.items out.old.items out.new.items) }
+    ensures { OnOk result (Steps place form.now run.entry progress.old progress.new) }
 {
     match form {
-        HForm::Name => Ok(name(alloc, run, place, progress, out)?),
-        HForm::Proj(i) => Ok(project(alloc, *i, run, place, progress, out)?),
-        HForm::Arith(op) => Ok(operate(alloc, *op, run, place, progress, out)?),
-        HForm::Unpack => Ok(unpack(alloc, run, place, progress, out)?),
-        HForm::Cell => Ok(cell(alloc, run, place, progress, out)?),
-        HForm::Get => Ok(project(alloc, 1, run, place, progress, out)?),
-        HForm::Set => Ok(set(alloc, run, place, progress, out)?),
-        HForm::Call(types) => Ok(call(alloc, types, run, place, progress, out)?),
-        HForm::If0 => Ok(choose(alloc, run, place, progress, out)?),
-        HForm::Halt => Ok(halt(alloc, run, place, progress, out)?),
+        HForm::Name => Ok(name(run, place, progress)?),
+        HForm::Proj(i) => Ok(project(*i, run, place, progress)?),
+        HForm::Arith(op) => Ok(operate(*op, run, place, progress)?),
+        HForm::Unpack => Ok(unpack(run, place, progress)?),
+        HForm::Cell => Ok(cell(run, place, progress)?),
+        HForm::Get => Ok(project(1, run, place, progress)?),
+        HForm::Set => Ok(set(run, place, progress)?),
+        HForm::Call(types) => Ok(call(types, run, place, progress)?),
+        HForm::If0 => Ok(choose(run, place, progress)?),
+        HForm::Halt => Ok(halt(run, place, progress)?),
     }
 }
 
 pub(crate) fn step<'a>(
-    alloc: Global,
     blocks: &'a [HBlock],
     node: &'a HNode,
     place: Place,
     progress: &mut Progress<'a>,
     tuples: &mut Vec<AData>,
-    out: &mut Vec<ANode>,
 ) -> Result<(), OutOfMemory>
     requires arity { HArity node.now.form (h.values node.now) }
     requires names { length progress.old.names.items ≡ place.names }
     requires bound { Under place.binders progress.old.names.items }
-    ensures { OnOk result (Stepped (h_blocks blocks.now) place node.now.form
-        (h.values node.now) progress.old.names.items progress.new.names.items progress.old.places.items
-        progress.new.places.items out.old.items out.new.items tuples.old.items tuples.new.items) }
+    ensures { OnOk result (Stepped (h_blocks blocks.now) place node.now.form (h.values node.now)
+        progress.old.names.items progress.old.places.items progress.old.nodes.items progress.new tuples.old.items
+        tuples.new.items) }
 {
     let around = Around {
+        alloc: progress.alloc,
         blocks,
         names: &progress.names,
         binders: place.binders,
     };
-    let run = read(alloc, &around, &node.values, place.depth, tuples, out)?;
-    form(alloc, &node.form, run, place, progress, out)?;
+    let run = read(
+        &around,
+        &node.values,
+        place.depth,
+        tuples,
+        &mut progress.nodes,
+    )?;
+    form(&node.form, run, place, progress)?;
     Ok(())
 }

@@ -73,7 +73,6 @@ fn applied(alloc: Global, code: AType, ts: &[AType]) -> Result<AType, OutOfMemor
 
 // The type of what has this one and is applied to types. Where there are none it is the same.
 fn applied_kind<'a>(
-    alloc: Global,
     around: &Around,
     ty: TypeOf<'a>,
     ts: &[AType],
@@ -85,17 +84,12 @@ fn applied_kind<'a>(
     if ts.len() == 0 {
         return Ok(ty);
     }
-    let code = own(alloc, around.names, around.binders, &ty)?;
-    let made = applied(alloc, code, ts)?;
+    let code = own(around.alloc, around.names, around.binders, &ty)?;
+    let made = applied(around.alloc, code, ts)?;
     Ok(TypeOf::Own(made))
 }
 
-fn apply_leaf<'a>(
-    alloc: Global,
-    around: &Around,
-    ts: &[CType],
-    leaf: Leaf<'a>,
-) -> Result<Leaf<'a>, OutOfMemory>
+fn apply_leaf<'a>(around: &Around, ts: &[CType], leaf: Leaf<'a>) -> Result<Leaf<'a>, OutOfMemory>
     ensures value { IfOk result (λ r. (d : ℕ) →
         value_at d r.value ≡ a.Apply (value_at d leaf.entry.value) (atypes (ctys ts.now))) }
     ensures ty { IfOk result (λ r.
@@ -105,21 +99,16 @@ fn apply_leaf<'a>(
         constant_in ls r.seen ≡ of_apply (atypes (ctys ts.now)) (value_at 0 leaf.entry.value)) }
 {
     let Leaf { value, seen } = leaf;
-    let args = a_types(alloc, ts)?;
-    let ty = applied_kind(alloc, around, seen.ty, &args)?;
-    let constant = applied_constant(alloc, &value, &args)?;
+    let args = a_types(around.alloc, ts)?;
+    let ty = applied_kind(around, seen.ty, &args)?;
+    let constant = applied_constant(around.alloc, &value, &args)?;
     let value = wrap(value, AWrap::Apply(args))?;
     let seen = Seen { ty, constant };
     Ok(Leaf { value, seen })
 }
 
 // The newest value is applied to types.
-fn apply<'a>(
-    alloc: Global,
-    around: &Around,
-    ts: &[CType],
-    run: Run<'a>,
-) -> Result<Run<'a>, OutOfMemory>
+fn apply<'a>(around: &Around, ts: &[CType], run: Run<'a>) -> Result<Run<'a>, OutOfMemory>
     ensures { IfOk result (λ r. (ks : HBlks) (ls : List Known) (out : List ANode) (tuples : List AData) →
         Reads ks (scope around.now.binders around.now.names.now) ls (at_last (λ v. HApply v (ctys ts.now)))
         run.entry.values.items run.entry.types.items run.entry.depth out tuples r.values.items r.types.items r.depth
@@ -129,7 +118,7 @@ fn apply<'a>(
     let Some(leaf) = pop_leaf(&mut run) else {
         return Ok(run);
     };
-    let leaf = apply_leaf(alloc, around, ts, leaf)?;
+    let leaf = apply_leaf(around, ts, leaf)?;
     let made = push_leaf(run, leaf)?;
     Ok(made)
 }
@@ -182,7 +171,6 @@ fn pack<'a>(
 
 // A tuple of this level that is made and filled, and what is known of it.
 fn made_tuple<'a>(
-    alloc: Global,
     around: &Around,
     fields: Vec<AValue>,
     seen: Vec<Seen<'a>>,
@@ -199,11 +187,11 @@ fn made_tuple<'a>(
         seen.entry.items))) }
     ensures constant { IfOk result (λ r. (ls : List Known) → constant_in ls r.0.seen ≡ None) }
 {
-    let kinds = kinds_of(alloc, seen)?;
-    let room = own_all(alloc, around.names, around.binders, &kinds)?;
-    malloc(alloc, room, out)?;
-    let level = fill(alloc, fields, depth, out)?;
-    let value = plain(alloc, ABase::Var(level));
+    let kinds = kinds_of(around.alloc, seen)?;
+    let room = own_all(around.alloc, around.names, around.binders, &kinds)?;
+    malloc(around.alloc, room, out)?;
+    let level = fill(around.alloc, fields, depth, out)?;
+    let value = plain(around.alloc, ABase::Var(level));
     let seen = Seen {
         ty: TypeOf::Tuple(kinds),
         constant: ConstantOf::Open,
@@ -213,7 +201,6 @@ fn made_tuple<'a>(
 
 // The newest n values become a tuple: a data tuple where all are constants.
 fn tuple<'a>(
-    alloc: Global,
     around: &Around,
     n: u64,
     run: Run<'a>,
@@ -232,11 +219,11 @@ fn tuple<'a>(
     let fields = run.values.split_off(start)?;
     let seen = run.types.split_off(start)?;
     if all_constants(around.names, &seen) {
-        let leaf = constant_tuple(alloc, around.names, around.binders, seen, tuples)?;
+        let leaf = constant_tuple(around.alloc, around.names, around.binders, seen, tuples)?;
         let made = push_leaf(run, leaf)?;
         return Ok(made);
     }
-    let built = made_tuple(alloc, around, fields, seen, run.depth, out)?;
+    let built = made_tuple(around, fields, seen, run.depth, out)?;
     run.depth = after(built.1)?;
     let made = push_leaf(run, built.0)?;
     Ok(made)
@@ -244,7 +231,6 @@ fn tuple<'a>(
 
 // One more part.
 pub(crate) fn part<'a>(
-    alloc: Global,
     around: &Around<'_, 'a>,
     part: &'a HPart,
     run: Run<'a>,
@@ -259,24 +245,24 @@ pub(crate) fn part<'a>(
 {
     match part {
         HPart::Var(i) => {
-            let made = push_leaf(run, variable_leaf(alloc, around.names, *i))?;
+            let made = push_leaf(run, variable_leaf(around.alloc, around.names, *i))?;
             Ok(made)
         }
         HPart::Int(n) => {
-            let made = push_leaf(run, int_leaf(alloc, *n))?;
+            let made = push_leaf(run, int_leaf(around.alloc, *n))?;
             Ok(made)
         }
         HPart::Label(l) => {
-            let made = push_leaf(run, label(alloc, around.blocks, *l))?;
+            let made = push_leaf(run, label(around.alloc, around.blocks, *l))?;
             Ok(made)
         }
-        HPart::Tuple(n) => tuple(alloc, around, *n, run, tuples, out),
+        HPart::Tuple(n) => tuple(around, *n, run, tuples, out),
         HPart::Apply(ts) => {
-            let made = apply(alloc, around, ts, run)?;
+            let made = apply(around, ts, run)?;
             Ok(made)
         }
         HPart::Pack { hidden, shape } => {
-            let made = pack(alloc, around.names, hidden, shape, run)?;
+            let made = pack(around.alloc, around.names, hidden, shape, run)?;
             Ok(made)
         }
     }

@@ -26,7 +26,6 @@ fn none_read<'a>(alloc: Global, depth: u64) -> Run<'a>
 
 // The values of a node, where there are so many variables before; what makes their tuples is written before.
 pub(crate) fn read<'a>(
-    alloc: Global,
     around: &Around<'_, 'a>,
     parts: &'a [HPart],
     depth: u64,
@@ -38,9 +37,9 @@ pub(crate) fn read<'a>(
         (reads [] parts.now) out.old.items tuples.old.items r.values.items r.types.items r.depth out.new.items
         tuples.new.items) }
 {
-    let mut run = none_read(alloc, depth);
+    let mut run = none_read(around.alloc, depth);
     for one in parts {
-        run = part(alloc, around, one, run, tuples, out)?;
+        run = part(around, one, run, tuples, out)?;
     }
     Ok(run)
 }

@@ -1,9 +1,10 @@
 // What allocation keeps while it walks over a term.
 ghost use Rattle.std.specs.Prelude.{◌≡◌, length};
 
-use a_terms::{AType, AValue};
+use a_terms::{ANode, AType, AValue};
 use c_terms::CType;
 use h_terms::HBlock;
+use std::alloc::Global;
 
 /// The type of a name: one that was made, or as allocation leaves a type that stands in the hoisted program.
 #[derive(Drop)]
@@ -39,11 +40,14 @@ pub struct Place {
     pub binders: u64,
 }
 
-/// How far the walk over a term has come: the names so far, and the places that are still to come, the next one last.
+/// How far the walk over a term has come: the names so far, the places that are still to come, the next one last, and
+/// the nodes that are made.
 #[derive(Drop)]
 pub struct Progress<'a> {
+    pub alloc: Global,
     pub names: Vec<Name<'a>>,
     pub places: Vec<Place>,
+    pub nodes: Vec<ANode>,
 }
 
 /// The type of a value: its own, or that of a name, 0 the innermost, or as allocation leaves a type of the hoisted
@@ -92,6 +96,7 @@ pub struct Run<'a> {
 /// names there are.
 #[derive(Clone, Copy, Drop)]
 pub struct Around<'b, 'a> {
+    pub alloc: Global,
     pub blocks: &'a [HBlock],
     pub names: &'b [Name<'a>],
     pub binders: u64,

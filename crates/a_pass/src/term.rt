@@ -16,39 +16,46 @@ use h_terms::{HBlock, HNode};
 use idx_core::OutOfMemory;
 use std::alloc::Global;
 
+// A term whose names so far are these, each of them one variable.
 fn walk<'a>(
     alloc: Global,
     blocks: &'a [HBlock],
     nodes: &'a [HNode],
     names: Vec<Name<'a>>,
-    depth: u64,
     tuples: &mut Vec<AData>,
 ) -> Result<Vec<ANode>, OutOfMemory>
     requires one { HRow nodes.now 1 }
     requires bound { Under 0 names.items }
     ensures tree { IfOk result (λ r. a_tree r.items ≡ alloc_t (h_blocks blocks.now) (scope 0 names.entry.items)
-        (knowns names.entry.items) (length tuples.old.items) depth (h_tree nodes.now)) }
+        (knowns names.entry.items) (length tuples.old.items) (length names.entry.items) (h_tree nodes.now)) }
     ensures keeps { OnOk result (a_data tuples.new.items ≡ a_data tuples.old.items ++
         data_t (h_blocks blocks.now) (scope 0 names.entry.items)
-        (knowns names.entry.items) (length tuples.old.items) depth (h_tree nodes.now)) }
+        (knowns names.entry.items) (length tuples.old.items) (length names.entry.items) (h_tree nodes.now)) }
     ensures one { IfOk result (λ r. ARow r.items 1) }
 {
-    let mut out = Vec::new(alloc);
+    let count = names.len();
+    let out = Vec::new(alloc);
     let mut places = Vec::new(alloc);
     places.push(Place {
-        depth,
-        names: names.len(),
+        depth: count as u64,
+        names: count,
         binders: 0,
     })?;
-    let mut progress = Progress { names, places };
+    let mut progress = Progress {
+        alloc,
+        names,
+        places,
+        nodes: out,
+    };
     for node in nodes {
         let Some(place) = progress.places.pop() else {
             unreachable!()
         };
         progress.names.truncate(place.names);
-        step(alloc, blocks, node, place, &mut progress, tuples, &mut out)?;
+        step(blocks, node, place, &mut progress, tuples)?;
     }
-    Ok(out)
+    let Progress { nodes: made, .. } = progress;
+    Ok(made)
 }
 
 // The names of the arguments, which have the first knowns.
@@ -88,8 +95,7 @@ pub(crate) fn body<'a>(
     ensures one { IfOk result (λ r. ARow r.items 1) }
 {
     let names = arguments(alloc, args)?;
-    let depth = names.len() as u64;
-    let out = walk(alloc, blocks, nodes, names, depth, tuples)?;
+    let out = walk(alloc, blocks, nodes, names, tuples)?;
     Ok(out)
 }
 
@@ -106,6 +112,6 @@ pub(crate) fn main_term(
         data_t (h_blocks blocks.now) [] [] (length tuples.old.items) 0 (h_tree nodes.now)) }
     ensures one { IfOk result (λ r. ARow r.items 1) }
 {
-    let out = walk(alloc, blocks, nodes, Vec::new(alloc), 0, tuples)?;
+    let out = walk(alloc, blocks, nodes, Vec::new(alloc), tuples)?;
     Ok(out)
 }

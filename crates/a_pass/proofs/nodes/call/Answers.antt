@@ -6,7 +6,6 @@ use Rattle.a_pass.proofs.nodes.call.Goals as goal
 
 pub returns : goal.returns
 returns c =
-    call_stepped c.args.progress.now.names.items _ c.args.place c.args.progress.now.places.items _ c.args.out.now.items
-    _ c.args.run.values.items c.in_ok-values.values.items c.args.run.types.items c.args.run.depth c.requires.names
+    call_stepped c.args.progress.now _ c.args.place c.args.run c.in_ok-values.values.items c.requires.names
     c.requires.bound c.in_ok-values.ensures c.args.types.now c.in_ok-types.types refl refl
     (c.in_ok-types.ensures ∙ ap (λ xs. atypes (ctys xs)) c.deref.ensures.value) c.in_ok-end.ensures

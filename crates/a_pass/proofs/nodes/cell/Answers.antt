@@ -8,9 +8,8 @@ use Rattle.a_pass.proofs.nodes.cell.Goals as goal
 
 pub returns : goal.returns
 returns c =
-    cell_stepped c.args.progress.now.names.items _ c.args.place c.args.progress.now.places.items _
-    c.args.out.now.items _ c.args.run.values.items c.in_ok-values.values.items c.args.run.types.items
-    c.args.run.depth c.requires.names c.requires.bound _ c.in_ok-newest.newest (atree c.in_ok-ty.ty) _
+    cell_stepped c.args.progress.now _ c.args.place c.args.run c.in_ok-values.values.items c.requires.names
+    c.requires.bound _ c.in_ok-newest.newest (atree c.in_ok-ty.ty) _
     c.only_value.result c.in_ok-newest.ensures
     (λ t h. c.in_ok-ty.ensures ∙ ap (λ (xs : List Name). type_of (scope c.args.place.binders xs) c.only.result.ty)
     c.deref.ensures.value ∙ c.only.ensures.ty _ t h)

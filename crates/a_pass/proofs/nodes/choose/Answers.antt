@@ -6,8 +6,7 @@ use Rattle.a_pass.proofs.nodes.choose.Goals as goal
 pub returns : goal.returns
 returns c =
     let p : Place = record { depth = c.args.run.depth; names = c.args.place.names; binders = c.args.place.binders } in
-    branch_stepped c.args.progress.now.names.items _ c.args.place c.args.progress.now.places.items _
-    c.args.out.now.items _ c.args.run.values.items c.in_ok-values.values.items c.args.run.types.items
-    c.args.run.depth c.requires.names c.requires.bound c.in_ok-values.ensures p refl
+    branch_stepped c.args.progress.now _ c.args.place c.args.run c.in_ok-values.values.items c.requires.names
+    c.requires.bound c.in_ok-values.ensures p refl
     (c.in_ok-push-2.ensures.items ∙ ap (λ (ps : List Place). ps ++ p ∷ []) c.in_ok-push.ensures.items) refl refl refl
     c.in_ok-end.ensures

@@ -3,6 +3,5 @@ use Rattle.a_pass.proofs.Stepping.{halt_stepped}
 use Rattle.a_pass.proofs.nodes.halt.Goals as goal
 
 pub returns : goal.returns
-returns c = halt_stepped c.args.progress.now.names.items _ c.args.place c.args.progress.now.places.items _
-    c.args.out.now.items _ c.args.run.values.items c.in_ok-values.values.items c.args.run.types.items c.args.run.depth
-    c.requires.names c.requires.bound c.in_ok-values.ensures refl refl c.in_ok-end.ensures
+returns c = halt_stepped c.args.progress.now _ c.args.place c.args.run c.in_ok-values.values.items c.requires.names
+    c.requires.bound c.in_ok-values.ensures refl refl c.in_ok-end.ensures

@@ -9,9 +9,8 @@ declare-requires c = c.in_ok-ty.ensures.1
 
 pub returns : goal.returns
 returns c =
-    name_stepped c.args.progress.now.names.items _ c.args.place c.args.progress.now.places.items _
-    c.args.out.now.items _ c.args.run.values.items c.in_ok-values.values.items c.args.run.types.items
-    c.args.run.depth c.requires.names c.requires.bound c.in_ok-values.ensures _ _ c.in_ok-declare.ensures
+    name_stepped c.args.progress.now _ c.args.place c.args.run c.in_ok-values.values.items c.requires.names
+    c.requires.bound c.in_ok-values.ensures _ _ c.in_ok-declare.ensures
     (λ t h. c.in_ok-ty.ensures.0 ∙ ap (λ (xs : List Name). type_of (scope c.args.place.binders xs)
     c.only-kind.result.ty) c.deref.ensures.value ∙ c.only-kind.ensures.ty _ t h)
     (λ o h. c.in_ok-constant.ensures ∙ ap (λ (xs : List Name). constant_of (knowns xs) c.only-kind.result.constant)

@@ -10,9 +10,8 @@ use Rattle.a_pass.proofs.nodes.set.Goals as goal
 
 pub returns : goal.returns
 returns c =
-    set_stepped c.args.progress.now.names.items _ c.args.place c.args.progress.now.places.items _
-    c.args.out.now.items _ c.args.run.values.items c.new-empty.result.items c.args.run.types.items
-    c.args.run.depth c.requires.names c.requires.bound _ c.in_ok-next.next c.new-room.result _
+    set_stepped c.args.progress.now _ c.args.place c.args.run c.new-empty.result.items c.requires.names
+    c.requires.bound _ c.in_ok-next.next c.new-room.result _
     c.in_ok-next.ensures.next
     (ap atrees c.new-room.ensures.items) (shown_now c.args.place.binders _ ∙ c.in_ok-none.ensures ∙
     ap (λ (xs : List AType). a.ATuple (aset (atrees xs))) (c.deref.ensures.value ∙ c.new-room.ensures.items))

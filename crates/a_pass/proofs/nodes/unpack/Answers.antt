@@ -10,9 +10,8 @@ declare-requires c = c.in_ok-ty.ensures.1
 
 pub returns : goal.returns
 returns c =
-    unpack_stepped c.args.progress.now.names.items _ c.args.place c.args.progress.now.places.items _
-    c.args.out.now.items _ c.args.run.values.items c.in_ok-values.values.items c.args.run.types.items
-    c.args.run.depth c.requires.names c.requires.bound c.in_ok-values.ensures _ c.in_ok-inner.inner
+    unpack_stepped c.args.progress.now _ c.args.place c.args.run c.in_ok-values.values.items c.requires.names
+    c.requires.bound c.in_ok-values.ensures _ c.in_ok-inner.inner
     c.in_ok-inner.ensures c.in_ok-declare.ensures
     (λ t h. c.in_ok-ty.ensures.0 ∙ ap (λ (xs : List Name). body_of (Some (type_of (scope c.args.place.binders xs)
     c.only.result.ty))) c.deref.ensures.value ∙ ap (λ x. body_of (Some x)) (c.only.ensures.ty _ t h))

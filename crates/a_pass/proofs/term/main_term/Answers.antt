@@ -13,9 +13,9 @@ pub returns-clause-tree : goal.returns-clause-tree
 returns-clause-tree c =
     c.in_ok-out.ensures.tree
     ∙ ap (λ (ns : List Name). alloc_t (h_blocks c.args.blocks.now) (scope 0 ns) (knowns ns)
-    (length c.args.tuples.now.items) 0 (h_tree c.args.nodes.now)) c.new.ensures.items
+    (length c.args.tuples.now.items) (length ns) (h_tree c.args.nodes.now)) c.new.ensures.items
 
 pub returns-clause-keeps : goal.returns-clause-keeps
 returns-clause-keeps c = c.in_ok-out.ensures.keeps
     ∙ ap (λ (ns : List Name). a_data c.args.tuples.now.items ++ data_t (h_blocks c.args.blocks.now) (scope 0 ns)
-    (knowns ns) (length c.args.tuples.now.items) 0 (h_tree c.args.nodes.now)) c.new.ensures.items
+    (knowns ns) (length c.args.tuples.now.items) (length ns) (h_tree c.args.nodes.now)) c.new.ensures.items

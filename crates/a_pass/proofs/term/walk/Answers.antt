@@ -7,11 +7,12 @@ use Rattle.a_pass.proofs.term.walk.Goals as goal
 
 pub loop-node-init : goal.loop-node-init
 loop-node-init c =
-    let p : Place = record { depth = c.args.depth; names = c.len.result; binders = 0 } in
+    let long : c.len-count.result ≡ length c.args.names.items = search rules in
+    let p : Place = record { depth = c.len-count.result; names = c.len-count.result; binders = 0 } in
     walk_begins _ c.args.nodes.now c.args.names.items p c.push.new.self.items c.new-out.result.items
-    c.args.tuples.now.items c.args.depth c.requires.one c.requires.bound c.new-out.ensures.items
+    c.args.tuples.now.items c.requires.one c.requires.bound c.new-out.ensures.items
     (c.in_ok-push.ensures.items ∙ ap (λ (xs : List Place). xs ++ p ∷ []) c.new-places.ensures.items)
-    (search rules) refl refl
+    long refl long
 
 pub step-requires : goal.step-requires
 step-requires c =
@@ -30,8 +31,8 @@ pub loop-node-preserved : goal.loop-node-preserved
 loop-node-preserved c =
     let is =
     next_node c.args.nodes.now c.loop-node.node-index c.node-item.result c.loop-node-test.true c.node-item.is in
-    walk_goes _ _ _ _ _ _ _ _ _ _ _ _ _ is c.in-Some.ensures.items c.truncate.ensures.items c.loop-node.invariant _ _ _
-    _ c.in_ok-step.ensures
+    walk_goes _ _ _ _ _ _ _ _ _ _ _ _ _ is c.in-Some.ensures.items c.truncate.ensures.items c.loop-node.invariant _ _
+    c.in_ok-step.ensures
 
 pub unreachable-requires : goal.unreachable-requires
 unreachable-requires c =

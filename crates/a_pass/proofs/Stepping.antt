@@ -410,7 +410,8 @@ module _ (old new : Progress) (place : Place) (run : Run) (vs : List AValue)
       Steps place H.Set run old new
   set_stepped mid2 k room ty k_is room_is ty_is init vals dec ks [] begin kept tuples made two = absurd two
   set_stepped mid2 k room ty k_is room_is ty_is init vals dec ks (v ∷ []) begin kept tuples made two = absurd two
-  set_stepped mid2 k room ty k_is room_is ty_is init vals dec ks (v ∷ w ∷ x ∷ us) begin kept tuples made two = absurd two
+  set_stepped mid2 k room ty k_is room_is ty_is init vals dec ks (v ∷ w ∷ x ∷ us) begin kept tuples made two =
+      absurd two
   set_stepped mid2 k room ty k_is room_is ty_is init vals dec ks (v ∷ w ∷ []) begin kept tuples made two =
       let d1 = v_next ls place.depth v in
       let d2 = v_next ls d1 w in

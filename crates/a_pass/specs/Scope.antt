@@ -61,8 +61,8 @@ abbrev pub typed : ℕ → Name → a.ATy
 typed b n = ashift (b - n.under) 0 (kept n.ty)
 
 -- a type that was noted is this one, under b type names
-abbrev pub Stands : ℕ → a.ATy → Noted → Type 0
-Stands b t n = (ashift (b - n.under) 0 (kept n.ty) ≡ t) × (n.under ≤ b)
+abbrev pub NotesType : ℕ → a.ATy → Noted → Type 0
+NotesType b t n = (ashift (b - n.under) 0 (kept n.ty) ≡ t) × (n.under ≤ b)
 
 -- the types of the names, innermost first
 abbrev pub scope : ℕ → List Name → List a.ATy

@@ -7,7 +7,7 @@ ghost use Rattle.a_terms.specs.Tree.{ashift, ATuple, MoreAFields, NoAFields};
 ghost use Rattle.a_terms.specs.Read.{atree};
 ghost use Rattle.a_terms.specs.Typing.{or_int, field_of as the_field_of, body_of as the_body_of};
 ghost use Rattle.a_laws.specs.Allocate.{atype};
-ghost use Rattle.a_pass.specs.Scope.{kept, scope, typed, type_of, Stands, Under};
+ghost use Rattle.a_pass.specs.Scope.{kept, scope, typed, type_of, NotesType, Under};
 
 use crate::scope::{name_at, own};
 use crate::state::{Kept, Name, Noted, TypeOf};
@@ -21,7 +21,7 @@ use std::alloc::Global;
 
 // A type that was made, where there are so many type names.
 pub(crate) fn made_now<'a>(ty: AType, under: u64) -> Noted<'a>
-    ensures { Stands under (atree ty) result }
+    ensures { NotesType under (atree ty) result }
 {
     let ty = Kept::Made(ty);
     Noted { ty, under }
@@ -30,7 +30,7 @@ pub(crate) fn made_now<'a>(ty: AType, under: u64) -> Noted<'a>
 // The type of a name that is named once more.
 fn same_name<'a>(alloc: Global, name: &Name<'a>, binders: u64) -> Result<Noted<'a>, OutOfMemory>
     requires { name.now.under ≤ binders }
-    ensures { IfOk result (Stands binders (typed binders name.now)) }
+    ensures { IfOk result (NotesType binders (typed binders name.now)) }
 {
     match &name.ty {
         Kept::Lent(t) => Ok(Noted {
@@ -53,7 +53,7 @@ fn name_noted<'a>(
     i: u64,
 ) -> Result<Noted<'a>, OutOfMemory>
     requires { Under binders names.now }
-    ensures { IfOk result (Stands binders (or_int (slice_get (scope binders names.now) i))) }
+    ensures { IfOk result (NotesType binders (or_int (slice_get (scope binders names.now) i))) }
 {
     match name_at(names, i) {
         Some(name) => {
@@ -70,7 +70,7 @@ fn made_value<'a>(
     binders: u64,
     ty: &TypeOf,
 ) -> Result<Noted<'a>, OutOfMemory>
-    ensures { IfOk result (Stands binders (type_of (scope binders names.now) ty.now)) }
+    ensures { IfOk result (NotesType binders (type_of (scope binders names.now) ty.now)) }
 {
     let made = own(alloc, names, binders, ty)?;
     Ok(made_now(made, binders))
@@ -84,7 +84,7 @@ pub(crate) fn value_noted<'a>(
     ty: &TypeOf<'a>,
 ) -> Result<Noted<'a>, OutOfMemory>
     requires { Under binders names.now }
-    ensures { IfOk result (Stands binders (type_of (scope binders names.now) ty.now)) }
+    ensures { IfOk result (NotesType binders (type_of (scope binders names.now) ty.now)) }
 {
     match ty {
         TypeOf::Name(i) => {
@@ -147,7 +147,7 @@ fn field_of_name<'a>(
     i: u64,
 ) -> Result<Noted<'a>, OutOfMemory>
     requires { name.now.under ≤ binders }
-    ensures { IfOk result (Stands binders (the_field_of i (Some (typed binders name.now)))) }
+    ensures { IfOk result (NotesType binders (the_field_of i (Some (typed binders name.now)))) }
 {
     match &name.ty {
         Kept::Lent(t) => Ok(Noted {
@@ -171,7 +171,7 @@ fn name_field<'a>(
     i: u64,
 ) -> Result<Noted<'a>, OutOfMemory>
     requires { Under binders names.now }
-    ensures { IfOk result (Stands binders (the_field_of i (Some (or_int (slice_get (scope binders names.now) n))))) }
+    ensures { IfOk result (NotesType binders (the_field_of i (Some (or_int (slice_get (scope binders names.now) n))))) }
 {
     match name_at(names, n) {
         Some(name) => {
@@ -189,7 +189,7 @@ fn field_of_other<'a>(
     ty: &TypeOf,
     i: u64,
 ) -> Result<Noted<'a>, OutOfMemory>
-    ensures { IfOk result (Stands binders (the_field_of i (Some (type_of (scope binders names.now) ty.now)))) }
+    ensures { IfOk result (NotesType binders (the_field_of i (Some (type_of (scope binders names.now) ty.now)))) }
 {
     let whole = own(alloc, names, binders, ty)?;
     let made = field_of(alloc, &whole, i, 0)?;
@@ -205,7 +205,7 @@ pub(crate) fn field_noted<'a>(
     i: u64,
 ) -> Result<Noted<'a>, OutOfMemory>
     requires { Under binders names.now }
-    ensures { IfOk result (Stands binders (the_field_of i (Some (type_of (scope binders names.now) ty.now)))) }
+    ensures { IfOk result (NotesType binders (the_field_of i (Some (type_of (scope binders names.now) ty.now)))) }
 {
     match ty {
         TypeOf::Name(n) => {
@@ -253,7 +253,7 @@ fn lent_or_made<'a>(
     by: u64,
     after: u64,
 ) -> Result<Noted<'a>, OutOfMemory>
-    ensures { IfOk result (Stands after (ashift by 1 (the_body_of (Some (atype (ctree t.now)))))) }
+    ensures { IfOk result (NotesType after (ashift by 1 (the_body_of (Some (atype (ctree t.now)))))) }
 {
     if by == 0 {
         return Ok(Noted {
@@ -272,7 +272,7 @@ fn body_of_name<'a>(
     binders: u64,
     after: u64,
 ) -> Result<Noted<'a>, OutOfMemory>
-    ensures { IfOk result (Stands after (the_body_of (Some (typed binders name.now)))) }
+    ensures { IfOk result (NotesType after (the_body_of (Some (typed binders name.now)))) }
 {
     let by = binders.saturating_sub(name.under);
     match &name.ty {
@@ -295,7 +295,7 @@ fn name_body<'a>(
     n: u64,
     after: u64,
 ) -> Result<Noted<'a>, OutOfMemory>
-    ensures { IfOk result (Stands after (the_body_of (Some (or_int (slice_get (scope binders names.now) n))))) }
+    ensures { IfOk result (NotesType after (the_body_of (Some (or_int (slice_get (scope binders names.now) n))))) }
 {
     match name_at(names, n) {
         Some(name) => {
@@ -313,7 +313,7 @@ fn body_of_other<'a>(
     ty: &TypeOf,
     after: u64,
 ) -> Result<Noted<'a>, OutOfMemory>
-    ensures { IfOk result (Stands after (the_body_of (Some (type_of (scope binders names.now) ty.now)))) }
+    ensures { IfOk result (NotesType after (the_body_of (Some (type_of (scope binders names.now) ty.now)))) }
 {
     let whole = own(alloc, names, binders, ty)?;
     let made = body_of(alloc, &whole, 0)?;
@@ -328,7 +328,7 @@ pub(crate) fn body_noted<'a>(
     ty: &TypeOf,
     after: u64,
 ) -> Result<Noted<'a>, OutOfMemory>
-    ensures { IfOk result (Stands after (the_body_of (Some (type_of (scope binders names.now) ty.now)))) }
+    ensures { IfOk result (NotesType after (the_body_of (Some (type_of (scope binders names.now) ty.now)))) }
 {
     match ty {
         TypeOf::Name(n) => {

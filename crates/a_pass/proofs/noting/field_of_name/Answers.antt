@@ -4,7 +4,7 @@ use Rattle.a_terms.specs.TypeLaws.{field_shift}
 use Rattle.a_terms.specs.Typing.{field_of}
 use Rattle.a_terms.specs.Read.{atree}
 use Rattle.a_pass.specs.declared.state.Kept.{Kept}
-use Rattle.a_pass.specs.Scope.{kept, Stands}
+use Rattle.a_pass.specs.Scope.{kept, NotesType}
 use Rattle.a_pass.proofs.noting.field_of_name.Goals as goal
 
 pub returns-in-Lent : goal.returns-in-Lent
@@ -18,7 +18,7 @@ returns-in-Lent c =
 pub returns-in_ok-made-in-Made : goal.returns-in_ok-made-in-Made
 returns-in_ok-made-in-Made c =
     let by = c.args.binders - c.args.name.now.under in
-    subst (λ t. Stands c.args.binders t c.made_now.result)
+    subst (λ t. NotesType c.args.binders t c.made_now.result)
     (c.in_ok-made-in-Made.ensures
     ∙ ap (λ k. ashift k 0 (field_of c.args.i (Some (atree c.in-Made.t)))) c.saturating_sub-by.ensures
     ∙ ap (λ (k : Kept). ashift by 0 (field_of c.args.i (Some (kept k)))) (sym c.in-Made.is)

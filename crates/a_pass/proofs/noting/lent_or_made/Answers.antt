@@ -5,7 +5,7 @@ use Rattle.a_terms.specs.Tree.{ashift}
 use Rattle.c_terms.specs.Read.{ctree}
 use Rattle.a_terms.specs.Typing.{body_of}
 use Rattle.a_laws.specs.Allocate.{atype}
-use Rattle.a_pass.specs.Scope.{Stands}
+use Rattle.a_pass.specs.Scope.{NotesType}
 use Rattle.a_pass.proofs.Terms.{shown_now}
 use Rattle.a_pass.proofs.noting.lent_or_made.Goals as goal
 
@@ -19,4 +19,4 @@ returns-then-by-eq0 c =
     )
 
 pub returns : goal.returns
-returns c = subst (λ t. Stands c.args.after t c.made_now.result) c.in_ok-made.ensures c.made_now.ensures
+returns c = subst (λ t. NotesType c.args.after t c.made_now.result) c.in_ok-made.ensures c.made_now.ensures

@@ -6,6 +6,8 @@ use Rattle.a_terms.specs.Typing.{type_of, applied, or_int, field_of, body_of, fi
 use Rattle.a_terms.specs.Read.{atree, atrees}
 use Rattle.a_terms.specs.declared.nodes.AWrap.{AWrap}
 use Rattle.a_terms.specs.declared.nodes.AWrap.TheVariants.{Apply, Pack}
+use Rattle.a_terms.specs.Program.{program_in}
+use Rattle.a_scope.specs.declared.scope.Around.{Around}
 use Rattle.a_scope.specs.declared.scope.Entry.{Entry}
 use Rattle.a_scope.specs.declared.noted.Noted.{Noted}
 use Rattle.a_scope.specs.declared.noted.Noted.TheVariants as N
@@ -39,6 +41,10 @@ scope k (e ∷ es) = scope k es ++ shown k e ∷ []
 abbrev pub homes : List Entry → List ℕ
 homes [] = []
 homes (e ∷ es) = homes es ++ e.register ∷ []
+
+-- the type of a value with this around it
+abbrev pub type_here : Around → a.AVal → Option a.ATy
+type_here x v = type_of (program_in x.program.now) (scope x.names x.vars.now) v
 
 -- each type was noted where no more than k names were in scope
 abbrev pub Under : ℕ → List Entry → Type 0

@@ -5,12 +5,12 @@ ghost use Rattle.a_terms.specs.Typing.{type_of, or_int, filled_of as the_filled_
 ghost use Rattle.a_terms.specs.NodeTrees.{a_value, a_values, is_decl, a_decl};
 ghost use Rattle.a_terms.specs.Arity.{AArity};
 ghost use Rattle.a_terms.specs.Program.{program_in};
-ghost use Rattle.a_scope.specs.Scope.{scope, Under, Stands, MayStand, decl_ty};
+ghost use Rattle.a_scope.specs.Scope.{scope, Under, Stands, MayStand, decl_ty, type_here};
 ghost use Rattle.a_scope.specs.declared.scope.Entry.{Entry as TheEntry};
 
 use crate::field::{body_entry, field_entry};
 use crate::noted::Noted;
-use crate::scope::{Entry, noted_as, noted_lent, noted_now, placed, sharing};
+use crate::scope::{Around, Entry, noted_as, noted_lent, noted_now, placed, sharing};
 use crate::sharing::{entry_of, filled_then};
 use crate::value::{first, packed, type_of_value};
 use a_terms::parts::{filled_of, known};
@@ -19,64 +19,42 @@ use idx_core::{OutOfMemory, sum};
 use std::alloc::Global;
 
 // A variable for a value that is none: the shape of a package is lent.
-fn other_entry<'a>(
-    alloc: Global,
-    program: &AProgram,
-    vars: &[Entry],
-    names: u64,
-    v: &'a AValue,
-) -> Result<Entry<'a>, OutOfMemory>
-    ensures { IfOk result (Stands names
-        (or_int (type_of (program_in program.now) (scope names vars.now) (a_value v.now)))) }
+fn other_entry<'a>(around: &Around, v: &'a AValue) -> Result<Entry<'a>, OutOfMemory>
+    ensures { IfOk result (Stands around.now.names (or_int (type_here around.now (a_value v.now)))) }
 {
     match packed(v) {
-        Some(shape) => Ok(noted_lent(shape, names)),
+        Some(shape) => Ok(noted_lent(shape, around.names)),
         None => {
-            let ty = type_of_value(alloc, program, vars, names, v)?;
-            let made = noted_now(alloc, known(ty), names)?;
+            let ty = type_of_value(around.alloc, around.program, around.vars, around.names, v)?;
+            let made = noted_now(around.alloc, known(ty), around.names)?;
             Ok(made)
         }
     }
 }
 
 // A variable for a value.
-fn value_entry<'a>(
-    alloc: Global,
-    program: &AProgram,
-    vars: &[Entry<'a>],
-    names: u64,
-    v: &'a AValue,
-) -> Result<Entry<'a>, OutOfMemory>
-    requires { Under names vars.now }
-    ensures { IfOk result (Stands names
-        (or_int (type_of (program_in program.now) (scope names vars.now) (a_value v.now)))) }
+fn value_entry<'a>(around: &Around<'_, 'a>, v: &'a AValue) -> Result<Entry<'a>, OutOfMemory>
+    requires { Under around.now.names around.now.vars.now }
+    ensures { IfOk result (Stands around.now.names (or_int (type_here around.now (a_value v.now)))) }
 {
-    match entry_of(vars, v) {
+    match entry_of(around.vars, v) {
         Some(entry) => {
             let made = sharing(entry, entry.filled)?;
             Ok(made)
         }
         None => {
-            let made = other_entry(alloc, program, vars, names, v)?;
+            let made = other_entry(around, v)?;
             Ok(made)
         }
     }
 }
 
 // A variable for a tuple whose field i is initialised. Its type is made.
-fn filled_made<'a>(
-    alloc: Global,
-    program: &AProgram,
-    vars: &[Entry],
-    names: u64,
-    v: &AValue,
-    i: u64,
-) -> Result<Entry<'a>, OutOfMemory>
-    ensures { IfOk result (Stands names
-        (the_filled_of i (type_of (program_in program.now) (scope names vars.now) (a_value v.now)))) }
+fn filled_made<'a>(around: &Around, v: &AValue, i: u64) -> Result<Entry<'a>, OutOfMemory>
+    ensures { IfOk result (Stands around.now.names (the_filled_of i (type_here around.now (a_value v.now)))) }
 {
-    let ty = type_of_value(alloc, program, vars, names, v)?;
-    let made = noted_now(alloc, filled_of(ty, i), names)?;
+    let ty = type_of_value(around.alloc, around.program, around.vars, around.names, v)?;
+    let made = noted_now(around.alloc, filled_of(ty, i), around.names)?;
     Ok(made)
 }
 
@@ -106,22 +84,14 @@ fn shared_filled<'a>(
 }
 
 // A variable for a tuple whose field i is initialised, which shares the type of the tuple where that is a variable.
-fn filled_entry<'a>(
-    alloc: Global,
-    program: &AProgram,
-    vars: &[Entry<'a>],
-    names: u64,
-    v: &AValue,
-    i: u64,
-) -> Result<Entry<'a>, OutOfMemory>
-    requires { Under names vars.now }
-    ensures { IfOk result (Stands names
-        (the_filled_of i (type_of (program_in program.now) (scope names vars.now) (a_value v.now)))) }
+fn filled_entry<'a>(around: &Around<'_, 'a>, v: &AValue, i: u64) -> Result<Entry<'a>, OutOfMemory>
+    requires { Under around.now.names around.now.vars.now }
+    ensures { IfOk result (Stands around.now.names (the_filled_of i (type_here around.now (a_value v.now)))) }
 {
-    match shared_filled(vars, names, v, i)? {
+    match shared_filled(around.vars, around.names, v, i)? {
         Some(entry) => Ok(entry),
         None => {
-            let made = filled_made(alloc, program, vars, names, v, i)?;
+            let made = filled_made(around, v, i)?;
             Ok(made)
         }
     }
@@ -142,36 +112,34 @@ fn names_after(form: &AForm, values: &[AValue], names: u64) -> Result<u64, OutOf
 
 // The variable that is declared.
 fn declared_entry<'a>(
-    alloc: Global,
-    program: &AProgram,
-    vars: &[Entry<'a>],
-    names: u64,
+    around: &Around<'_, 'a>,
     form: &'a AForm,
     values: &'a [AValue],
 ) -> Result<Entry<'a>, OutOfMemory>
     requires form { is_decl form.now ≡ true }
     requires arity { AArity form.now (a_values values.now) }
-    requires under { Under names vars.now }
-    ensures { IfOk result (Stands (more_vars (a_decl form.now (a_values values.now)) names)
-        (decl_ty (program_in program.now) (scope names vars.now) (a_decl form.now (a_values values.now)))) }
+    requires under { Under around.now.names around.now.vars.now }
+    ensures { IfOk result (Stands (more_vars (a_decl form.now (a_values values.now)) around.now.names)
+        (decl_ty (program_in around.now.program.now) (scope around.now.names around.now.vars.now)
+        (a_decl form.now (a_values values.now)))) }
 {
     match form {
         AForm::Value => {
-            let made = value_entry(alloc, program, vars, names, first(values))?;
+            let made = value_entry(around, first(values))?;
             Ok(made)
         }
         AForm::Proj(i) => {
-            let made = field_entry(alloc, program, vars, names, first(values), *i)?;
+            let made = field_entry(around, first(values), *i)?;
             Ok(made)
         }
-        AForm::Arith(_) => Ok(noted_as(Noted::Int, names)),
+        AForm::Arith(_) => Ok(noted_as(Noted::Int, around.names)),
         AForm::Unpack => {
-            let made = body_entry(alloc, program, vars, names, first(values))?;
+            let made = body_entry(around, first(values))?;
             Ok(made)
         }
-        AForm::Malloc(types) => Ok(noted_as(Noted::Room(types), names)),
+        AForm::Malloc(types) => Ok(noted_as(Noted::Room(types), around.names)),
         AForm::Init(i) => {
-            let made = filled_entry(alloc, program, vars, names, first(values), *i)?;
+            let made = filled_entry(around, first(values), *i)?;
             Ok(made)
         }
         _ => unreachable!(),
@@ -198,7 +166,13 @@ pub fn declare<'a>(
         × (e.register ≡ register) × (vars.new.items ≡ vars.old.items ++ e ∷ [])) }
 {
     let after = names_after(form, values, names)?;
-    let made = declared_entry(alloc, program, vars, names, form, values)?;
+    let around = Around {
+        alloc,
+        program,
+        vars: &*vars,
+        names,
+    };
+    let made = declared_entry(&around, form, values)?;
     let entry = placed(made, register);
     vars.push(entry)?;
     Ok(after)

@@ -2,14 +2,13 @@
 // another type only what is asked for is copied, so many projections of one tuple cost no more than their fields.
 ghost use Rattle.std.specs.Prelude.{◌≡◌, ◌≤◌, Some, suc, IfOk};
 ghost use Rattle.a_terms.specs.Tree.{ashift};
-ghost use Rattle.a_terms.specs.Typing.{type_of, field_of as the_field_of, body_of as the_body_of};
+ghost use Rattle.a_terms.specs.Typing.{field_of as the_field_of, body_of as the_body_of};
 ghost use Rattle.a_terms.specs.Read.{atree, maybe};
 ghost use Rattle.a_terms.specs.NodeTrees.{a_value};
-ghost use Rattle.a_terms.specs.Program.{program_in};
-ghost use Rattle.a_scope.specs.Scope.{scope, shown, Stands, Under};
+ghost use Rattle.a_scope.specs.Scope.{shown, Stands, Under, type_here};
 
 use crate::noted::{Noted, lent_body, lent_field, room_field};
-use crate::scope::{Entry, noted_as, noted_now};
+use crate::scope::{Around, Entry, noted_as, noted_now};
 use crate::sharing::entry_of;
 use crate::value::type_of_value;
 use a_terms::parts::{body_of, field_of};
@@ -74,43 +73,31 @@ fn field_of_known(alloc: Global, ty: Option<AType>, i: u64) -> Result<AType, Out
 }
 
 // A variable for field i of a value that is none.
-fn field_of_other<'a>(
-    alloc: Global,
-    program: &AProgram,
-    vars: &[Entry],
-    names: u64,
-    v: &AValue,
-    i: u64,
-) -> Result<Entry<'a>, OutOfMemory>
-    ensures { IfOk result (Stands names (the_field_of i
-        (type_of (program_in program.now) (scope names vars.now) (a_value v.now)))) }
+fn field_of_other<'a>(around: &Around, v: &AValue, i: u64) -> Result<Entry<'a>, OutOfMemory>
+    ensures { IfOk result (Stands around.now.names (the_field_of i (type_here around.now (a_value v.now)))) }
 {
-    let ty = type_of_value(alloc, program, vars, names, v)?;
-    let made = field_of_known(alloc, ty, i)?;
-    let noted = noted_now(alloc, made, names)?;
+    let ty = type_of_value(around.alloc, around.program, around.vars, around.names, v)?;
+    let made = field_of_known(around.alloc, ty, i)?;
+    let noted = noted_now(around.alloc, made, around.names)?;
     Ok(noted)
 }
 
-/// A variable for field i of a value, from 1 on. An error is want of memory.
-pub fn field_entry<'a>(
-    alloc: Global,
-    program: &AProgram,
-    vars: &[Entry<'a>],
-    names: u64,
+// A variable for field i of a value, from 1 on.
+pub(crate) fn field_entry<'a>(
+    around: &Around<'_, 'a>,
     v: &AValue,
     i: u64,
 ) -> Result<Entry<'a>, OutOfMemory>
-    requires { Under names vars.now }
-    ensures { IfOk result (Stands names (the_field_of i
-        (type_of (program_in program.now) (scope names vars.now) (a_value v.now)))) }
+    requires { Under around.now.names around.now.vars.now }
+    ensures { IfOk result (Stands around.now.names (the_field_of i (type_here around.now (a_value v.now)))) }
 {
-    match entry_of(vars, v) {
+    match entry_of(around.vars, v) {
         Some(entry) => {
-            let made = field_of_entry(alloc, entry, names, i)?;
+            let made = field_of_entry(around.alloc, entry, around.names, i)?;
             Ok(made)
         }
         None => {
-            let made = field_of_other(alloc, program, vars, names, v, i)?;
+            let made = field_of_other(around, v, i)?;
             Ok(made)
         }
     }
@@ -187,41 +174,26 @@ fn body_of_known(ty: Option<AType>) -> AType
 }
 
 // A variable for what a value that is none hides.
-fn body_of_other<'a>(
-    alloc: Global,
-    program: &AProgram,
-    vars: &[Entry],
-    names: u64,
-    v: &AValue,
-    after: u64,
-) -> Result<Entry<'a>, OutOfMemory>
-    ensures { IfOk result (Stands after (the_body_of
-        (type_of (program_in program.now) (scope names vars.now) (a_value v.now)))) }
+fn body_of_other<'a>(around: &Around, v: &AValue, after: u64) -> Result<Entry<'a>, OutOfMemory>
+    ensures { IfOk result (Stands after (the_body_of (type_here around.now (a_value v.now)))) }
 {
-    let ty = type_of_value(alloc, program, vars, names, v)?;
-    let made = noted_now(alloc, body_of_known(ty), after)?;
+    let ty = type_of_value(around.alloc, around.program, around.vars, around.names, v)?;
+    let made = noted_now(around.alloc, body_of_known(ty), after)?;
     Ok(made)
 }
 
-/// A variable for what a package hides, where one type name more is in scope. An error is want of memory.
-pub fn body_entry<'a>(
-    alloc: Global,
-    program: &AProgram,
-    vars: &[Entry<'a>],
-    names: u64,
-    v: &AValue,
-) -> Result<Entry<'a>, OutOfMemory>
-    ensures { IfOk result (Stands (suc names) (the_body_of
-        (type_of (program_in program.now) (scope names vars.now) (a_value v.now)))) }
+// A variable for what a package hides, where one type name more is in scope.
+pub(crate) fn body_entry<'a>(around: &Around<'_, 'a>, v: &AValue) -> Result<Entry<'a>, OutOfMemory>
+    ensures { IfOk result (Stands (suc around.now.names) (the_body_of (type_here around.now (a_value v.now)))) }
 {
-    let after = sum(names, 1)?;
-    match entry_of(vars, v) {
+    let after = sum(around.names, 1)?;
+    match entry_of(around.vars, v) {
         Some(entry) => {
-            let made = body_of_entry(alloc, entry, names, after)?;
+            let made = body_of_entry(around.alloc, entry, around.names, after)?;
             Ok(made)
         }
         None => {
-            let made = body_of_other(alloc, program, vars, names, v, after)?;
+            let made = body_of_other(around, v, after)?;
             Ok(made)
         }
     }

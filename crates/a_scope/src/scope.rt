@@ -4,8 +4,8 @@ ghost use Rattle.a_terms.specs.Read.{atree};
 ghost use Rattle.a_scope.specs.Scope.{shown, noted, noted_type, filled_to};
 
 use crate::noted::{Noted, again, shown_type};
-use a_terms::AType;
 use a_terms::parts::filled_of;
+use a_terms::{AProgram, AType};
 use idx_core::OutOfMemory;
 use std::alloc::Global;
 use std::rc::Rc;
@@ -19,6 +19,16 @@ pub struct Entry<'a> {
     pub filled: u64,
     pub names: u64,
     pub register: u64,
+}
+
+// What is around a value: the program that its labels and data name, the variables in scope, and how many type names
+// there are.
+#[derive(Clone, Copy, Drop)]
+pub(crate) struct Around<'b, 'a> {
+    pub(crate) alloc: Global,
+    pub(crate) program: &'b AProgram,
+    pub(crate) vars: &'b [Entry<'a>],
+    pub(crate) names: u64,
 }
 
 // A variable of this type, where `names` type names are in scope.

@@ -13,9 +13,9 @@ use Rattle.a_scope.proofs.declaring.declared_entry.Goals as goal
 pub returns-in_ok-made-in-Value : goal.returns-in_ok-made-in-Value
 returns-in_ok-made-in-Value c =
     let made = c.in_ok-made-in-Value in
-    let p = program_in c.args.program.now in
-    let k = c.args.names in
-    let g = scope k c.args.vars.now in
+    let p = program_in c.args.around.now.program.now in
+    let k = c.args.around.now.names in
+    let g = scope k c.args.around.now.vars.now in
     let vs = a_values c.args.values.now in
     subst (λ (f : AForm). Stands (more_vars (a_decl f vs) k) (decl_ty p g (a_decl f vs)) made.made)
     (sym c.in-Value.is) (subst (λ v. Stands k (or_int (type_of p g v)) made.made) c.first.ensures made.ensures)
@@ -23,9 +23,9 @@ returns-in_ok-made-in-Value c =
 pub returns-in_ok-made-in-Proj : goal.returns-in_ok-made-in-Proj
 returns-in_ok-made-in-Proj c =
     let made = c.in_ok-made-in-Proj in
-    let p = program_in c.args.program.now in
-    let k = c.args.names in
-    let g = scope k c.args.vars.now in
+    let p = program_in c.args.around.now.program.now in
+    let k = c.args.around.now.names in
+    let g = scope k c.args.around.now.vars.now in
     let vs = a_values c.args.values.now in
     subst (λ (f : AForm). Stands (more_vars (a_decl f vs) k) (decl_ty p g (a_decl f vs)) made.made)
     (sym c.in-Proj.is) (
@@ -35,9 +35,9 @@ returns-in_ok-made-in-Proj c =
 pub returns-in_ok-made-in-Unpack : goal.returns-in_ok-made-in-Unpack
 returns-in_ok-made-in-Unpack c =
     let made = c.in_ok-made-in-Unpack in
-    let p = program_in c.args.program.now in
-    let k = c.args.names in
-    let g = scope k c.args.vars.now in
+    let p = program_in c.args.around.now.program.now in
+    let k = c.args.around.now.names in
+    let g = scope k c.args.around.now.vars.now in
     let vs = a_values c.args.values.now in
     subst (λ (f : AForm). Stands (more_vars (a_decl f vs) k) (decl_ty p g (a_decl f vs)) made.made)
     (sym c.in-Unpack.is) (
@@ -47,9 +47,9 @@ returns-in_ok-made-in-Unpack c =
 pub returns-in-Malloc : goal.returns-in-Malloc
 returns-in-Malloc c =
     let e = c.noted_as-in-Malloc.result in
-    let p = program_in c.args.program.now in
-    let k = c.args.names in
-    let g = scope k c.args.vars.now in
+    let p = program_in c.args.around.now.program.now in
+    let k = c.args.around.now.names in
+    let g = scope k c.args.around.now.vars.now in
     let vs = a_values c.args.values.now in
     subst (λ (f : AForm). Stands (more_vars (a_decl f vs) k) (decl_ty p g (a_decl f vs)) e) (sym c.in-Malloc.is) (
     own_stands k e _ (c.noted_as-in-Malloc.ensures.ty
@@ -59,9 +59,9 @@ returns-in-Malloc c =
 pub returns-in_ok-made-in-Init : goal.returns-in_ok-made-in-Init
 returns-in_ok-made-in-Init c =
     let made = c.in_ok-made-in-Init in
-    let p = program_in c.args.program.now in
-    let k = c.args.names in
-    let g = scope k c.args.vars.now in
+    let p = program_in c.args.around.now.program.now in
+    let k = c.args.around.now.names in
+    let g = scope k c.args.around.now.vars.now in
     let vs = a_values c.args.values.now in
     subst (λ (f : AForm). Stands (more_vars (a_decl f vs) k) (decl_ty p g (a_decl f vs)) made.made)
     (sym c.in-Init.is) (

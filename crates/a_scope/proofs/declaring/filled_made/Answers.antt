@@ -5,5 +5,5 @@ use Rattle.a_scope.proofs.declaring.filled_made.Goals as goal
 
 pub returns : goal.returns
 returns c =
-    own_stands c.args.names c.in_ok-made.made _ (c.in_ok-made.ensures.ty ∙ c.filled_of.ensures
+    own_stands c.args.around.now.names c.in_ok-made.made _ (c.in_ok-made.ensures.ty ∙ c.filled_of.ensures
     ∙ ap (filled_of c.args.i) c.in_ok-ty.ensures) c.in_ok-made.ensures.names

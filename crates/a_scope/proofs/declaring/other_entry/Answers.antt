@@ -7,12 +7,13 @@ use Rattle.a_scope.proofs.declaring.other_entry.Goals as goal
 
 pub returns-in-Some : goal.returns-in-Some
 returns-in-Some c =
-    own_stands c.args.names c.noted_lent.result _ (c.noted_lent.ensures.ty
-    ∙ ap or_int (c.in-Some.ensures (program_in c.args.program.now) (scope c.args.names c.args.vars.now)))
+    let at = c.args.around.now in
+    own_stands at.names c.noted_lent.result _ (c.noted_lent.ensures.ty
+    ∙ ap or_int (c.in-Some.ensures (program_in at.program.now) (scope at.names at.vars.now)))
     c.noted_lent.ensures.names
 
 pub returns-in_ok-made-in-None : goal.returns-in_ok-made-in-None
 returns-in_ok-made-in-None c =
     let made = c.in_ok-made-in-None in
-    own_stands c.args.names made.made _ (made.ensures.ty ∙ c.known.ensures ∙ ap or_int c.in_ok-ty-in-None.ensures)
-    made.ensures.names
+    own_stands c.args.around.now.names made.made _
+    (made.ensures.ty ∙ c.known.ensures ∙ ap or_int c.in_ok-ty-in-None.ensures) made.ensures.names

@@ -5,6 +5,7 @@ use Rattle.a_scope.proofs.declaring.value_entry.Goals as goal
 
 pub returns-in_ok-made-in-Some : goal.returns-in_ok-made-in-Some
 returns-in_ok-made-in-Some c =
-    let p = program_in c.args.program.now in
-    same_stands p c.args.names c.args.vars.now (a_value c.args.v.now) c.in-Some.entry.now c.in_ok-made-in-Some.made
-    (c.in-Some.ensures p c.args.names) c.requires c.in_ok-made-in-Some.ensures.ty c.in_ok-made-in-Some.ensures.names
+    let at = c.args.around.now in
+    let p = program_in at.program.now in
+    same_stands p at.names at.vars.now (a_value c.args.v.now) c.in-Some.entry.now c.in_ok-made-in-Some.made
+    (c.in-Some.ensures p at.names) c.requires c.in_ok-made-in-Some.ensures.ty c.in_ok-made-in-Some.ensures.names

@@ -18,42 +18,43 @@ joined_values i n m [] = refl
 joined_values i n m (v ∷ vs) =
     ap (λ (s : List ℕ). separator i ++ (value_text n m v ++ s)) (joined_values (suc i) n m vs)
 
-form_same : (n m : ℕ) (f : HForm) (vs : List HVal) → least f ≤ length vs →
-    form_line n m f (map (value_text n m) vs) ≡ form_text n m f vs
-form_same n m H.Name [] le = absurd (omega (arith, le))
-form_same n m H.Name (v ∷ vs) le = refl
-form_same n m (H.Proj i) [] le = absurd (omega (arith, le))
-form_same n m (H.Proj i) (v ∷ vs) le = refl
-form_same n m (H.Arith o) [] le = absurd (omega (arith, le))
-form_same n m (H.Arith o) (v ∷ []) le = absurd (omega (arith, le))
-form_same n m (H.Arith o) (v ∷ w ∷ vs) le = refl
-form_same n m H.Unpack [] le = absurd (omega (arith, le))
-form_same n m H.Unpack (v ∷ vs) le = refl
-form_same n m H.Cell [] le = absurd (omega (arith, le))
-form_same n m H.Cell (v ∷ vs) le = refl
-form_same n m H.Get [] le = absurd (omega (arith, le))
-form_same n m H.Get (v ∷ vs) le = refl
-form_same n m H.Set [] le = absurd (omega (arith, le))
-form_same n m H.Set (v ∷ []) le = absurd (omega (arith, le))
-form_same n m H.Set (v ∷ w ∷ vs) le = refl
-form_same n m (H.Call us) [] le = absurd (omega (arith, le))
-form_same n m (H.Call us) (v ∷ vs) le = rw (joined_values 0 n m vs) refl
-form_same n m H.If0 [] le = absurd (omega (arith, le))
-form_same n m H.If0 (v ∷ vs) le = refl
-form_same n m H.Halt [] le = absurd (omega (arith, le))
-form_same n m H.Halt (v ∷ vs) le = refl
+form_same : (n m : ℕ) (note : List ℕ) (f : HForm) (vs : List HVal) → least f ≤ length vs →
+    form_line n m note f (map (value_text n m) vs) ≡ form_text n m note f vs
+form_same n m note H.Name [] le = absurd (omega (arith, le))
+form_same n m note H.Name (v ∷ vs) le = refl
+form_same n m note (H.Proj i) [] le = absurd (omega (arith, le))
+form_same n m note (H.Proj i) (v ∷ vs) le = refl
+form_same n m note (H.Arith o) [] le = absurd (omega (arith, le))
+form_same n m note (H.Arith o) (v ∷ []) le = absurd (omega (arith, le))
+form_same n m note (H.Arith o) (v ∷ w ∷ vs) le = refl
+form_same n m note H.Unpack [] le = absurd (omega (arith, le))
+form_same n m note H.Unpack (v ∷ vs) le = refl
+form_same n m note H.Cell [] le = absurd (omega (arith, le))
+form_same n m note H.Cell (v ∷ vs) le = refl
+form_same n m note H.Get [] le = absurd (omega (arith, le))
+form_same n m note H.Get (v ∷ vs) le = refl
+form_same n m note H.Set [] le = absurd (omega (arith, le))
+form_same n m note H.Set (v ∷ []) le = absurd (omega (arith, le))
+form_same n m note H.Set (v ∷ w ∷ vs) le = refl
+form_same n m note (H.Call us) [] le = absurd (omega (arith, le))
+form_same n m note (H.Call us) (v ∷ vs) le = rw (joined_values 0 n m vs) refl
+form_same n m note H.If0 [] le = absurd (omega (arith, le))
+form_same n m note H.If0 (v ∷ vs) le = refl
+form_same n m note H.Halt [] le = absurd (omega (arith, le))
+form_same n m note H.Halt (v ∷ vs) le = refl
 
 four_parts : (a b c d t0 t1 t2 t3 t4 : List ℕ) → t1 ≡ t0 ++ a → t2 ≡ t1 ++ b → t3 ≡ t2 ++ c → t4 ≡ t3 ++ d →
     t4 ≡ t0 ++ (a ++ (b ++ (c ++ d)))
 four_parts a b c d t0 t1 t2 t3 t4 e1 e2 e3 e4 = rw (e4, e3, e2, e1) (simp append_assoc)
 
-pub node_done : (s : Scope) (f : HForm) (vs : List HVal) (ts : List (List ℕ)) (t0 t1 t2 t3 t4 : List ℕ) →
-    least f ≤ length vs → ts ≡ map (value_text s.types s.names) vs → t1 ≡ t0 ++ opening s → t2 ≡ t1 ++ margin s.level →
-    t3 ≡ t2 ++ form_line s.types s.names f ts → t4 ≡ t3 ++ codes "\n" → t4 ≡ t0 ++ node_text s f vs
-node_done s f vs ts t0 t1 t2 t3 t4 le are e1 e2 e3 e4 =
-    four_parts (opening s) (margin s.level) (form_text s.types s.names f vs) (codes "\n") t0 t1 t2 t3 t4 e1 e2
-    (e3 ∙ ap (λ us. t2 ++ form_line s.types s.names f us) are
-    ∙ ap (λ (u : List ℕ). t2 ++ u) (form_same s.types s.names f vs le)) e4
+pub node_done : (s : Scope) (note : List ℕ) (f : HForm) (vs : List HVal) (ts : List (List ℕ))
+    (t0 t1 t2 t3 t4 : List ℕ) → least f ≤ length vs → ts ≡ map (value_text s.types s.names) vs → t1 ≡ t0 ++ opening s →
+    t2 ≡ t1 ++ margin s.level →
+    t3 ≡ t2 ++ form_line s.types s.names note f ts → t4 ≡ t3 ++ codes "\n" → t4 ≡ t0 ++ node_text s note f vs
+node_done s note f vs ts t0 t1 t2 t3 t4 le are e1 e2 e3 e4 =
+    four_parts (opening s) (margin s.level) (form_text s.types s.names note f vs) (codes "\n") t0 t1 t2 t3 t4 e1 e2
+    (e3 ∙ ap (λ us. t2 ++ form_line s.types s.names note f us) are
+    ∙ ap (λ (u : List ℕ). t2 ++ u) (form_same s.types s.names note f vs le)) e4
 
 pub texts_count : (ts : List (Vec ℕ Global)) (f : HVal → List ℕ) (vs : List HVal) → texts_of ts ≡ map f vs →
     length ts ≡ length vs

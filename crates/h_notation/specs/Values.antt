@@ -34,16 +34,18 @@ abbrev pub call_line : ℕ → CTys → List (List ℕ) → List ℕ
 call_line n us ts =
     top [] ts ++ (codes "[" ++ (types_text n us ++ (codes "](" ++ (joined_text 0 (others ts) ++ codes ")"))))
 
--- what a node says on its line, by the texts of its values, inside n type names and m value names
-abbrev pub form_line : ℕ → ℕ → HForm → List (List ℕ) → List ℕ
-form_line n m H.Name ts = let_text m ++ top [] ts
-form_line n m (H.Proj i) ts = let_text m ++ (codes "#" ++ (decimal i ++ (codes " " ++ top [] ts)))
-form_line n m (H.Arith op) ts = let_text m ++ (top [] ts ++ (op_sign op ++ top [] (others ts)))
-form_line n m H.Unpack ts =
-    codes "let [" ++ (type_name n ++ (codes ", " ++ (value_name m ++ (codes "] = unpack " ++ top [] ts))))
-form_line n m H.Cell ts = let_text m ++ (codes "ref " ++ top [] ts)
-form_line n m H.Get ts = let_text m ++ (codes "!" ++ top [] ts)
-form_line n m H.Set ts = let_text m ++ (top [] ts ++ (codes " := " ++ top [] (others ts)))
-form_line n m (H.Call us) ts = call_line n (ctys us.items) ts
-form_line n m H.If0 ts = codes "if0 " ++ (top [] ts ++ codes " then")
-form_line n m H.Halt ts = codes "halt " ++ top [] ts
+-- what a node says on its line, by the texts of its values, inside n type names and m value names, and behind the name
+-- that it gives
+abbrev pub form_line : ℕ → ℕ → List ℕ → HForm → List (List ℕ) → List ℕ
+form_line n m note H.Name ts = let_text m note ++ top [] ts
+form_line n m note (H.Proj i) ts = let_text m note ++ (codes "#" ++ (decimal i ++ (codes " " ++ top [] ts)))
+form_line n m note (H.Arith op) ts = let_text m note ++ (top [] ts ++ (op_sign op ++ top [] (others ts)))
+form_line n m note H.Unpack ts =
+    codes "let ["
+    ++ (type_name n ++ (codes ", " ++ (value_name m ++ (note ++ (codes "] = unpack " ++ top [] ts)))))
+form_line n m note H.Cell ts = let_text m note ++ (codes "ref " ++ top [] ts)
+form_line n m note H.Get ts = let_text m note ++ (codes "!" ++ top [] ts)
+form_line n m note H.Set ts = let_text m note ++ (top [] ts ++ (codes " := " ++ top [] (others ts)))
+form_line n m note (H.Call us) ts = call_line n (ctys us.items) ts
+form_line n m note H.If0 ts = codes "if0 " ++ (top [] ts ++ codes " then")
+form_line n m note H.Halt ts = codes "halt " ++ top [] ts

@@ -43,23 +43,29 @@ fn write_others(text: &mut Vec<u8>, values: &[Vec<u8>]) -> Result<(), OutOfMemor
     Ok(())
 }
 
-// The name that a declaration gives.
-fn write_let(text: &mut Vec<u8>, names: u64) -> Result<(), OutOfMemory>
-    ensures { OnOk result (text.new.items ≡ text.old.items ++ let_text names) }
+// The name that a declaration gives, and what stands behind it.
+fn write_let(text: &mut Vec<u8>, names: u64, note: &[u8]) -> Result<(), OutOfMemory>
+    ensures { OnOk result (text.new.items ≡ text.old.items ++ let_text names note.now) }
 {
     text.extend_from_slice(b"let ")?;
     write_value_name(text, names)?;
+    text.extend_from_slice(note)?;
     text.extend_from_slice(b" = ")?;
     Ok(())
 }
 
 // A declaration of a value as it stands.
-fn write_name(text: &mut Vec<u8>, values: &[Vec<u8>], scope: &Scope) -> Result<(), OutOfMemory>
+fn write_name(
+    text: &mut Vec<u8>,
+    values: &[Vec<u8>],
+    scope: &Scope,
+    note: &[u8],
+) -> Result<(), OutOfMemory>
     requires { 1 ≤ length values.now }
     ensures { OnOk result (text.new.items ≡
-        text.old.items ++ (let_text scope.now.names ++ top [] (texts_of values.now))) }
+        text.old.items ++ (let_text scope.now.names note.now ++ top [] (texts_of values.now))) }
 {
-    write_let(text, scope.names)?;
+    write_let(text, scope.names, note)?;
     write_first(text, values)?;
     Ok(())
 }
@@ -69,12 +75,13 @@ fn write_proj(
     field: u64,
     values: &[Vec<u8>],
     scope: &Scope,
+    note: &[u8],
 ) -> Result<(), OutOfMemory>
     requires { 1 ≤ length values.now }
     ensures { OnOk result (text.new.items ≡
-        text.old.items ++ form_line scope.now.types scope.now.names (Proj field) (texts_of values.now)) }
+        text.old.items ++ form_line scope.now.types scope.now.names note.now (Proj field) (texts_of values.now)) }
 {
-    write_let(text, scope.names)?;
+    write_let(text, scope.names, note)?;
     text.extend_from_slice(b"#")?;
     write_natural(text, field)?;
     text.extend_from_slice(b" ")?;
@@ -87,38 +94,50 @@ fn write_arith(
     op: Op,
     values: &[Vec<u8>],
     scope: &Scope,
+    note: &[u8],
 ) -> Result<(), OutOfMemory>
     requires { 2 ≤ length values.now }
     ensures { OnOk result (text.new.items ≡
-        text.old.items ++ form_line scope.now.types scope.now.names (Arith op) (texts_of values.now)) }
+        text.old.items ++ form_line scope.now.types scope.now.names note.now (Arith op) (texts_of values.now)) }
 {
-    write_let(text, scope.names)?;
+    write_let(text, scope.names, note)?;
     write_first(text, values)?;
     write_op(text, op)?;
     write_second(text, values)?;
     Ok(())
 }
 
-fn write_unpack(text: &mut Vec<u8>, values: &[Vec<u8>], scope: &Scope) -> Result<(), OutOfMemory>
+fn write_unpack(
+    text: &mut Vec<u8>,
+    values: &[Vec<u8>],
+    scope: &Scope,
+    note: &[u8],
+) -> Result<(), OutOfMemory>
     requires { 1 ≤ length values.now }
     ensures { OnOk result (text.new.items ≡
-        text.old.items ++ form_line scope.now.types scope.now.names Unpack (texts_of values.now)) }
+        text.old.items ++ form_line scope.now.types scope.now.names note.now Unpack (texts_of values.now)) }
 {
     text.extend_from_slice(b"let [")?;
     write_type_name(text, scope.types)?;
     text.extend_from_slice(b", ")?;
     write_value_name(text, scope.names)?;
+    text.extend_from_slice(note)?;
     text.extend_from_slice(b"] = unpack ")?;
     write_first(text, values)?;
     Ok(())
 }
 
-fn write_set(text: &mut Vec<u8>, values: &[Vec<u8>], scope: &Scope) -> Result<(), OutOfMemory>
+fn write_set(
+    text: &mut Vec<u8>,
+    values: &[Vec<u8>],
+    scope: &Scope,
+    note: &[u8],
+) -> Result<(), OutOfMemory>
     requires { 2 ≤ length values.now }
     ensures { OnOk result (text.new.items ≡
-        text.old.items ++ form_line scope.now.types scope.now.names Set (texts_of values.now)) }
+        text.old.items ++ form_line scope.now.types scope.now.names note.now Set (texts_of values.now)) }
 {
-    write_let(text, scope.names)?;
+    write_let(text, scope.names, note)?;
     write_first(text, values)?;
     text.extend_from_slice(b" := ")?;
     write_second(text, values)?;
@@ -150,12 +169,13 @@ fn write_worded(
     word: &[u8],
     values: &[Vec<u8>],
     scope: &Scope,
+    note: &[u8],
 ) -> Result<(), OutOfMemory>
     requires { 1 ≤ length values.now }
     ensures { OnOk result (text.new.items ≡
-        text.old.items ++ (let_text scope.now.names ++ (word.now ++ top [] (texts_of values.now)))) }
+        text.old.items ++ (let_text scope.now.names note.now ++ (word.now ++ top [] (texts_of values.now)))) }
 {
-    write_let(text, scope.names)?;
+    write_let(text, scope.names, note)?;
     text.extend_from_slice(word)?;
     write_first(text, values)?;
     Ok(())
@@ -183,25 +203,27 @@ fn write_halt(text: &mut Vec<u8>, values: &[Vec<u8>]) -> Result<(), OutOfMemory>
     Ok(())
 }
 
-/// What a node says on its line, by the texts of its values. An error is want of memory.
+/// What a node says on its line, by the texts of its values, with a text behind the name that it gives. An error is
+/// want of memory.
 pub(crate) fn write_form(
     text: &mut Vec<u8>,
     form: &HForm,
     values: &[Vec<u8>],
     scope: &Scope,
+    note: &[u8],
 ) -> Result<(), OutOfMemory>
     requires { least form.now ≤ length values.now }
     ensures { OnOk result (text.new.items ≡
-        text.old.items ++ form_line scope.now.types scope.now.names form.now (texts_of values.now)) }
+        text.old.items ++ form_line scope.now.types scope.now.names note.now form.now (texts_of values.now)) }
 {
     match form {
-        HForm::Name => write_name(text, values, scope),
-        HForm::Proj(field) => write_proj(text, *field, values, scope),
-        HForm::Arith(op) => write_arith(text, *op, values, scope),
-        HForm::Unpack => write_unpack(text, values, scope),
-        HForm::Cell => write_worded(text, b"ref ", values, scope),
-        HForm::Get => write_worded(text, b"!", values, scope),
-        HForm::Set => write_set(text, values, scope),
+        HForm::Name => write_name(text, values, scope, note),
+        HForm::Proj(field) => write_proj(text, *field, values, scope, note),
+        HForm::Arith(op) => write_arith(text, *op, values, scope, note),
+        HForm::Unpack => write_unpack(text, values, scope, note),
+        HForm::Cell => write_worded(text, b"ref ", values, scope, note),
+        HForm::Get => write_worded(text, b"!", values, scope, note),
+        HForm::Set => write_set(text, values, scope, note),
         HForm::Call(types) => write_call(text, types, values, scope),
         HForm::If0 => write_if0(text, values),
         HForm::Halt => write_halt(text, values),

@@ -31,7 +31,7 @@ module _ (e : Term) (P : TProg) (made : IsMade e P) (t : IsTranslation e P) (as_
   same Source = refl
   same Cps = ap k_text (sym as_made.converted)
   same Closed = ap c_text closed_is
-  same Hoisted = ap₂ h_text blocks_are main_is
+  same (Hoisted typed) = ap₂ (h_text typed) blocks_are main_is
   same (Allocated typed) =
       ap₂ (a_text typed) (ap₂ alloc_prog blocks_are main_is ∙ sym as_made.allocated)
       (ap₂ alloc_main blocks_are main_is ∙ sym as_made.start)

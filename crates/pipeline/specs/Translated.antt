@@ -20,7 +20,7 @@ abbrev pub text_in : Form → (e : Term) (P : TProg) → IsTranslation e P → L
 text_in Source e P t = term_text e
 text_in Cps e P t = k_text t.converted
 text_in Closed e P t = c_text t.closed
-text_in Hoisted e P t = h_text t.blocks t.main
+text_in (Hoisted typed) e P t = h_text typed t.blocks t.main
 text_in (Allocated typed) e P t = a_text typed t.allocated t.start
 text_in Assembly e P t = assembly_text P
 

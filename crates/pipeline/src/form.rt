@@ -35,11 +35,11 @@ fn closed_text(alloc: Global, program: &Program) -> Result<Vec<u8>, OutOfMemory>
     Ok(text)
 }
 
-fn hoisted_text(alloc: Global, program: &Program) -> Result<Vec<u8>, OutOfMemory>
-    ensures { IfOk result (λ text. text.items ≡ form_text form.Hoisted (term_of (program_term program.now))) }
+fn hoisted_text(alloc: Global, program: &Program, typed: bool) -> Result<Vec<u8>, OutOfMemory>
+    ensures { IfOk result (λ text. text.items ≡ form_text (form.Hoisted typed) (term_of (program_term program.now))) }
 {
     let hoisted = hoisted(alloc, program)?;
-    let text = write_hoisted(alloc, &hoisted)?;
+    let text = write_hoisted(alloc, &hoisted, typed)?;
     Ok(text)
 }
 
@@ -69,7 +69,7 @@ pub fn form_of(alloc: Global, program: &Program, form: Form) -> Result<Vec<u8>, 
         Form::Source => write_term(alloc, program.term()),
         Form::Cps => converted_text(alloc, program),
         Form::Closed => closed_text(alloc, program),
-        Form::Hoisted => hoisted_text(alloc, program),
+        Form::Hoisted { typed } => hoisted_text(alloc, program, typed),
         Form::Allocated { typed } => allocated_text(alloc, program, typed),
         Form::Assembly => assembly_text(alloc, program),
     }

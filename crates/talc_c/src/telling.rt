@@ -52,7 +52,7 @@ pub(crate) fn form_at(number: u32) -> Option<Form>
         0 => Some(Form::Source),
         1 => Some(Form::Cps),
         2 => Some(Form::Closed),
-        3 => Some(Form::Hoisted),
+        3 => Some(Form::Hoisted { typed: false }),
         4 => Some(Form::Allocated { typed: false }),
         5 => Some(Form::Assembly),
         _ => None,

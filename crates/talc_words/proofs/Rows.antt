@@ -269,7 +269,7 @@ unfolding command_of clap_on_literals
 show_closed = refl
 
 show_hoisted : command_of (codes "talc" ∷ codes "show" ∷ codes "x.f" ∷ codes "--form" ∷ codes "hoisted" ∷ [])
-    ≡ Some (Shows (codes "x.f") form.Hoisted)
+    ≡ Some (Shows (codes "x.f") (form.Hoisted false))
 unfolding command_of clap_on_literals
 show_hoisted = refl
 
@@ -322,8 +322,8 @@ show_missing_file = refl
 
 -- and with types, before and behind the rest, twice, with a value, and of forms that are not shown with types
 show_types :
-    command_of (codes "talc" ∷ codes "show" ∷ codes "x.f" ∷ codes "--form" ∷ codes "allocated" ∷ codes "--types" ∷ [])
-    ≡ Some (Shows (codes "x.f") (form.Allocated true))
+    command_of (codes "talc" ∷ codes "show" ∷ codes "x.f" ∷ codes "--form" ∷ codes "hoisted" ∷ codes "--types" ∷ [])
+    ≡ Some (Shows (codes "x.f") (form.Hoisted true))
 unfolding command_of clap_on_literals
 show_types = refl
 
@@ -334,13 +334,13 @@ unfolding command_of clap_on_literals
 show_types_first = refl
 
 show_types_twice :
-    command_of (codes "talc" ∷ codes "show" ∷ codes "x.f" ∷ codes "--form=allocated" ∷ codes "--types"
+    command_of (codes "talc" ∷ codes "show" ∷ codes "x.f" ∷ codes "--form=hoisted" ∷ codes "--types"
     ∷ codes "--types" ∷ []) ≡ None
 unfolding command_of clap_on_literals
 show_types_twice = refl
 
 show_types_value :
-    command_of (codes "talc" ∷ codes "show" ∷ codes "x.f" ∷ codes "--form=allocated" ∷ codes "--types=true" ∷ []) ≡ None
+    command_of (codes "talc" ∷ codes "show" ∷ codes "x.f" ∷ codes "--form=hoisted" ∷ codes "--types=true" ∷ []) ≡ None
 unfolding command_of clap_on_literals
 show_types_value = refl
 
@@ -358,11 +358,6 @@ show_types_closed :
     command_of (codes "talc" ∷ codes "show" ∷ codes "x.f" ∷ codes "--form=closed" ∷ codes "--types" ∷ []) ≡ None
 unfolding command_of clap_on_literals
 show_types_closed = refl
-
-show_types_hoisted :
-    command_of (codes "talc" ∷ codes "show" ∷ codes "x.f" ∷ codes "--form=hoisted" ∷ codes "--types" ∷ []) ≡ None
-unfolding command_of clap_on_literals
-show_types_hoisted = refl
 
 show_types_assembly :
     command_of (codes "talc" ∷ codes "show" ∷ codes "x.f" ∷ codes "--form=assembly" ∷ codes "--types" ∷ []) ≡ None

@@ -50,7 +50,7 @@ form_named name =
     if bytes_eq name (codes "source") then Some Source
     else (if bytes_eq name (codes "cps") then Some Cps
     else (if bytes_eq name (codes "closed") then Some Closed
-    else (if bytes_eq name (codes "hoisted") then Some Hoisted
+    else (if bytes_eq name (codes "hoisted") then Some (Hoisted false)
     else (if bytes_eq name (codes "allocated") then Some (Allocated false)
     else (if bytes_eq name (codes "assembly") then Some Assembly else None)))))
 
@@ -67,7 +67,7 @@ abbrev pub with_types : Form → Option Form
 with_types Source = None
 with_types Cps = None
 with_types Closed = None
-with_types Hoisted = None
+with_types (Hoisted typed) = Some (Hoisted true)
 with_types (Allocated typed) = Some (Allocated true)
 with_types Assembly = None
 

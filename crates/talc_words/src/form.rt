@@ -2,8 +2,8 @@
 ghost use Rattle.std.specs.Prelude.{◌≡◌};
 ghost use Rattle.talc_words.specs.Command.{form_named, with_types};
 
-/// A form of a program, from the source to the assembly text (own choice of names). The one that has a flag
-/// is shown with the type of what each `let` binds if `typed`.
+/// A form of a program, from the source to the assembly text (own choice of names). Those that have a flag are shown
+/// with the type of what each `let` binds if `typed`.
 #[derive(Clone, Copy, Debug, PartialEq, Eq)]
 pub enum Form {
     /// `source`: the source program itself.
@@ -13,7 +13,7 @@ pub enum Form {
     /// `closed`: after closure conversion.
     Closed,
     /// `hoisted`: after hoisting.
-    Hoisted,
+    Hoisted { typed: bool },
     /// `allocated`: with explicit allocation.
     Allocated { typed: bool },
     /// `assembly`: the assembly program, after code generation.
@@ -34,7 +34,7 @@ pub(crate) fn form_named(name: &str) -> Option<Form>
         return Some(Form::Closed);
     }
     if name == "hoisted" {
-        return Some(Form::Hoisted);
+        return Some(Form::Hoisted { typed: false });
     }
     if name == "allocated" {
         return Some(Form::Allocated { typed: false });
@@ -50,7 +50,8 @@ pub(crate) fn with_types(form: Form) -> Option<Form>
     ensures { result ≡ with_types form }
 {
     match form {
-        Form::Source | Form::Cps | Form::Closed | Form::Hoisted | Form::Assembly => None,
+        Form::Source | Form::Cps | Form::Closed | Form::Assembly => None,
+        Form::Hoisted { .. } => Some(Form::Hoisted { typed: true }),
         Form::Allocated { .. } => Some(Form::Allocated { typed: true }),
     }
 }

@@ -20,6 +20,6 @@ returns c =
     let same = ap texts_of c.deref-2.ensures.value ∙ c.in_ok-texts.ensures
     ∙ ap (λ ps. map text (reads [] ps)) c.deref.ensures.value in
     let least = least_there c.args.node.now.form (values c.args.node.now) c.requires in
-    node_done c.args.scope.now c.args.node.now.form (values c.args.node.now) (texts_of c.deref-2.result.now) _ _ _ _ _
-    least same c.in_ok-write_opening.ensures c.in_ok-write_margin.ensures c.in_ok-write_form.ensures
-    c.in_ok-extend_from_slice.ensures.items
+    node_done c.args.scope.now c.args.note.now c.args.node.now.form (values c.args.node.now)
+    (texts_of c.deref-2.result.now) _ _ _ _ _ least same c.in_ok-write_opening.ensures
+    c.in_ok-write_margin.ensures c.in_ok-write_form.ensures c.in_ok-extend_from_slice.ensures.items

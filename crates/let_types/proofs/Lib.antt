@@ -1,0 +1,5 @@
+pub mod Naming
+pub mod OneMore
+mod Placing
+mod Stacking
+mod Typed

@@ -1,0 +1,17 @@
+// The types of what declarations name are those of typing.
+ghost use Rattle.let_types.specs.Laws.{ClosedTypes, CpsTypes, HoistedTypes};
+
+/// What a typed declaration of the calculus in continuation-passing style names has the type that is computed for it.
+pub fn cps_types_law()
+    ensures { CpsTypes }
+{}
+
+/// Behind a declaration of a typed closed term the names have the types that are computed for them.
+pub fn closed_types_law()
+    ensures { ClosedTypes }
+{}
+
+/// And so it is of a typed hoisted term.
+pub fn hoisted_types_law()
+    ensures { HoistedTypes }
+{}

@@ -5,7 +5,7 @@ use Rattle.std.specs.Fmt.{digits}
 use Rattle.idx_core.specs.declared.span.Span.{Span}
 use Rattle.idx_core.specs.declared.arith.Op.TheVariants as op
 use Rattle.t_types.specs.Tree.{IntTy, NoRegs, MoreRegs}
-use Rattle.t_terms.specs.Tree.{TValue, Int, Reg, Label, Plain, Arith, Bnz, Malloc, Mov, St, Jmp, Halt}
+use Rattle.t_terms.specs.Tree.{TValue, Int, Label, Plain, Arith, Bnz, Malloc, Mov, St, Jmp, Halt}
 use Rattle.t_terms.specs.Spanned.{SProg}
 use Rattle.cost_page.specs.Page.{page, most, total}
 use Rattle.cost_page.specs.declared.places.Kind.TheVariants as kind

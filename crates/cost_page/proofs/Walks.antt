@@ -1,7 +1,7 @@
 -- Walks over the places of a program, one at a time.
-use Rattle.std.proofs.Common.{◌≡◌, ℕ, ◌+◌, ◌*◌, List, [], ◌∷◌, ◌++◌, length, min, refl, sym, ap, ◌∙◌, subst, arith}
+use Rattle.std.proofs.Common.{◌≡◌, ℕ, ◌+◌, List, [], ◌∷◌, ◌++◌, length, min, refl, sym, ap, ◌∙◌, subst, arith}
 use Rattle.std.proofs.Common.{◌<◌, ◌≤◌, ◌==◌, nat_lt, append_assoc, length-append, get_or, drop, take, codes}
-use Rattle.std.specs.Prelude.{slice_index, sum_by, insert, if◌then◌else◌}
+use Rattle.std.specs.Prelude.{sum_by, insert, if◌then◌else◌}
 use Rattle.std.proofs.lemmas.Bool.Decides.{nat_tests}
 use Rattle.std.proofs.lemmas.List.{drop_more, drop_all}
 use Rattle.std.proofs.lemmas.List.Sums.{sum_by-cons}

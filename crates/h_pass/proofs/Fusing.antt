@@ -16,7 +16,7 @@ use Rattle.c_terms.specs.Stream.{CNd, MApply, MArith, MCall, MCell, MCode, MElse
 use Rattle.c_terms.specs.Stream.{MPack, MProj, MSet, MTuple, MUnpack, MVar, clin_d, clin_t, clin_v, clin_vs, cwidth}
 use Rattle.h_terms.specs.H.{HApply, HArith, HBlks, HCall, HCell, HDecl, HGet, HIf, HLabel, HLet, HName, HPack, HProj}
 use Rattle.h_terms.specs.H.{HSet, HTm, HTuple, HUnpack, HVal, HVals, HVar, MoreHVals, NoHVals}
-use Rattle.h_terms.specs.Nodes.{at_last, no_term, tied, tupled}
+use Rattle.h_terms.specs.Nodes.{no_term, tied, tupled}
 use Rattle.h_terms.specs.Row.{others, top}
 use Rattle.h_pass.proofs.Spots.{deep, deep_suc, first_or, near, self}
 use Rattle.h_pass.specs.Hoist.{Code, Nobody, Own, blocks_d, blocks_t, blocks_v, blocks_vs, hoist_d, hoist_t, hoist_v}

@@ -1,9 +1,9 @@
 -- Hoisting keeps the meaning.
-use Rattle.std.proofs.Common.{Bool, true, false, pos, ◌≡◌, ℕ, zero, suc, ◌+◌, nat_eq, [], ◌∷◌, ◌++◌, length}
+use Rattle.std.proofs.Common.{pos, ◌≡◌, ℕ, zero, suc, ◌+◌, nat_eq, [], ◌∷◌, ◌++◌, length}
 use Rattle.std.proofs.Common.{Some, refl, sym, ap, ◌∙◌, subst, subst₂, arith, append_assoc, length-append}
 use Rattle.std.proofs.Common.{eqb-true}
 use Rattle.calc_core.proofs.Lifts.{lift_suc, lift_zero}
-use Rattle.calc_core.specs.Ends.{Result, enters, if_fits, lift}
+use Rattle.calc_core.specs.Ends.{enters, if_fits, lift}
 use Rattle.c_terms.specs.C.{CApply, CArith, CCall, CCell, CCode, CDecl, CGet, CHalt, CIf, CInt, CLet, CName, CPack}
 use Rattle.c_terms.specs.C.{CProj, CSet, CTm, CTuple, CTys, CUnpack, CVal, CVals, CVar, MoreCVals, NoCVals, ccount}
 use Rattle.c_terms.specs.C.{cd_next, ct_next, cv_next, cvs_next}

@@ -1,11 +1,11 @@
 -- A program that is cut keeps the bounds on programs.
-use Rattle.std.proofs.Common.{◌≡◌, ◌≤◌, ℕ, List, [], ◌∷◌, ◌++◌, length, refl, sym, subst, Bool, true, false, arith}
+use Rattle.std.proofs.Common.{◌≡◌, ◌≤◌, ℕ, List, [], ◌∷◌, ◌++◌, length, refl, Bool, true, false, arith}
 use Rattle.std.proofs.Common.{if◌then◌else◌}
 use Rattle.idx_core.specs.declared.span.Span.{Span}
 use Rattle.t_types.specs.WellFormed.{max_names}
 use Rattle.t_terms.specs.Tree.{TInstr, TEnd, Halt, names_after}
-use Rattle.t_terms.specs.Spanned.{SBlock, SProg, seq_of, plain, plain_blocks, plain_program}
-use Rattle.t_terms.specs.Whole.{Whole, WellFormedSeq, WellFormedBlock, WellFormedBlocks}
+use Rattle.t_terms.specs.Spanned.{SBlock, SProg, seq_of, plain_blocks, plain_program}
+use Rattle.t_terms.specs.Whole.{Whole, WellFormedSeq, WellFormedBlocks}
 use Rattle.listing.specs.Before.{is_at, in_block, steps_to}
 use Rattle.listing.specs.Cut.{way_out, cut_block, way_outs, cut_blocks, cut}
 use Rattle.listing.proofs.Moving.{Alike, alike_cut}

@@ -1,14 +1,14 @@
 -- The first part at a place, found by a look at each in turn.
 use Rattle.std.proofs.Common.{◌≡◌, ◌<◌, ◌≤◌, ◌∙◌, ℕ, zero, suc, ◌+◌, List, [], ◌∷◌, length, get_or, take, refl, sym, ap}
 use Rattle.std.proofs.Common.{subst}
-use Rattle.std.proofs.Common.{Bool, true, false, ◌||◌, if◌then◌else◌, arith, add-one, Option, Some, None}
+use Rattle.std.proofs.Common.{true, false, arith, add-one, Option, Some, None}
 use Rattle.std.proofs.Math.Seq.{take-length}
 use Rattle.idx_core.specs.declared.span.Span.{Span}
 use Rattle.t_terms.specs.declared.instr.Instr.{Instr}
 use Rattle.t_terms.specs.Read.{body, instr}
 use Rattle.t_terms.specs.Tree.{TInstr}
 use Rattle.t_terms.specs.Spanned.{SBlock}
-use Rattle.listing.specs.Before.{is_at, in_body, in_block, steps_to}
+use Rattle.listing.specs.Before.{is_at}
 use Rattle.listing.specs.Steps.{Clear, IsFirstAt, IsLastAt, IsCount}
 
 abbrev Steps : Type 0

@@ -1,5 +1,5 @@
 -- Whether one of a list is such, by a look at each in turn.
-use Rattle.std.proofs.Common.{◌≡◌, ◌∙◌, ◌<◌, ◌≤◌, ℕ, zero, suc, ◌+◌, List, [], ◌∷◌, length, get_or, drop, refl, sym, ap}
+use Rattle.std.proofs.Common.{◌≡◌, ◌∙◌, ◌<◌, ◌≤◌, ℕ, suc, ◌+◌, List, [], ◌∷◌, length, get_or, drop, refl, sym, ap}
 use Rattle.std.proofs.Common.{subst, Bool, true, false, ◌||◌, arith, add-one, drop-cons}
 use Rattle.std.proofs.Math.ListN.{drop_of_length-le}
 use Rattle.idx_core.specs.declared.span.Span.{Span}

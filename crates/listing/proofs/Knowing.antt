@@ -4,8 +4,8 @@ use Rattle.std.proofs.Common.{Bool, true, false, if◌then◌else◌, arith}
 use Rattle.idx_core.specs.declared.span.Span.{Span}
 use Rattle.t_types.specs.Fits.{RegTypes, lookup}
 use Rattle.t_terms.specs.Tree.{TInstr, TEnd, Halt, TSeq, Then, Ends, TBlock, TProg, names_after}
-use Rattle.t_terms.specs.Spanned.{SBlock, SProg, seq_of, plain, plain_blocks, plain_program}
-use Rattle.t_rules.specs.Known.{KnownFrom, KnownAt}
+use Rattle.t_terms.specs.Spanned.{SBlock, seq_of, plain, plain_blocks, plain_program}
+use Rattle.t_rules.specs.Known.{KnownFrom}
 use Rattle.listing.specs.Before.{is_at, in_block, steps_to, IsBefore}
 use Rattle.listing.specs.Cut.{way_out, cut_block, way_outs, cut_blocks, cut}
 use Rattle.listing.specs.CutLaws.{KnownBefore}

@@ -1,5 +1,5 @@
 -- Typing looks at no more of the blocks around a place than at the types of their labels.
-use Rattle.std.proofs.Common.{◌≡◌, ◌∙◌, ℕ, zero, suc, List, [], ◌∷◌, Some, slice_get, refl, sym, Bool, true, false, map}
+use Rattle.std.proofs.Common.{◌≡◌, ◌∙◌, ℕ, zero, suc, List, [], ◌∷◌, Some, slice_get, refl, sym, Bool, true, false}
 use Rattle.std.proofs.Common.{if◌then◌else◌, subst}
 use Rattle.idx_core.specs.declared.span.Span.{Span}
 use Rattle.t_types.specs.Tree.{Ty, IntTy, CodeTy, ExistsTy}
@@ -9,7 +9,7 @@ use Rattle.t_terms.specs.Tree.{St, Unpack, TEnd, Jmp, Halt, TSeq, Then, Ends, TB
 use Rattle.t_terms.specs.Spanned.{SBlock, SProg, plain, plain_blocks, plain_program}
 use Rattle.t_rules.specs.Rules.{BaseHas, Has, Enters, Typed, EndTyped, SeqAccepted, BlockAccepted}
 use Rattle.t_terms.specs.Labels.{label_type}
-use Rattle.t_rules.specs.Rules.{DatumAccepted, DataAccepted, HeapAccepted}
+use Rattle.t_rules.specs.Rules.{DataAccepted, HeapAccepted}
 use Rattle.listing.specs.Before.{in_block, steps_to}
 use Rattle.listing.specs.Cut.{cut_block, way_outs, cut_blocks}
 

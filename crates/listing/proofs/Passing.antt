@@ -1,5 +1,5 @@
 -- Blocks that are cut, one after the other.
-use Rattle.std.proofs.Common.{◌≡◌, ◌∙◌, ℕ, zero, suc, List, [], ◌∷◌, ◌++◌, take, refl, sym, ap, subst, pos}
+use Rattle.std.proofs.Common.{◌≡◌, ◌∙◌, ℕ, zero, suc, List, [], ◌∷◌, ◌++◌, take, refl, sym, ap, pos}
 use Rattle.std.proofs.Common.{Bool, true, false, Some, None, append_assoc}
 use Rattle.std.proofs.lemmas.List.{append-nil}
 use Rattle.idx_core.specs.declared.span.Span.{Span}
@@ -9,7 +9,6 @@ use Rattle.t_terms.specs.Read.{body, instr, spanned, spanned_blocks}
 use Rattle.t_types.specs.Read.{file}
 use Rattle.t_terms.specs.Tree.{TInstr, Int, Plain, Mov, Halt}
 use Rattle.t_terms.specs.Spanned.{SBlock}
-use Rattle.listing.specs.Before.{in_block, steps_to}
 use Rattle.listing.specs.Cut.{cut_block, cut_blocks}
 use Rattle.listing.specs.Steps.{IsCount, IsCountAt, left_of}
 

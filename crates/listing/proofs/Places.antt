@@ -1,7 +1,7 @@
 -- A fault of typing stands at the place of the part that it is a fault of.
-use Rattle.std.proofs.Common.{◌≡◌, ℕ, List, [], ◌∷◌, Bool, true, false, ◌||◌, ◌⊎◌, inl, inr, Option, Some, None, refl}
+use Rattle.std.proofs.Common.{◌≡◌, ℕ, List, [], ◌∷◌, Bool, true, false, ◌||◌, inl, inr, Option, Some, None, refl}
 use Rattle.std.proofs.Common.{sym}
-use Rattle.std.proofs.Common.{subst, ◌==◌, ◌&&◌, ◌∙◌}
+use Rattle.std.proofs.Common.{subst}
 use Rattle.std.proofs.lemmas.Bool.{eq-eqb}
 use Rattle.idx_core.specs.declared.span.Span.{Span}
 use Rattle.text_core.specs.Refusals.{nothing, refuse, check, part, if_known}

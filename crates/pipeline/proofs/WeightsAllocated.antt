@@ -1,5 +1,5 @@
 -- Allocation keeps the weight, and the number of blocks.
-use Rattle.std.proofs.Common.{◌≡◌, ℕ, ◌+◌, Bool, true, false, suc, List, [], ◌∷◌, length, refl, ap, ◌∙◌, arith}
+use Rattle.std.proofs.Common.{◌≡◌, ℕ, ◌+◌, Bool, true, false, suc, List, [], ◌∷◌, refl, ◌∙◌, arith}
 use Rattle.a_laws.specs.Allocate.{Known, alloc_all, alloc_t, arg_depth, arg_levels, atypes, are_const, d_next, d_types}
 use Rattle.a_laws.specs.Allocate.{dcl, fill, known_of, n_block, n_d, n_t, n_v, pre_d, pre_v, pre_vs, v_next, v_type}
 use Rattle.a_laws.specs.Allocate.{v_types, val, vs_next}
@@ -13,7 +13,6 @@ use Rattle.h_terms.specs.H.{HPack, HProj, HSet, HTm, HTuple, HUnpack, HVal, HVal
 use Rattle.pipeline.specs.Weights.{Weights}
 use Rattle.pipeline.specs.Work.{only_choices}
 use Rattle.pipeline.proofs.WeightsHoisted.{h_d, h_t, h_all}
-use Rattle.a_laws.proofs.Thirds.{length_all as same_length}
 
 abbrev pub a_d : Weights → ADecl → ℕ
 a_d w (Value v) = 0

@@ -1,5 +1,5 @@
 -- What a refusal says, where the types have the numbers of a table.
-use Rattle.std.specs.Prelude.{◌≡◌, ℕ, ◌<◌, List, length, Option, Some, None, option_map, IfSome, Result, Ok, Err}
+use Rattle.std.specs.Prelude.{◌≡◌, ℕ, ◌<◌, List, length, Option, None, option_map, IfSome, Result, Ok, Err}
 use Rattle.idx_core.specs.declared.memory.OutOfMemory.{OutOfMemory}
 use Rattle.t_types.specs.Tree.{Ty}
 use Rattle.t_terms.specs.declared.fault.TFault.{TFault}

@@ -1,9 +1,9 @@
 -- In a whole program each data tuple that a value names is there, also in the parts of its blocks and of its data.
-use Rattle.std.proofs.Common.{◌≡◌, ℕ, zero, suc, ◌<◌, List, [], ◌∷◌, length, map, get_or, refl, sym, ap, ◌∙◌}
+use Rattle.std.proofs.Common.{◌≡◌, ℕ, zero, suc, ◌<◌, List, [], ◌∷◌, length, get_or, refl, sym, ap, ◌∙◌}
 use Rattle.std.proofs.Common.{subst, arith}
 use Rattle.idx_core.specs.declared.span.Span.{Span}
 use Rattle.t_types.specs.declared.types.TType.{TType}
-use Rattle.t_terms.specs.Tree.{TBase, Data, TValue, Plain, Pack, TInstr, TEnd, names_after}
+use Rattle.t_terms.specs.Tree.{Data, TValue, Plain, Pack, TEnd, names_after}
 use Rattle.t_terms.specs.Whole.{WellFormedBase, WellFormedValue, WellFormedInstr, WellFormedSeq, WellFormedBlock}
 use Rattle.t_terms.specs.Whole.{WellFormedBlocks, WellFormedDatum, WellFormedData, WellFormedHeap}
 use Rattle.t_terms.specs.Spanned.{seq_of, plain_datum, plain_fields}
@@ -12,7 +12,7 @@ use Rattle.t_terms.specs.declared.value.Value.{Value}
 use Rattle.t_terms.specs.declared.instr.Instr.{Instr}
 use Rattle.t_terms.specs.declared.block.Block.{Block}
 use Rattle.t_terms.specs.declared.data.Data.{Data as DataItem}
-use Rattle.t_rules.specs.Erase.{erase_datum, erase_value}
+use Rattle.t_rules.specs.Erase.{erase_value}
 use Rattle.t_collect.specs.Tuples.{starts_from}
 use Rattle.t_machine.proofs.Starting.{tuples_of}
 use Rattle.t_machine.proofs.Tuples.{starts_count}

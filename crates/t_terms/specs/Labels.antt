@@ -1,7 +1,7 @@
 -- Types of labels.
-use Rattle.std.specs.Prelude.{true, List, [], ◌∷◌}
+use Rattle.std.specs.Prelude.{true, [], ◌∷◌}
 use Rattle.t_types.specs.Tree.{Ty, CodeTy, TupleTy, TFields, NoFields, MoreFields}
-use Rattle.t_terms.specs.Tree.{TBlock, TDatum, TData}
+use Rattle.t_terms.specs.Tree.{TBlock, TData}
 
 -- a label is code that owes what its block owes
 abbrev pub label_type : TBlock → Ty

@@ -6,7 +6,7 @@ use Rattle.f_lexer.specs.declared.token.Token.{Token}
 use Rattle.f_lexer.specs.Source.{OneCut}
 use Rattle.types_page.specs.Binders.{Binder, OneBinding}
 use Rattle.types_page.specs.Page.{IsPage, page}
-use Rattle.talc_core.specs.Binding.{TypesShown, OneTypesPage}
+use Rattle.talc_core.specs.Binding.{OneTypesPage}
 use Rattle.talc_core.specs.FirstFault.{IsChecked}
 use Rattle.talc_core.specs.TextLaws.{TextLaws}
 use Rattle.talc_core.proofs.FaultLemmas.{same_term}

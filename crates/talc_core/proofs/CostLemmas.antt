@@ -5,7 +5,7 @@ use Rattle.t_terms.specs.Tree.{TProg}
 use Rattle.t_terms.specs.Spanned.{SProg, plain_program}
 use Rattle.t_rules.specs.Machine.{State, Place, Spot, After, HaltedAfter, GoesOnAfter}
 use Rattle.t_rules.specs.ErasedRuns.{RunsCountAlike}
-use Rattle.t_rules.specs.Times.{is_spot, Times}
+use Rattle.t_rules.specs.Times.{is_spot}
 use Rattle.t_machine.specs.Runs.{IsPlaceAfter, steps_made}
 use Rattle.t_machine.specs.Tables.{table, AreCounts, FirstCounts}
 use Rattle.t_machine.specs.declared.machine.Ran.{Ran}

@@ -1,9 +1,8 @@
 -- What `trace` shows of a text is one answer, and ends as what `run` shows.
-use Rattle.std.proofs.Common.{◌≡◌, ◌∙◌, ℕ, ℤ, zero, suc, ◌+◌, ◌-◌, ◌≤◌, List, ◌++◌, Some, refl, sym, ap, ap₂, subst}
-use Rattle.std.proofs.Common.{arith}
-use Rattle.t_terms.specs.Tree.{TProg, Then, Ends, Jmp, Halt}
+use Rattle.std.proofs.Common.{◌≡◌, ◌∙◌, ℕ, ℤ, zero, suc, ◌+◌, ◌-◌, List, ◌++◌, refl, sym, ap, ap₂, subst}
+use Rattle.t_terms.specs.Tree.{TProg}
 use Rattle.t_terms.specs.Spanned.{plain_program}
-use Rattle.t_rules.specs.Machine.{IntWord, State, At, HaltedWith, HaltedAfter}
+use Rattle.t_rules.specs.Machine.{HaltedAfter}
 use Rattle.talc_core.specs.declared.status.Status.TheVariants.{Done, Refused, Usage, Limit, Budget, ReadFault}
 use Rattle.talc_core.specs.declared.status.Status.TheVariants.{WriteFault, Memory}
 use Rattle.talc_core.specs.Lines.{integer_line, more_instructions_line}
@@ -12,7 +11,6 @@ use Rattle.talc_core.specs.Traced.{AreLines, HaltedStates, RunningStates, OneLin
 use Rattle.talc_core.specs.TraceLaws.{OneTrace, TraceEndsAsRun}
 use Rattle.talc_core.proofs.ShownLemmas.{one_shown, same_steps, same_value}
 use Rattle.talc_core.proofs.RunLemmas.{going_not_halted}
-use Rattle.t_rules.proofs.OneStep.{halted_one as one_integer}
 
 pub trace_ends_as_run : TraceEndsAsRun
 trace_ends_as_run from to Done text lines shown = (

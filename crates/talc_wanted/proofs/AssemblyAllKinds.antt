@@ -1,6 +1,6 @@
 -- Each token is told as one that is listed.
 use Rattle.std.proofs.Common.{◌≡◌, ◌⊎◌, ◌<◌, ◌≤◌, ◌==◌, inl, inr, ℕ, zero, suc, pos, negsuc, slice_get, refl}
-use Rattle.std.proofs.Common.{List, Option, Some, Bool, true, false, arith}
+use Rattle.std.proofs.Common.{List, Option, Some, false, arith}
 use Rattle.std.proofs.lemmas.Bool.{ne_eqb}
 use Rattle.idx_core.specs.declared.span.Span.{Span}
 use Rattle.t_text.specs.declared.token.Kind.{Kind}

@@ -1,5 +1,5 @@
 -- The table of the assembly grammar with its values aside.
-use Rattle.std.specs.Prelude.{pos, ◌==◌, ◌&&◌, ◌||◌, List, map, Bool, true, false}
+use Rattle.std.specs.Prelude.{pos, ◌==◌, ◌&&◌, ◌||◌, map, Bool, true, false}
 use Rattle.t_text.specs.declared.token.Token.{Token}
 use Rattle.t_text.specs.declared.token.Kind.{Kind}
 use Rattle.t_text.specs.declared.token.Kind.TheVariants as k

@@ -1,5 +1,5 @@
 -- The table of the source's grammar with its values aside.
-use Rattle.std.specs.Prelude.{List, map, Bool, true, false}
+use Rattle.std.specs.Prelude.{map, Bool, true, false}
 use Rattle.f_lexer.specs.declared.token.Token.{Token}
 use Rattle.f_lexer.specs.declared.kind.Kind.{Kind}
 use Rattle.f_lexer.specs.declared.kind.Kind.TheVariants as k

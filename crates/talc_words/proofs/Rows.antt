@@ -2,9 +2,9 @@
 use Rattle.std.proofs.Common.{◌≡◌, [], ◌∷◌, Some, None, false, true, refl}
 use Rattle.std.specs.Prelude.{codes}
 use Rattle.clap.proofs.OnLiterals.{clap_on_literals}
-use Rattle.talc_words.specs.Command.{Checks, Compiles, CompilesWithin, Costs, Evaluates, Explains, Generates, Lists}
+use Rattle.talc_words.specs.Command.{Checks, Compiles, CompilesWithin, Evaluates, Generates}
 use Rattle.talc_words.specs.Command.{Runs}
-use Rattle.talc_words.specs.Command.{Shows, Traces, Types, TypesNames, Upgrades, command_of}
+use Rattle.talc_words.specs.Command.{Shows, Traces, Types, Upgrades, command_of}
 use Rattle.talc_words.specs.declared.form.Form.TheVariants as form
 
 -- talc compile x.f x.tal

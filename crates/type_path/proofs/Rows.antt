@@ -4,7 +4,7 @@ use Rattle.f_terms.specs.Ty.{TInt, TVar, TArrow, TAll, TTuple, TSome, TRef, NoTy
 use Rattle.t_types.specs.Tree.{IntTy, VarTy, CodeTy, ExistsTy, TupleTy, NoRegs, MoreRegs, NoFields, MoreFields}
 use Rattle.type_path.specs.Source as source
 use Rattle.type_path.specs.Assembly as assembly
-use Rattle.type_path.specs.Assembly.{Whole, FlagOf}
+use Rattle.type_path.specs.Assembly.{FlagOf}
 use Rattle.type_path.specs.declared.step.Step.TheVariants.{Argument, Result, Body, Cell, Field, Flag, Register}
 
 -- ---- the source

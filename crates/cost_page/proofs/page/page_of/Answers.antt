@@ -1,4 +1,4 @@
-use Rattle.std.proofs.Common.{◌≡◌, ◌∙◌, [], List, ap}
+use Rattle.std.proofs.Common.{◌∙◌, [], List, ap}
 use Rattle.t_terms.specs.Read.{spanned_blocks}
 use Rattle.t_terms.specs.declared.block.Block.{Block}
 use Rattle.cost_page.specs.Page.{most}

@@ -1,5 +1,6 @@
 -- The lines of values, instructions and blocks by their first tokens.
-use Rattle.std.proofs.Common.{◌≡◌, ◌≢◌, ℕ, List, [], ◌∷◌, ◌++◌, slice_get, refl, Some, None, true, false, if◌then◌else◌}
+use Rattle.std.proofs.Common.{◌≡◌, ◌≢◌, ℕ, List, [], ◌∷◌, ◌++◌, slice_get, refl, Some, None, Bool, true, false}
+use Rattle.std.proofs.Common.{if◌then◌else◌}
 use Rattle.text_core.specs.Table.{Tm, Nt, Do, Mark, then_more}
 use Rattle.text_core.proofs.Going as step
 use Rattle.t_text.specs.declared.token.Token.{Token}
@@ -7,20 +8,20 @@ use Rattle.t_text.specs.declared.token.Kind.{Kind}
 use Rattle.t_text.specs.declared.token.Kind.TheVariants as k
 use Rattle.t_text.specs.declared.wanted.Wanted.TheVariants as want
 use Rattle.t_text.specs.GrammarTable.{table, LT, LTypes, LTypeList, LSomeTypes, LMoreTypes, MakeTypes, MakeFirstType}
-use Rattle.t_text.specs.GrammarTable.{MakeNextType, MakeClosedTypes, MakeNoTypes, LV, LArgs, LPacked, MakeApply}
+use Rattle.t_text.specs.GrammarTable.{MakeNextType, MakeClosedTypes, MakeNoTypes, LArgs, MakeApply}
 use Rattle.t_text.specs.GrammarTable.{MakePacked, LTo, MakeTo, LAt, MakeAt, LIndex, MakeIndex, LTarget, MakeTarget}
 use Rattle.t_text.specs.GrammarTable.{LInt, MakeInt, LBlock, LMoreBlocks, LProgram, LHeader, MakeProgram, LW, LWordArgs}
-use Rattle.t_text.specs.GrammarTable.{LWordPacked, MakeWordApply, MakeWordPacked, LDatums, LMoreDatums, MakeNoDatums}
+use Rattle.t_text.specs.GrammarTable.{MakeWordApply, MakeWordPacked, LDatums, LMoreDatums, MakeNoDatums}
 use Rattle.t_text.specs.GrammarTable.{MakeFirstDatum, MakeNextDatum, MakeClosedDatums, LSomeItems, LMoreItems, LFirst}
 use Rattle.t_text.specs.GrammarTable.{LItem, MakeNextItem, fits, after, type_list_after, some_types_after, types_tail}
-use Rattle.t_text.specs.GrammarTable.{value_after, base_owed, instr_after, block_owed, blocks_tail, end_after}
-use Rattle.t_text.specs.GrammarTable.{word_after, word_owed, datums_after, datums_tail, tuple_after, items_tail}
-use Rattle.t_text.specs.GrammarTable.{item_after}
+use Rattle.t_text.specs.GrammarTable.{instr_after, block_owed, blocks_tail, end_after}
+use Rattle.t_text.specs.GrammarTable.{word_after, datums_after, datums_tail, tuple_after, items_tail}
+use Rattle.t_text.specs.GrammarTable.{item_after, Line, Act, Stack, may_end, MakeBase, MakePack, MakeWord, MakeWordPack}
 use Rattle.t_text.specs.Text.{most_open}
 use Rattle.t_shapes.specs.Cursor.{Misses}
 use Rattle.t_shapes.proofs.Stepping.{Moves, not_fits, Opens, ListLine}
-use Rattle.t_shapes.specs.Raw.{is_base, is_word_base}
-use Rattle.t_shapes.specs.Reads.{datum_owed, items_line}
+use Rattle.t_shapes.specs.Raw.{is_base}
+use Rattle.t_shapes.specs.Reads.{datum_owed, items_line, value_line, packed_line}
 
 pub opens_types : Opens LTypes want.LeftBracket (Nt LTypeList ∷ (Mark ∷ (Do MakeTypes ∷ [])))
 opens_types = record { takes = λ c e. takes c e; no_other = λ c e. no_other c e }
@@ -67,31 +68,115 @@ pub no_types : (c : Kind) → fits want.RightBracket c ≡ true → type_list_af
 no_types k.RightBracket e = refl
 no_types _ e = absurd (cc)
 
-pub opens_args : Opens LArgs want.LeftBracket (Nt LSomeTypes ∷ (Mark ∷ (Do MakeApply ∷ [])))
-opens_args = record { takes = λ c e. takes c e; no_other = λ c e. no_other c e }
+-- values, of data or not
+abbrev pub args_line : Bool → Line
+args_line false = LArgs
+args_line true = LWordArgs
+
+abbrev pub make_base : Bool → Act
+make_base false = MakeBase
+make_base true = MakeWord
+
+abbrev pub make_apply : Bool → Act
+make_apply false = MakeApply
+make_apply true = MakeWordApply
+
+abbrev pub make_packed : Bool → Act
+make_packed false = MakePacked
+make_packed true = MakeWordPacked
+
+abbrev pub make_pack : Bool → Act
+make_pack false = MakePack
+make_pack true = MakeWordPack
+
+-- what is owed after `pack`, and in the end; and what after the bracket behind it
+abbrev pub shape_left : Bool → Stack
+shape_left b = Nt LT ∷ (Do (make_pack b) ∷ [])
+
+abbrev pub as_left : Bool → Stack
+as_left b = Tm want.As ∷ shape_left b
+
+abbrev pub pack_left : Bool → Stack
+pack_left b = Nt (packed_line b) ∷ as_left b
+
+abbrev pub close_left : Bool → Stack
+close_left b = Tm want.RightBracket ∷ (Mark ∷ (Do (make_packed b) ∷ []))
+
+abbrev pub inner_left : Bool → Stack
+inner_left b = Nt (value_line b) ∷ close_left b
+
+abbrev pub comma_left : Bool → Stack
+comma_left b = Tm want.Comma ∷ inner_left b
+
+abbrev pub packed_left : Bool → Stack
+packed_left b = Nt LT ∷ comma_left b
+
+pub opens_args : (b : Bool) →
+    Opens (args_line b) want.LeftBracket (Nt LSomeTypes ∷ (Mark ∷ (Do (make_apply b) ∷ [])))
+opens_args b = record { takes = λ c e. takes b c e; no_other = λ c e. no_other b c e }
   where
-    takes : (c : Kind) → fits want.LeftBracket c ≡ true →
-        after LArgs c ≡ Some (Nt LSomeTypes ∷ (Mark ∷ (Do MakeApply ∷ [])))
-    takes k.LeftBracket e = refl
-    takes _ e = absurd (cc)
+    takes : (b : Bool) (c : Kind) → fits want.LeftBracket c ≡ true →
+        after (args_line b) c ≡ Some (Nt LSomeTypes ∷ (Mark ∷ (Do (make_apply b) ∷ [])))
+    takes false k.LeftBracket e = refl
+    takes true k.LeftBracket e = refl
+    takes b _ e = absurd (cc)
 
-    no_other : (c : Kind) → fits want.LeftBracket c ≡ false → after LArgs c ≡ None
-    no_other k.LeftBracket e = absurd (cc)
-    no_other _ e = refl
+    no_other : (b : Bool) (c : Kind) → fits want.LeftBracket c ≡ false → after (args_line b) c ≡ None
+    no_other b k.LeftBracket e = absurd (cc)
+    no_other false _ e = refl
+    no_other true _ e = refl
 
-pub opens_packed : Opens LPacked want.LeftBracket
-    (Nt LT ∷ (Tm want.Comma ∷ (Nt LV ∷ (Tm want.RightBracket ∷ (Mark ∷ (Do MakePacked ∷ []))))))
-opens_packed = record { takes = λ c e. takes c e; no_other = λ c e. no_other c e }
+pub opens_packed : (b : Bool) → Opens (packed_line b) want.LeftBracket (packed_left b)
+opens_packed b = record { takes = λ c e. takes b c e; no_other = λ c e. no_other b c e }
   where
-    takes : (c : Kind) → fits want.LeftBracket c ≡ true →
-        after LPacked c
-        ≡ Some (Nt LT ∷ (Tm want.Comma ∷ (Nt LV ∷ (Tm want.RightBracket ∷ (Mark ∷ (Do MakePacked ∷ []))))))
-    takes k.LeftBracket e = refl
-    takes _ e = absurd (cc)
+    takes : (b : Bool) (c : Kind) → fits want.LeftBracket c ≡ true → after (packed_line b) c ≡ Some (packed_left b)
+    takes false k.LeftBracket e = refl
+    takes true k.LeftBracket e = refl
+    takes b _ e = absurd (cc)
 
-    no_other : (c : Kind) → fits want.LeftBracket c ≡ false → after LPacked c ≡ None
-    no_other k.LeftBracket e = absurd (cc)
-    no_other _ e = refl
+    no_other : (b : Bool) (c : Kind) → fits want.LeftBracket c ≡ false → after (packed_line b) c ≡ None
+    no_other b k.LeftBracket e = absurd (cc)
+    no_other false _ e = refl
+    no_other true _ e = refl
+
+pub base_begins : (b : Bool) (c : Kind) → is_base b c ≡ true →
+    after (value_line b) c ≡ Some (Do (make_base b) ∷ (Nt (args_line b) ∷ []))
+base_begins false (k.Register r) e = refl
+base_begins true (k.Register r) e = absurd (cc)
+base_begins false (k.Plain z) e = refl
+base_begins true (k.Plain z) e = refl
+base_begins false (k.Negative z) e = refl
+base_begins true (k.Negative z) e = refl
+base_begins false k.Name e = refl
+base_begins true k.Name e = refl
+base_begins b _ e = absurd (cc)
+
+pub pack_begins : (b : Bool) (c : Kind) → c ≡ k.Pack → after (value_line b) c ≡ Some (pack_left b)
+pack_begins false c e = rw e refl
+pack_begins true c e = rw e refl
+
+pub no_value : (b : Bool) (c : Kind) → is_base b c ≡ false → c ≢ k.Pack → after (value_line b) c ≡ None
+no_value false (k.Register r) e n = absurd (cc)
+no_value true (k.Register r) e n = refl
+no_value b (k.Plain z) e n = absurd (cc)
+no_value b (k.Negative z) e n = absurd (cc)
+no_value b k.Name e n = absurd (cc)
+no_value b k.Pack e n = absurd (n refl)
+no_value false _ e n = refl
+no_value true _ e n = refl
+
+-- neither line may be of no tokens
+pub value_ends : (b : Bool) → may_end (value_line b) ≡ false
+value_ends false = refl
+value_ends true = refl
+
+pub packed_ends : (b : Bool) → may_end (packed_line b) ≡ false
+packed_ends false = refl
+packed_ends true = refl
+
+pub args_end : (b : Bool) → may_end (args_line b) ≡ true
+args_end false = refl
+args_end true = refl
 
 pub opens_index : Opens LIndex want.LeftBracket (Tm want.Number ∷ (Tm want.RightBracket ∷ (Mark ∷ (Do MakeIndex ∷ []))))
 opens_index = record { takes = λ c e. takes c e; no_other = λ c e. no_other c e }
@@ -151,21 +236,6 @@ program_begins k.Tal = refl
 program_begins _ = refl
 
 -- a value that begins with a base, and none
-pub base_begins : (c : Kind) → is_base c ≡ true → value_after c ≡ Some base_owed
-base_begins (k.Register r) e = refl
-base_begins (k.Plain z) e = refl
-base_begins (k.Negative z) e = refl
-base_begins k.Name e = refl
-base_begins _ e = absurd (cc)
-
-pub no_value : (c : Kind) → is_base c ≡ false → c ≢ k.Pack → value_after c ≡ None
-no_value (k.Register r) e n = absurd (cc)
-no_value (k.Plain z) e n = absurd (cc)
-no_value (k.Negative z) e n = absurd (cc)
-no_value k.Name e n = absurd (cc)
-no_value k.Pack e n = absurd (n refl)
-no_value _ e n = refl
-
 pub no_step : (c : Kind) → c ≢ k.Add → c ≢ k.Sub → c ≢ k.Mul → c ≢ k.Bnz → c ≢ k.Ld → c ≢ k.Malloc → c ≢ k.Mov →
     c ≢ k.St → c ≢ k.Unpack → instr_after c ≡ None
 no_step k.Add a b d e f g h i j = absurd (a refl)
@@ -193,46 +263,6 @@ block_follows _ e = absurd (cc)
 pub no_block : (c : Kind) → fits want.Name c ≡ false → after LMoreBlocks c ≡ None
 no_block k.Name e = absurd (cc)
 no_block _ e = refl
-
--- the values of data
-pub opens_word_args : Opens LWordArgs want.LeftBracket (Nt LSomeTypes ∷ (Mark ∷ (Do MakeWordApply ∷ [])))
-opens_word_args = record { takes = λ c e. takes c e; no_other = λ c e. no_other c e }
-  where
-    takes : (c : Kind) → fits want.LeftBracket c ≡ true →
-        after LWordArgs c ≡ Some (Nt LSomeTypes ∷ (Mark ∷ (Do MakeWordApply ∷ [])))
-    takes k.LeftBracket e = refl
-    takes _ e = absurd (cc)
-
-    no_other : (c : Kind) → fits want.LeftBracket c ≡ false → after LWordArgs c ≡ None
-    no_other k.LeftBracket e = absurd (cc)
-    no_other _ e = refl
-
-pub opens_word_packed : Opens LWordPacked want.LeftBracket
-    (Nt LT ∷ (Tm want.Comma ∷ (Nt LW ∷ (Tm want.RightBracket ∷ (Mark ∷ (Do MakeWordPacked ∷ []))))))
-opens_word_packed = record { takes = λ c e. takes c e; no_other = λ c e. no_other c e }
-  where
-    takes : (c : Kind) → fits want.LeftBracket c ≡ true →
-        after LWordPacked c
-        ≡ Some (Nt LT ∷ (Tm want.Comma ∷ (Nt LW ∷ (Tm want.RightBracket ∷ (Mark ∷ (Do MakeWordPacked ∷ []))))))
-    takes k.LeftBracket e = refl
-    takes _ e = absurd (cc)
-
-    no_other : (c : Kind) → fits want.LeftBracket c ≡ false → after LWordPacked c ≡ None
-    no_other k.LeftBracket e = absurd (cc)
-    no_other _ e = refl
-
-pub word_begins : (c : Kind) → is_word_base c ≡ true → word_after c ≡ Some word_owed
-word_begins (k.Plain z) e = refl
-word_begins (k.Negative z) e = refl
-word_begins k.Name e = refl
-word_begins _ e = absurd (cc)
-
-pub no_word : (c : Kind) → is_word_base c ≡ false → c ≢ k.Pack → word_after c ≡ None
-no_word (k.Plain z) e n = absurd (cc)
-no_word (k.Negative z) e n = absurd (cc)
-no_word k.Name e n = absurd (cc)
-no_word k.Pack e n = absurd (n refl)
-no_word _ e n = refl
 
 -- data tuples and their fields
 comma_datums : Opens LMoreDatums want.Comma (datum_owed ++ (Do MakeNextDatum ∷ (Nt LMoreDatums ∷ [])))

@@ -1,5 +1,5 @@
 -- The trees of what is read, before names are resolved.
-use Rattle.std.specs.Prelude.{Bool, true, false, List, map}
+use Rattle.std.specs.Prelude.{Bool, true, false, not, List, map}
 use Rattle.idx_core.specs.declared.span.Span.{Span}
 use Rattle.t_text.specs.declared.token.Kind.{Kind}
 use Rattle.t_text.specs.declared.token.Kind.TheVariants as k
@@ -22,20 +22,13 @@ use Rattle.t_shapes.specs.declared.raw.RawData.{RawData}
 use Rattle.t_shapes.specs.declared.raw.RawItem.{RawItem}
 use Rattle.t_shapes.specs.declared.raw.RawItem.TheVariants as It
 
--- whether a value may begin with a token of this kind that is no package
-abbrev pub is_base : Kind → Bool
-is_base (k.Register r) = true
-is_base (k.Plain z) = true
-is_base (k.Negative z) = true
-is_base k.Name = true
-is_base _ = false
-
--- whether the value of a data field may begin with it, where it is no package
-abbrev pub is_word_base : Kind → Bool
-is_word_base (k.Plain z) = true
-is_word_base (k.Negative z) = true
-is_word_base k.Name = true
-is_word_base _ = false
+-- whether a value, of data or not, may begin with a token of this kind that is no package
+abbrev pub is_base : Bool → Kind → Bool
+is_base of_data (k.Register r) = not of_data
+is_base of_data (k.Plain z) = true
+is_base of_data (k.Negative z) = true
+is_base of_data k.Name = true
+is_base of_data _ = false
 
 abbrev pub raw_base : RawBase → tree.RawBase
 raw_base (B.Reg r) = RReg r

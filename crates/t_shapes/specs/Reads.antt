@@ -19,7 +19,7 @@ use Rattle.t_text.specs.GrammarTable.{LMoreItems, header_after, MakeBnz, MakeLd,
 use Rattle.t_text.specs.GrammarTable.{MakeUnpack, MakeNoSteps, MakeFirstBlock, MakeNoItems, arith_owed, blocks_owed}
 use Rattle.t_text.specs.GrammarTable.{items_owed, instr_after, OfToken, OfType, OfStep, OfSteps, OfFile, OfNames}
 use Rattle.t_text.specs.GrammarTable.{OfBlocks, OfList, OfIndex, OfAt, OfTarget, OfPlace, OfReg, OfValue, OfPacked}
-use Rattle.t_text.specs.GrammarTable.{OfEnd, OfBlock, OfWord, OfTuple, OfItem, OfItems}
+use Rattle.t_text.specs.GrammarTable.{OfEnd, OfBlock, OfWord, OfTuple, OfItem, OfItems, Val}
 use Rattle.t_shapes.specs.RawTypes.{raw, raw_file}
 use Rattle.t_shapes.specs.ReadsTypes.{ReadsOwed, Fails, IsLine}
 use Rattle.t_shapes.specs.declared.cursor.Stopped.{Stopped}
@@ -37,7 +37,6 @@ use Rattle.t_shapes.specs.declared.ends.FoundEnd.{FoundEnd}
 use Rattle.t_shapes.specs.declared.heads.FoundHead.{FoundHead}
 use Rattle.t_shapes.specs.declared.blocks.FoundSteps.{FoundSteps}
 use Rattle.t_shapes.specs.declared.blocks.FoundBlock.{FoundBlock}
-use Rattle.t_shapes.specs.declared.words.FoundWord.{FoundWord}
 use Rattle.t_shapes.specs.declared.data.FoundTuple.{FoundTuple}
 use Rattle.t_shapes.specs.declared.data.FoundDatum.{FoundDatum}
 use Rattle.t_shapes.specs.declared.items.FoundItem.{FoundItem}
@@ -225,13 +224,26 @@ IsTypeList ts d i r = IsTypesLine LTypeList ts d i r
 abbrev pub IsSomeTypes : List Token → ℕ → ℕ → Result FoundTypes Stopped → Type 0
 IsSomeTypes ts d i r = IsTypesLine LSomeTypes ts d i r
 
--- a value, and the brackets of a package
-abbrev pub IsValue : List Token → ℕ → ℕ → Result FoundValue Stopped → Type 0
-IsValue ts d i r = IsLine LV (λ f. f.next) (λ f. OfValue (ending (raw_value f.value) f.end)) ts d i r
+-- the lines of a value and of the brackets of a package, and what is made of a value, of data or not
+abbrev pub value_line : Bool → Line
+value_line false = LV
+value_line true = LW
 
-abbrev pub IsPacked : List Token → ℕ → ℕ → Result FoundPacked Stopped → Type 0
-IsPacked ts d i r =
-    IsLine LPacked (λ f. f.next) (λ f. OfPacked (record { hidden = raw f.hidden; inner = raw_value f.inner })) ts d i r
+abbrev pub packed_line : Bool → Line
+packed_line false = LPacked
+packed_line true = LWordPacked
+
+abbrev pub of_value : Bool → tree.RawValue → Span → Val
+of_value false v place = OfValue (ending v place.end)
+of_value true v place = OfWord (v, place)
+
+abbrev pub IsValue : Bool → List Token → ℕ → ℕ → Result FoundValue Stopped → Type 0
+IsValue b ts d i r = IsLine (value_line b) (λ f. f.next) (λ f. of_value b (raw_value f.value) f.place) ts d i r
+
+abbrev pub IsPacked : Bool → List Token → ℕ → ℕ → Result FoundPacked Stopped → Type 0
+IsPacked b ts d i r =
+    IsLine (packed_line b) (λ f. f.next)
+    (λ f. OfPacked (record { hidden = raw f.hidden; inner = raw_value f.inner })) ts d i r
 
 -- [ n ]
 abbrev pub IsIndex : List Token → ℕ → Result FoundIndex Stopped → Type 0
@@ -276,15 +288,6 @@ IsBlock ts i r = IsLine LBlock (λ f. f.next) (λ f. OfBlock (raw_block f.block)
 
 abbrev pub IsCode : List Token → ℕ → Span → Result FoundBlock Stopped → Type 0
 IsCode ts i name r = MatchResult r (λ f. ReadsCode ts i name f) (λ e. Fails ts 0 i code_parts [] e)
-
--- the value of a data field, and the brackets of a package in it
-abbrev pub IsWord : List Token → ℕ → ℕ → Result FoundWord Stopped → Type 0
-IsWord ts d i r = IsLine LW (λ f. f.next) (λ f. OfWord (raw_value f.value, f.place)) ts d i r
-
-abbrev pub IsWordPacked : List Token → ℕ → ℕ → Result FoundPacked Stopped → Type 0
-IsWordPacked ts d i r =
-    IsLine LWordPacked (λ f. f.next)
-    (λ f. OfPacked (record { hidden = raw f.hidden; inner = raw_value f.inner })) ts d i r
 
 -- a field of a data tuple; a data tuple, and one after its opening bracket
 abbrev pub IsDatum : List Token → ℕ → Result FoundDatum Stopped → Type 0

@@ -4,7 +4,7 @@ ghost use Rattle.t_shapes.specs.Reads.{IsTuple, AreDatums, IsDatum};
 ghost use Rattle.t_text.specs.Kept.{tokens_of};
 
 use crate::raw::RawDatum;
-use crate::words::word;
+use crate::values::value;
 use crate::{Stopped, expect, peek, take, whole_type};
 use std::alloc::Global;
 use t_text::{Kind, Tokens, Wanted};
@@ -70,7 +70,7 @@ fn datum(alloc: Global, tokens: &Tokens, at: usize) -> Result<FoundDatum, Stoppe
     requires { at ≤ length (tokens_of tokens.now) }
     ensures { IsDatum (tokens_of tokens.now) at result }
 {
-    let word = word(alloc, tokens, at, 1)?;
+    let word = value(alloc, tokens, at, 1, true)?;
     expect(tokens, word.next, Wanted::Colon)?;
     let found = whole_type(alloc, tokens, word.next + 1, 1)?;
     Ok(FoundDatum {

@@ -31,9 +31,9 @@ pub fn end(alloc: Global, tokens: &Tokens, at: usize) -> Result<FoundEnd, Stoppe
     let next = at + 1;
     match word.kind {
         Kind::Jmp => {
-            let target = value(alloc, tokens, next, 0)?;
+            let target = value(alloc, tokens, next, 0, false)?;
             Ok(FoundEnd {
-                last: (RawEnd::Jmp(target.value), up_to(word, target.end)),
+                last: (RawEnd::Jmp(target.value), up_to(word, target.place.end)),
                 next: target.next,
             })
         }

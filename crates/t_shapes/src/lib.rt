@@ -17,7 +17,6 @@ mod turns;
 mod types;
 mod values;
 mod whole;
-mod words;
 
 pub use cursor::{
     MOST_OPEN, Stopped, expect, expect_index, expect_register, expect_two, opened, peek, take,

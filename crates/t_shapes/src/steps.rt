@@ -45,11 +45,11 @@ fn arith(
 {
     let rd = operand(tokens, at)?;
     let rs = operand(tokens, at + 2)?;
-    let found = value(alloc, tokens, at + 4, 0)?;
+    let found = value(alloc, tokens, at + 4, 0, false)?;
     Ok(FoundStep {
         step: (
             RawInstr::Arith(op, rd, rs, found.value),
-            up_to(word, found.end),
+            up_to(word, found.place.end),
         ),
         next: found.next,
     })
@@ -61,9 +61,12 @@ fn bnz(alloc: Global, tokens: &Tokens, at: usize, word: Token) -> Result<FoundSt
     ensures { IsRest bnz_left (tokens_of tokens.now) at word result }
 {
     let reg = operand(tokens, at)?;
-    let found = value(alloc, tokens, at + 2, 0)?;
+    let found = value(alloc, tokens, at + 2, 0, false)?;
     Ok(FoundStep {
-        step: (RawInstr::Bnz(reg, found.value), up_to(word, found.end)),
+        step: (
+            RawInstr::Bnz(reg, found.value),
+            up_to(word, found.place.end),
+        ),
         next: found.next,
     })
 }
@@ -74,9 +77,12 @@ fn mov(alloc: Global, tokens: &Tokens, at: usize, word: Token) -> Result<FoundSt
     ensures { IsRest mov_left (tokens_of tokens.now) at word result }
 {
     let reg = operand(tokens, at)?;
-    let found = value(alloc, tokens, at + 2, 0)?;
+    let found = value(alloc, tokens, at + 2, 0, false)?;
     Ok(FoundStep {
-        step: (RawInstr::Mov(reg, found.value), up_to(word, found.end)),
+        step: (
+            RawInstr::Mov(reg, found.value),
+            up_to(word, found.place.end),
+        ),
         next: found.next,
     })
 }
@@ -134,11 +140,11 @@ fn unpack(alloc: Global, tokens: &Tokens, at: usize, word: Token) -> Result<Foun
 {
     let to = target(tokens, at)?;
     expect(tokens, at + 5, Wanted::Comma)?;
-    let found = value(alloc, tokens, at + 6, 0)?;
+    let found = value(alloc, tokens, at + 6, 0, false)?;
     Ok(FoundStep {
         step: (
             RawInstr::Unpack(to.name, to.reg, found.value),
-            up_to(word, found.end),
+            up_to(word, found.place.end),
         ),
         next: found.next,
     })

@@ -1,5 +1,5 @@
-// The reading of values.
-ghost use Rattle.std.specs.Prelude.{◌≡◌, ◌≤◌, length, slice_get, Some, true, false, MatchOption, MatchResult};
+// The reading of values: those of instructions, and those of data, which name no registers.
+ghost use Rattle.std.specs.Prelude.{◌≡◌, ◌≤◌, length, slice_get, Some, Bool, true, false, MatchOption, MatchResult};
 ghost use Rattle.t_text.specs.Raw.{RPack};
 ghost use Rattle.t_text.specs.GrammarTable.{base_of};
 ghost use Rattle.t_text.specs.Text.{most_open};
@@ -11,15 +11,17 @@ ghost use Rattle.t_text.specs.Kept.{tokens_of};
 
 use crate::lists::some_types;
 use crate::raw::{RawBase, RawPack, RawValue};
+use crate::steps::up_to;
 use crate::{RawType, Stopped, expect, opened, peek, take, whole_type};
+use idx_core::Span;
 use std::alloc::Global;
 use t_text::{Kind, Token, Tokens, Wanted};
 
-/// A value that was read, the end of its last token, and the number of the token after it.
+/// A value that was read, its place, and the number of the token after it.
 #[derive(Drop)]
 pub struct FoundValue {
     pub value: RawValue,
-    pub end: u64,
+    pub place: Span,
     pub next: usize,
 }
 
@@ -31,14 +33,28 @@ pub struct FoundPacked {
     pub next: usize,
 }
 
-// N ::= reg | number | label
+// A base that was read: the number of its token, the token, and what it names.
+#[derive(Clone, Copy, Drop)]
+struct First {
+    at: usize,
+    token: Token,
+    base: RawBase,
+}
+
+// N ::= reg | number | label, and of data Q ::= number | label
 #[inline(always)]
-fn base(token: Token) -> Option<RawBase>
-    ensures { MatchOption result (is_base token.kind ≡ false)
-        (λ b. (is_base token.kind ≡ true) × (raw_base b ≡ base_of token.kind token.span)) }
+fn base(token: Token, of_data: bool) -> Option<RawBase>
+    ensures { MatchOption result (is_base of_data token.kind ≡ false)
+        (λ b. (is_base of_data token.kind ≡ true) × (raw_base b ≡ base_of token.kind token.span)) }
 {
     match token.kind {
-        Kind::Register(number) => Some(RawBase::Reg(number)),
+        Kind::Register(number) => {
+            if of_data {
+                None
+            } else {
+                Some(RawBase::Reg(number))
+            }
+        }
         Kind::Plain(value) => Some(RawBase::Num(value)),
         Kind::Negative(value) => Some(RawBase::Num(value)),
         Kind::Name => Some(RawBase::Label(token.span)),
@@ -67,66 +83,64 @@ pub fn package(
     )?))
 }
 
-// N | N [ T , .. , T ], where the base is the token at a place
+// N | N [ T , .. , T ]
 #[inline(always)]
-fn plain(
-    alloc: Global,
-    tokens: &Tokens,
-    at: usize,
-    depth: u64,
-    token: Token,
-    base: RawBase,
-) -> Result<FoundValue, Stopped>
+fn plain(alloc: Global, tokens: &Tokens, first: First, depth: u64) -> Result<FoundValue, Stopped>
     requires depth { depth ≤ most_open }
-    requires token { slice_get (tokens_of tokens.now) at ≡ Some token }
-    requires kind { is_base token.kind ≡ true }
-    requires base { raw_base base ≡ base_of token.kind token.span }
-    ensures { IsValue (tokens_of tokens.now) depth at result }
+    requires token { slice_get (tokens_of tokens.now) first.at ≡ Some first.token }
+    requires base { raw_base first.base ≡ base_of first.token.kind first.token.span }
+    ensures { (of_data : Bool) → is_base of_data first.token.kind ≡ true →
+        IsValue of_data (tokens_of tokens.now) depth first.at result }
 {
-    let next = at + 1;
+    let next = first.at + 1;
     match take(tokens, next, Wanted::LeftBracket) {
         None => Ok(FoundValue {
-            value: RawValue::Plain(base, Vec::new(alloc)),
-            end: token.span.end,
+            value: RawValue::Plain(first.base, Vec::new(alloc)),
+            place: first.token.span,
             next,
         }),
         Some(_) => {
             let inner = opened(next, depth)?;
             let found = some_types(alloc, tokens, next + 1, inner)?;
             Ok(FoundValue {
-                value: RawValue::Plain(base, found.types),
-                end: found.end,
+                value: RawValue::Plain(first.base, found.types),
+                place: up_to(first.token, found.end),
                 next: found.next,
             })
         }
     }
 }
 
-/// V ::= N | N [ T , .. , T ] | pack [ T , V ] as T
+/// V ::= N | N [ T , .. , T ] | pack [ T , V ] as T, and so is a value of data.
 #[cycle(values)]
 #[inline(always)]
-pub fn value(alloc: Global, tokens: &Tokens, at: usize, depth: u64) -> Result<FoundValue, Stopped>
+pub fn value(
+    alloc: Global,
+    tokens: &Tokens,
+    at: usize,
+    depth: u64,
+    of_data: bool,
+) -> Result<FoundValue, Stopped>
     requires depth { depth ≤ most_open }
     requires at { at ≤ length (tokens_of tokens.now) }
-    ensures { IsValue (tokens_of tokens.now) depth at result }
+    ensures { IsValue of_data (tokens_of tokens.now) depth at result }
 {
     let token = match peek(tokens, at) {
         Some(token) => token,
         None => return Err(Stopped::Unexpected(at)),
     };
-    if let Some(base) = base(token) {
-        let found = plain(alloc, tokens, at, depth, token, base)?;
-        return Ok(found);
+    if let Some(base) = base(token, of_data) {
+        return plain(alloc, tokens, First { at, token, base }, depth);
     }
     match token.kind {
         Kind::Pack => {
-            let packed = packed(alloc, tokens, at + 1, depth)?;
+            let packed = packed(alloc, tokens, at + 1, depth, of_data)?;
             expect(tokens, packed.next, Wanted::As)?;
             let shape = whole_type(alloc, tokens, packed.next + 1, depth)?;
             let value = package(alloc, packed.hidden, packed.inner, shape.ty)?;
             Ok(FoundValue {
                 value,
-                end: shape.end,
+                place: up_to(token, shape.end),
                 next: shape.next,
             })
         }
@@ -136,16 +150,22 @@ pub fn value(alloc: Global, tokens: &Tokens, at: usize, depth: u64) -> Result<Fo
 
 // [ T , V ]
 #[cycle(values)]
-fn packed(alloc: Global, tokens: &Tokens, at: usize, depth: u64) -> Result<FoundPacked, Stopped>
+fn packed(
+    alloc: Global,
+    tokens: &Tokens,
+    at: usize,
+    depth: u64,
+    of_data: bool,
+) -> Result<FoundPacked, Stopped>
     requires depth { depth ≤ most_open }
     requires at { at ≤ length (tokens_of tokens.now) }
-    ensures { IsPacked (tokens_of tokens.now) depth at result }
+    ensures { IsPacked of_data (tokens_of tokens.now) depth at result }
 {
     expect(tokens, at, Wanted::LeftBracket)?;
     let inner = opened(at, depth)?;
     let hidden = whole_type(alloc, tokens, at + 1, inner)?;
     expect(tokens, hidden.next, Wanted::Comma)?;
-    let found = value(alloc, tokens, hidden.next + 1, inner)?;
+    let found = value(alloc, tokens, hidden.next + 1, inner, of_data)?;
     expect(tokens, found.next, Wanted::RightBracket)?;
     Ok(FoundPacked {
         hidden: hidden.ty,

@@ -101,29 +101,19 @@ or_zero None = Num (pos 0)
 or_zero (Some c) = c
 
 abbrev pub is_pack : AVal → Bool
-is_pack (Var n) = false
-is_pack (Num i) = false
-is_pack (Lab l) = false
-is_pack (Data n) = false
 is_pack (Apply v ts) = is_pack v
 is_pack (Pack h v s) = true
+is_pack _ = false
 
 -- a pack, or a variable that names one
 abbrev pub packs : List Known → HVal → Bool
 packs ls (HVar i) = is_pack (or_zero (named (slice_get ls i)))
-packs ls (HInt n) = false
-packs ls (HLabel l) = false
-packs ls (HTuple vs) = false
-packs ls (HApply v ts) = false
 packs ls (HPack h v s) = true
+packs ls _ = false
 
 abbrev pub is_label : HVal → Bool
-is_label (HVar i) = false
-is_label (HInt n) = false
 is_label (HLabel l) = true
-is_label (HTuple vs) = false
-is_label (HApply v ts) = false
-is_label (HPack h v s) = false
+is_label _ = false
 
 -- what counts as a constant: an integer; a label, alone or applied to closed types; a variable with a constant behind
 -- it; a tuple that holds only constants; a pack with closed types whose content is a constant, and neither a pack nor a
@@ -305,12 +295,7 @@ dcl ls b d (HSet v w) = Malloc NoATys
 -- the constant that a declaration names
 abbrev pub d_const : List Known → ℕ → HDecl → Option AVal
 d_const ls b (HName v) = pick (is_const ls v) (Some (const_of ls b v)) None
-d_const ls b (HProj i v) = None
-d_const ls b (HArith op v w) = None
-d_const ls b (HUnpack v) = None
-d_const ls b (HCell v) = None
-d_const ls b (HGet v) = None
-d_const ls b (HSet v w) = None
+d_const ls b _ = None
 
 abbrev pub known_of : List Known → ℕ → ℕ → HDecl → Known
 known_of ls b d e = record { level = d_next ls d e; constant = d_const ls b e }

@@ -8,8 +8,8 @@ use Rattle.a_terms.specs.Tree.{ABlk, AConsts, AProg, ACode, AExists, AFields, AI
 use Rattle.a_terms.specs.Tree.{Apply, Arith, Call, Data, Halt, If0, Init, Lab, Let, Malloc, MoreAFields, MoreATys}
 use Rattle.a_terms.specs.Tree.{NoAFields, NoATys, Num, Pack, Proj, Unpack, Value, Var}
 use Rattle.c_terms.specs.C.{CTy, CTys, MoreCTys, NoCTys, TCCode, TCInt, TCRef, TCExists, TCTuple, TCVar}
-use Rattle.h_terms.specs.H.{HApply, HArith, HBlk, HBlks, HCall, HCell, HDecl, HGet, HHalt, HIf, HInt, HLabel, HLet}
-use Rattle.h_terms.specs.H.{HName, HPack, HProj, HSet, HTm, HTuple, HUnpack, HVal, HVals, HVar, MoreHVals, NoHVals}
+use Rattle.h_terms.specs.H.{HApply, HArith, HBlk, HBlks, HCall, HDecl, HHalt, HIf, HInt, HLabel, HLet}
+use Rattle.h_terms.specs.H.{HName, HPack, HProj, HTm, HTuple, HUnpack, HVal, HVals, HVar, MoreHVals, NoHVals}
 
 -- a type without its flags
 abbrev mutual
@@ -125,12 +125,10 @@ abbrev mutual
 -- no cell in a term, and no reference in the types that are written in it
 abbrev mutual
   pub NoCell_v : HVal → Type 0
-  NoCell_v (HVar i) = Unit {0}
-  NoCell_v (HInt n) = Unit {0}
-  NoCell_v (HLabel l) = Unit {0}
   NoCell_v (HTuple vs) = NoCell_vs vs
   NoCell_v (HApply v ts) = NoCell_v v × NoRefs ts
   NoCell_v (HPack h v s) = NoRef h × NoCell_v v × NoRef s
+  NoCell_v _ = Unit {0}
 
   pub NoCell_vs : HVals → Type 0
   NoCell_vs NoHVals = Unit {0}
@@ -141,9 +139,7 @@ NoCell_d (HName v) = NoCell_v v
 NoCell_d (HProj i v) = NoCell_v v
 NoCell_d (HArith op v w) = NoCell_v v × NoCell_v w
 NoCell_d (HUnpack v) = NoCell_v v
-NoCell_d (HCell v) = ⊥
-NoCell_d (HGet v) = ⊥
-NoCell_d (HSet v w) = ⊥
+NoCell_d _ = ⊥
 
 abbrev pub NoCell_t : HTm → Type 0
 NoCell_t (HLet e t) = NoCell_d e × NoCell_t t

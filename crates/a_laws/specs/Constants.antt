@@ -18,12 +18,8 @@ constant_at (o ∷ os) zero = o
 constant_at (o ∷ os) (suc i) = constant_at os i
 
 abbrev pub is_package : HVal → Bool
-is_package (HVar i) = false
-is_package (HInt n) = false
-is_package (HLabel l) = false
-is_package (HTuple vs) = false
-is_package (HApply v ts) = false
 is_package (HPack h v s) = true
+is_package _ = false
 
 -- a package of a constant, which is one where its types are closed and no package is in it directly
 abbrev pub packed : CTy → CTy → Option HVal → Option HVal
@@ -53,12 +49,7 @@ abbrev mutual
 -- the constant that a declaration names
 abbrev pub named_by : Constants → HDecl → Option HVal
 named_by os (HName v) = constant os v
-named_by os (HProj i v) = None
-named_by os (HArith op v w) = None
-named_by os (HUnpack v) = None
-named_by os (HCell v) = None
-named_by os (HGet v) = None
-named_by os (HSet v w) = None
+named_by os _ = None
 
 -- no argument names a constant
 abbrev pub of_args : CTys → Constants → Constants
@@ -72,12 +63,10 @@ one_if (Some c) = c ∷ []
 -- the tuples of constants in order, each after those inside it
 abbrev mutual
   pub tuples_v : Constants → HVal → List HVal
-  tuples_v os (HVar i) = []
-  tuples_v os (HInt n) = []
-  tuples_v os (HLabel l) = []
   tuples_v os (HTuple vs) = tuples_vs os vs ++ one_if (constant os (HTuple vs))
   tuples_v os (HApply v ts) = tuples_v os v
   tuples_v os (HPack h v s) = tuples_v os v
+  tuples_v os _ = []
 
   pub tuples_vs : Constants → HVals → List HVal
   tuples_vs os NoHVals = []
@@ -168,12 +157,10 @@ Bare_if (Some c) vs = Bare_vs vs
 -- no variable in a tuple of constants
 abbrev mutual
   pub Plain_v : Constants → HVal → Type 0
-  Plain_v os (HVar i) = Unit {0}
-  Plain_v os (HInt n) = Unit {0}
-  Plain_v os (HLabel l) = Unit {0}
   Plain_v os (HTuple vs) = Bare_if (constant os (HTuple vs)) vs × Plain_vs os vs
   Plain_v os (HApply v ts) = Plain_v os v
   Plain_v os (HPack h v s) = Plain_v os v
+  Plain_v os _ = Unit {0}
 
   pub Plain_vs : Constants → HVals → Type 0
   Plain_vs os NoHVals = Unit {0}

@@ -1,7 +1,7 @@
 -- How many mallocs an allocated program has, and how many tuples, cells and assignments of a hoisted program ask for
 -- one.
 use Rattle.std.specs.Prelude.{◌≡◌, ℕ, suc, ◌+◌, List, [], ◌∷◌, Option, Some, None}
-use Rattle.h_terms.specs.H.{HVal, HVar, HInt, HLabel, HTuple, HApply, HPack, HVals, NoHVals, MoreHVals, HName, HProj}
+use Rattle.h_terms.specs.H.{HVal, HTuple, HApply, HPack, HVals, NoHVals, MoreHVals, HName, HProj}
 use Rattle.h_terms.specs.H.{HArith, HUnpack, HCell, HGet, HSet, HTm, HLet, HCall, HIf, HHalt, HBlks}
 use Rattle.a_terms.specs.Tree.{ATm, Let, Call, If0, Halt, Value, Proj, Arith, Unpack, Malloc, Init, ABlk, AProg}
 use Rattle.a_laws.specs.Constants.{Constants, constant, of_args}
@@ -30,12 +30,10 @@ unless_constant (Some c) n = 0
 -- how many tuples of a value are no constants, where the variables name the constants os
 abbrev mutual
   pub tuples_made : Constants → HVal → ℕ
-  tuples_made os (HVar i) = 0
-  tuples_made os (HInt n) = 0
-  tuples_made os (HLabel l) = 0
   tuples_made os (HTuple vs) = unless_constant (constant os (HTuple vs)) (all_made os vs)
   tuples_made os (HApply v ts) = tuples_made os v
   tuples_made os (HPack h v s) = tuples_made os v
+  tuples_made os _ = 0
 
   pub all_made : Constants → HVals → ℕ
   all_made os NoHVals = 0

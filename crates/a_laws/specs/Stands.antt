@@ -54,11 +54,9 @@ tuple_of Gone = []
 
 abbrev pub takes : List Thing → AVal → List Thing
 takes env (Var i) = tuple_of (thing_at env i)
-takes env (Num n) = []
-takes env (Lab l) = []
-takes env (Data n) = []
 takes env (Apply v ts) = takes env v
 takes env (Pack h v s) = takes env v
+takes env _ = []
 
 abbrev pub all_take : List Thing → List AVal → List Thing
 all_take env [] = []
@@ -165,35 +163,12 @@ Stands_t ds os (Filling fs zero taken) made env k (Let (Init v i w) e) h =
 Stands_t ds os (Filling fs (suc n) taken) made env k (Let (Init v i w) e) h =
     (y : HVal) × (v ≡ Var 0) × (i ≡ suc (length fs)) × Stands_v ds os env k w y
     × Stands_t ds os (Filling (fs ++ y ∷ []) n (taken ++ takes env w)) made (Gone ∷ env) k e h
-Stands_t ds os (Filling fs n taken) made env k (Let (Value v) e) h = ⊥
-Stands_t ds os (Filling fs n taken) made env k (Let (Proj i v) e) h = ⊥
-Stands_t ds os (Filling fs n taken) made env k (Let (Arith op v w) e) h = ⊥
-Stands_t ds os (Filling fs n taken) made env k (Let (Unpack v) e) h = ⊥
-Stands_t ds os (Filling fs n taken) made env k (Let (Malloc ts) e) h = ⊥
-Stands_t ds os (Filling fs n taken) made env k (Call v ts vs) h = ⊥
-Stands_t ds os (Filling fs n taken) made env k (If0 v a b) h = ⊥
-Stands_t ds os (Filling fs n taken) made env k (Halt v) h = ⊥
 Stands_t ds os Content made env k (Let (Init v i w) e) h =
     (x : HVal) × (t : HTm) × (v ≡ Var 0) × (i ≡ 1) × (h ≡ HLet (HCell x) t) × Stands_v ds os env k w x
     × (takes env w ≡ made) × Stands_t ds (None ∷ os) Any [] (Is k ∷ env) (suc k) e t
-Stands_t ds os Content made env k (Let (Value v) e) h = ⊥
-Stands_t ds os Content made env k (Let (Proj i v) e) h = ⊥
-Stands_t ds os Content made env k (Let (Arith op v w) e) h = ⊥
-Stands_t ds os Content made env k (Let (Unpack v) e) h = ⊥
-Stands_t ds os Content made env k (Let (Malloc ts) e) h = ⊥
-Stands_t ds os Content made env k (Call v ts vs) h = ⊥
-Stands_t ds os Content made env k (If0 v a b) h = ⊥
-Stands_t ds os Content made env k (Halt v) h = ⊥
 Stands_t ds os Unit_named made env k (Let (Malloc ts) e) h =
     (ts ≡ NoATys) × Stands_t ds os Any made (Is k ∷ env) (suc k) e h
-Stands_t ds os Unit_named made env k (Let (Init v i w) e) h = ⊥
-Stands_t ds os Unit_named made env k (Let (Value v) e) h = ⊥
-Stands_t ds os Unit_named made env k (Let (Proj i v) e) h = ⊥
-Stands_t ds os Unit_named made env k (Let (Arith op v w) e) h = ⊥
-Stands_t ds os Unit_named made env k (Let (Unpack v) e) h = ⊥
-Stands_t ds os Unit_named made env k (Call v ts vs) h = ⊥
-Stands_t ds os Unit_named made env k (If0 v a b) h = ⊥
-Stands_t ds os Unit_named made env k (Halt v) h = ⊥
+Stands_t ds os _ made env k _ h = ⊥
 
 -- the arguments of a block are its first variables
 abbrev pub arg_things : ℕ → List Thing → ATys → List Thing

@@ -22,11 +22,8 @@ abbrev mutual
 
 -- whether a type is the variable i
 abbrev pub is_variable : ℕ → ATy → Bool
-is_variable i AInt = false
 is_variable i (AVar j) = nat_eq j i
-is_variable i (ATuple fields) = false
-is_variable i (ACode owes args) = false
-is_variable i (AExists t) = false
+is_variable i _ = false
 
 -- whether the first of the types is the variable i, which the others don't name
 abbrev pub is_first : ℕ → ATys → Bool
@@ -35,11 +32,8 @@ is_first i (MoreATys t ts) = is_variable i t && not (names_types i ts)
 
 -- whether a type is code that takes the variable next to it first, and names it nowhere else
 abbrev pub takes_hidden : ATy → Bool
-takes_hidden AInt = false
-takes_hidden (AVar j) = false
-takes_hidden (ATuple fields) = false
 takes_hidden (ACode owes args) = is_first owes args
-takes_hidden (AExists t) = false
+takes_hidden _ = false
 
 -- whether it is one field, initialised, of the type that is hidden
 abbrev pub is_hidden : AFields → Bool
@@ -54,8 +48,5 @@ are_of_closure (MoreAFields t flag fields) = flag && (takes_hidden t && is_hidde
 
 -- whether the package of this type is a closure
 abbrev pub is_of_closure : ATy → Bool
-is_of_closure AInt = false
-is_of_closure (AVar j) = false
 is_of_closure (ATuple fields) = are_of_closure fields
-is_of_closure (ACode owes args) = false
-is_of_closure (AExists t) = false
+is_of_closure _ = false

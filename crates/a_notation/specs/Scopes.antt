@@ -62,15 +62,8 @@ branch second s = record { types = s.types; names = s.names; level = s.level + 1
 
 -- the scopes of the terms below a node that declares nothing
 abbrev pub below : AForm → Scope → List Scope
-below Value s = []
-below (Proj i) s = []
-below (Arith o) s = []
-below Unpack s = []
-below (Malloc us) s = []
-below (Init i) s = []
-below (Call us) s = []
 below If0 s = branch false s ∷ (branch true s ∷ [])
-below Halt s = []
+below _ s = []
 
 -- what one node does in a scope, above others, where `build` makes its term and the terms behind it of those behind it
 pub record Stepped (b : Bool) (p : AProg) (s : Scope) (build : List ATm → List ATm) (kids : ℕ) (es fs : List Entry)

@@ -40,22 +40,16 @@ abbrev mutual
   -- of a closure inside n type names, that of its environment among them: the names of the types that its code owes,
   -- and the arguments but the environment
   pub closure_text : ℕ → ATy → List ℕ
-  closure_text n AInt = []
-  closure_text n (AVar i) = []
   closure_text n (ATuple fields) = first_text n fields
-  closure_text n (ACode owes args) = []
-  closure_text n (AExists t) = []
+  closure_text n _ = []
 
   pub first_text : ℕ → AFields → List ℕ
   first_text n NoAFields = []
   first_text n (MoreAFields t flag fields) = code_text n t
 
   pub code_text : ℕ → ATy → List ℕ
-  code_text n AInt = []
-  code_text n (AVar i) = []
-  code_text n (ATuple fields) = []
   code_text n (ACode owes args) = type_names n owes ++ (codes "(" ++ (others_text (n + owes) args ++ codes ")"))
-  code_text n (AExists t) = []
+  code_text n _ = []
 
   -- all types but the first
   pub others_text : ℕ → ATys → List ℕ

@@ -114,12 +114,8 @@ all_constants ls (s ∷ ss) = is_some (constant_in ls s) && all_constants ls ss
 
 -- a label alone
 abbrev pub is_bare : a.AVal → Bool
-is_bare (a.Var n) = false
-is_bare (a.Num i) = false
 is_bare (a.Lab l) = true
-is_bare (a.Data n) = false
-is_bare (a.Apply v ts) = false
-is_bare (a.Pack h v s) = false
+is_bare _ = false
 
 -- what is applied to types, if it is a constant then
 abbrev pub of_apply : a.ATys → a.AVal → Option a.AVal

@@ -46,16 +46,12 @@ pub data Made : Type 0 where
   Fails : Made
 
 abbrev pub number : Option AWord → (ℤ → Made) → Made
-number None go = Fails
 number (Some (ZInt i)) go = go i
-number (Some (ZTuple a)) go = Fails
-number (Some (ZLabel l)) go = Fails
+number _ go = Fails
 
 abbrev pub address : Option AWord → (ℕ → Made) → Made
-address None go = Fails
-address (Some (ZInt i)) go = Fails
 address (Some (ZTuple a)) go = go a
-address (Some (ZLabel l)) go = Fails
+address _ go = Fails
 
 abbrev pub given : {A : Type 0} → Option A → (A → Made) → Made
 given None go = Fails

@@ -1,7 +1,7 @@
 -- How large a program is: the names and the arguments around a place of a type, and what a term needs of them.
 use Rattle.std.specs.Prelude.{ℕ, suc, ◌+◌, ◌*◌, ◌≤◌, max, List, [], ◌∷◌, length}
 use Rattle.a_terms.specs.Tree.{ATy, AInt, AVar, ATuple, ACode, AExists, ATys, NoATys, MoreATys, AFields, NoAFields}
-use Rattle.a_terms.specs.Tree.{MoreAFields, AVal, Var, Num, Lab, Data, Apply, Pack, ADecl, Value, Proj, Arith, Unpack}
+use Rattle.a_terms.specs.Tree.{MoreAFields, AVal, Data, Apply, Pack, ADecl, Value, Proj, Arith, Unpack}
 use Rattle.a_terms.specs.Tree.{Malloc, Init, ATm, Let, Call, If0, Halt, ABlk, AConsts, AProg, arity}
 
 -- the greatest sum of names and numbers of arguments around a place
@@ -27,12 +27,9 @@ bulk_sum (MoreATys t ts) = bulk t + bulk_sum ts
 
 -- of the types that a value is written with
 abbrev pub value_weight : AVal → ℕ
-value_weight (Var n) = 0
-value_weight (Num i) = 0
-value_weight (Lab l) = 0
-value_weight (Data n) = 0
 value_weight (Apply v ts) = value_weight v + bulk_sum ts
 value_weight (Pack h v s) = bulk h + (value_weight v + bulk s)
+value_weight _ = 0
 
 abbrev pub values_weight : List AVal → ℕ
 values_weight [] = 0

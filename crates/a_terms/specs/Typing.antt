@@ -8,12 +8,8 @@ use Rattle.a_terms.specs.Tree.{aput_types, ABelow, ABelow-types}
 -- code applied to types, the first name first
 abbrev pub aapply : ATy → ATys → Option ATy
 aapply s NoATys = Some s
-aapply AInt (MoreATys t ts) = None
-aapply (AVar n) (MoreATys t ts) = None
-aapply (ATuple fs) (MoreATys t ts) = None
-aapply (ACode zero us) (MoreATys t ts) = None
 aapply (ACode (suc n) us) (MoreATys t ts) = aapply (ACode n (aput_types n (ashift n 0 t) us)) ts
-aapply (AExists u) (MoreATys t ts) = None
+aapply _ _ = None
 
 abbrev pub afield_type : AFields → ℕ → Option ATy
 afield_type NoAFields i = None
@@ -67,13 +63,10 @@ type_of p g (Pack h v s) = Some s
 
 -- what a value's typing checks besides
 abbrev pub Fine : AProg → ℕ → List ATy → AVal → Type 0
-Fine p k g (Var n) = Unit {0}
-Fine p k g (Num i) = Unit {0}
-Fine p k g (Lab l) = Unit {0}
-Fine p k g (Data n) = Unit {0}
 Fine p k g (Apply v ts) = Fine p k g v × ABelow-types k ts
 Fine p k g (Pack h v s) =
     (u : ATy) × Fine p k g v × ABelow k h × ABelow k s × (s ≡ AExists u) × (type_of p g v ≡ Some (aput 0 h u))
+Fine p k g _ = Unit {0}
 
 -- under k type variables
 pub record Has (p : AProg) (k : ℕ) (g : List ATy) (v : AVal) (t : ATy) : Type 0 where
@@ -165,21 +158,15 @@ TypedBlocks p (b ∷ bs) = (ABelow-types b.owes b.args × TypedTerm p b.owes (ty
 
 -- no pack in it
 abbrev pub Unpacked : AVal → Type 0
-Unpacked (Var n) = Unit {0}
-Unpacked (Num i) = Unit {0}
-Unpacked (Lab l) = Unit {0}
-Unpacked (Data n) = Unit {0}
 Unpacked (Apply v ts) = Unpacked v
 Unpacked (Pack h v s) = ⊥
+Unpacked _ = Unit {0}
 
 -- no pack inside a pack
 abbrev pub Flat : AVal → Type 0
-Flat (Var n) = Unit {0}
-Flat (Num i) = Unit {0}
-Flat (Lab l) = Unit {0}
-Flat (Data n) = Unit {0}
 Flat (Apply v ts) = Flat v
 Flat (Pack h v s) = Unpacked v
+Flat _ = Unit {0}
 
 -- a data tuple's values are typed where neither variables nor type variables are in scope
 abbrev pub TypedConst : AProg → AConst → Type 0

@@ -36,13 +36,8 @@ abbrev mutual
 -- the first name's type first
 abbrev pub capply : CTy → CTys → Option CTy
 capply t NoCTys = Some t
-capply TCInt (MoreCTys u us) = None
-capply (TCVar i) (MoreCTys u us) = None
-capply (TCTuple ts) (MoreCTys u us) = None
-capply (TCExists t) (MoreCTys u us) = None
-capply (TCRef t) (MoreCTys u us) = None
-capply (TCCode zero args) (MoreCTys u us) = None
 capply (TCCode (suc n) args) (MoreCTys u us) = capply (TCCode n (cputs n (cren (lift n) u) args)) us
+capply _ _ = None
 
 -- types put one after the other are put at once
 abbrev pub OneByOne : Type 0

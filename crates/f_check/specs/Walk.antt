@@ -140,27 +140,15 @@ all_nodes f [] = 0
 all_nodes f (k ∷ ks) = nodes (plain (node_at f k)) + all_nodes f ks
 
 abbrev pub rest_of : Frame → List ℕ
-rest_of (C.Fix x) = []
 rest_of (C.Function s x) = x ∷ []
-rest_of (C.Argument s a r) = []
-rest_of (C.Gen s) = []
-rest_of (C.Inst s a) = []
 rest_of (C.Fields s ts rest) = rest.now
-rest_of (C.Proj s i) = []
 rest_of (C.Left s b) = b ∷ []
-rest_of (C.Right s) = []
 rest_of (C.Test s a b) = a ∷ b ∷ []
 rest_of (C.Zero s b) = b ∷ []
-rest_of (C.Other s z) = []
 rest_of (C.Let s b) = b ∷ []
-rest_of (C.Body s) = []
-rest_of (C.Pack p) = []
 rest_of (C.Open s b) = b ∷ []
-rest_of (C.Opened s) = []
-rest_of (C.Ref s) = []
-rest_of (C.Deref s) = []
 rest_of (C.Target s b) = b ∷ []
-rest_of (C.Assigned s u) = []
+rest_of _ = []
 
 abbrev pub frame_work : FTerm → Frame → ℕ
 frame_work f fr = 1 + 2 * all_nodes f (rest_of fr)

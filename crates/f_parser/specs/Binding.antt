@@ -113,11 +113,9 @@ DoAll text (t ∷ tds) v a ts us = (ms : List Tm) × Does text t v a ts ms
 abbrev pub uses_of : List ℕ → Todo → List Name → List Name → List Use
 uses_of text (Bind e) v a = uses text v a e
 uses_of text (BindAll es) v a = all_uses text v a es
-uses_of text (NameIt n) v a = []
-uses_of text (NameBoth t n) v a = []
 uses_of text (UseAt s t) v a = type_uses text a t
 uses_of text (PackAt s h t) v a = type_uses text a t
-uses_of text (Put s step names) v a = []
+uses_of text _ v a = []
 
 abbrev pub uses_left : List ℕ → List Todo → List Name → List Name → List Use
 uses_left text [] v a = []

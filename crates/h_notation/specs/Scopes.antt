@@ -66,16 +66,8 @@ branch second s = record { types = s.types; names = s.names; level = s.level + 1
 
 -- the scopes of the terms below a node that declares nothing
 abbrev pub below : HForm → Scope → List Scope
-below H.Name s = []
-below (H.Proj i) s = []
-below (H.Arith o) s = []
-below H.Unpack s = []
-below H.Cell s = []
-below H.Get s = []
-below H.Set s = []
-below (H.Call us) s = []
 below H.If0 s = branch false s ∷ (branch true s ∷ [])
-below H.Halt s = []
+below _ s = []
 
 -- a declaration before terms
 abbrev pub h_let : HDecl → List HTm → List HTm

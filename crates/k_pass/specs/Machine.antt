@@ -271,34 +271,18 @@ ResumeIs t w w' (Some c') = Steps t w C.Ended w' c'
 -- the numbers of nodes that are kept are less than m
 abbrev pub FrameIn : ℕ → Frame → Type 0
 FrameIn m (F.Fun x ty) = x < m
-FrameIn m (F.Arg f ty) = Unit {0}
-FrameIn m (F.Inst arg ty) = Unit {0}
 FrameIn m (F.Left op b) = b < m
-FrameIn m (F.Right op a) = Unit {0}
-FrameIn m (F.Proj i ty) = Unit {0}
 FrameIn m (F.Fields rest done ty) = All (λ i. i < m) rest.now
-FrameIn m (F.Tail l) = Unit {0}
 FrameIn m (F.Test a b l) = (a < m) × (b < m)
 FrameIn m (F.Let b) = b < m
 FrameIn m (F.Open b ty) = b < m
-FrameIn m F.Leave = Unit {0}
-FrameIn m F.LeaveType = Unit {0}
-FrameIn m (F.Pack h ty) = Unit {0}
-FrameIn m (F.Ref ty) = Unit {0}
-FrameIn m (F.Deref ty) = Unit {0}
 FrameIn m (F.Cell b) = b < m
-FrameIn m (F.Set a) = Unit {0}
+FrameIn m _ = Unit {0}
 
 abbrev pub PendingIn : ℕ → Pending → Type 0
-PendingIn m (P.Fix d tv arg res) = Unit {0}
-PendingIn m (P.Gen d tv ty) = Unit {0}
 PendingIn m (P.Other e d tv l) = e < m
 PendingIn m (P.If0 c a b d tv ty) = (c < m) × (a < m) × (b < m)
-PendingIn m P.End = Unit {0}
-PendingIn m P.Leave = Unit {0}
-PendingIn m P.LeaveType = Unit {0}
-PendingIn m (P.Enter a) = Unit {0}
-PendingIn m (P.EnterType l) = Unit {0}
+PendingIn m _ = Unit {0}
 
 abbrev pub ControlIn : ℕ → Control → Type 0
 ControlIn m (C.Walk i d) = i < m

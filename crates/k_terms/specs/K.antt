@@ -66,14 +66,8 @@ abbrev mutual
 
 -- a declaration that names a type too
 abbrev pub opens : KDecl → Bool
-opens (KName v) = false
-opens (KProj i v) = false
-opens (KArith op v w) = false
-opens (KPack h v s) = false
 opens (KUnpack v) = true
-opens (KCell v) = false
-opens (KGet v) = false
-opens (KSet v w) = false
+opens _ = false
 
 -- the types in scope under one more type variable, where there is one
 abbrev pub scope_more : Bool → List KTy → List KTy

@@ -3,7 +3,7 @@ use Rattle.std.specs.Prelude.{ℕ, ◌+◌, Bool, true, false, List, [], ◌∷�
 use Rattle.idx_core.specs.declared.arith.Op.{Op}
 use Rattle.f_terms.specs.Tm.{Term, MVar, MNum, MFix, MApp, MGen, MInst, MTuple, MProj, MArith, MIf0, MLet, MPack}
 use Rattle.f_terms.specs.Tm.{MOpen, MRef, MDeref, MAssign, Terms, NoTerms, MoreTerms}
-use Rattle.t_terms.specs.Tree.{TInstr, Arith, Bnz, Ld, Malloc, Mov, St, Unpack, TEnd, Jmp, Halt, TSeq, Then, Ends}
+use Rattle.t_terms.specs.Tree.{TInstr, Arith, Bnz, Unpack, TEnd, Jmp, Halt, TSeq, Then, Ends}
 use Rattle.t_terms.specs.Tree.{TBlock}
 
 -- the weight of each operation, of a choice, of opening a package, of a jump that ends a block, and of halting
@@ -54,11 +54,8 @@ abbrev mutual
 abbrev pub instr_weight : Weights → TInstr → ℕ
 instr_weight w (Arith op rd rs v) = w.operation op
 instr_weight w (Bnz r v) = w.choice
-instr_weight w (Ld rd rs i) = 0
-instr_weight w (Malloc rd ts) = 0
-instr_weight w (Mov rd v) = 0
-instr_weight w (St rd i rs) = 0
 instr_weight w (Unpack rd v) = w.opening
+instr_weight w _ = 0
 
 abbrev pub end_weight : Weights → TEnd → ℕ
 end_weight w (Jmp v) = w.jump

@@ -93,12 +93,9 @@ operands (Init v i w) = v ∷ w ∷ []
 
 -- a move for each package, as one inside another goes through a register
 abbrev pub packages : AVal → ℕ
-packages (Var n) = 0
-packages (Num i) = 0
-packages (Lab l) = 0
-packages (Data n) = 0
 packages (Apply v ts) = packages v
 packages (Pack h v s) = suc (packages v)
+packages _ = 0
 
 -- and one for each operand that has to be in a register
 abbrev pub most : ADecl → ℕ

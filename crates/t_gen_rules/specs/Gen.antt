@@ -44,11 +44,9 @@ reg r = T.Plain (T.Reg r) []
 -- whether variable n stands in a value
 abbrev pub uses : AVal → ℕ → Bool
 uses (Var i) n = i == n
-uses (Num i) n = false
-uses (Lab l) n = false
-uses (Data i) n = false
 uses (Apply v ts) n = uses v n
 uses (Pack h v s) n = uses v n
+uses _ n = false
 
 abbrev pub uses_any : List AVal → ℕ → Bool
 uses_any [] n = false
@@ -111,11 +109,7 @@ unnest t m (Pack h v s) rest = unnest t m v (boxed t (small t m v) rest)
 -- whether the value is what register r holds
 abbrev pub stands : ℕ → TValue → Bool
 stands r (T.Plain (T.Reg q) []) = r == q
-stands r (T.Plain (T.Reg q) (u ∷ us)) = false
-stands r (T.Plain (T.Int i) us) = false
-stands r (T.Plain (T.Label l) us) = false
-stands r (T.Plain (T.Data n) us) = false
-stands r (T.Pack h v s) = false
+stands r _ = false
 
 -- a value put into register r, unless it stands there; then the rest
 abbrev pub move : ℕ → TValue → TSeq → TSeq
@@ -161,11 +155,7 @@ first_free (suc n) r m u = cond (busy r m u) (first_free n (suc r) m u) r
 -- whether the value is variable n
 abbrev pub names : AVal → ℕ → Bool
 names (Var i) n = i == n
-names (Num i) n = false
-names (Lab l) n = false
-names (Data i) n = false
-names (Apply v ts) n = false
-names (Pack h v s) n = false
+names _ n = false
 
 -- the register of the first of these arguments that is variable n, where the first one's is j, or 0 where none is
 abbrev pub argument : ℕ → List AVal → ℕ → ℕ
@@ -243,11 +233,9 @@ tvars (suc k) = VarTy k ∷ tvars k
 -- whether the value names register r
 abbrev pub reads : ℕ → List ℕ → AVal → Bool
 reads r m (Var n) = place m n == r
-reads r m (Num i) = false
-reads r m (Lab l) = false
-reads r m (Data n) = false
 reads r m (Apply v ts) = reads r m v
 reads r m (Pack h v s) = reads r m v
+reads r m _ = false
 
 -- whether one of these arguments does, or the code
 abbrev pub later : ℕ → List ℕ → List AVal → AVal → Bool
@@ -257,11 +245,7 @@ later r m (v ∷ vs) c = reads r m v || later r m vs c
 -- whether it is a variable in that register
 abbrev pub owns : ℕ → List ℕ → AVal → Bool
 owns r m (Var n) = place m n == r
-owns r m (Num i) = false
-owns r m (Lab l) = false
-owns r m (Data n) = false
-owns r m (Apply v ts) = false
-owns r m (Pack h v s) = false
+owns r m _ = false
 
 -- register r is saved in register b, where it has to be; then the rest
 abbrev pub saved : Bool → ℕ → ℕ → TSeq → TSeq

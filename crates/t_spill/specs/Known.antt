@@ -7,7 +7,7 @@ use Rattle.t_types.specs.Read.{tree}
 use Rattle.t_types.specs.Fields.{empty_fields}
 use Rattle.t_types.specs.Fits.{lookup}
 use Rattle.t_types.specs.WellFormed.{max_names, WellFormedFile}
-use Rattle.t_terms.specs.Tree.{TBase, Reg, Int, Label, Data, TValue, Plain, Pack, TInstr, Arith, Bnz, Ld, Malloc, Mov}
+use Rattle.t_terms.specs.Tree.{TBase, Reg, TValue, Plain, Pack, TInstr, Arith, Bnz, Ld, Malloc, Mov}
 use Rattle.t_terms.specs.Tree.{St, Unpack, TEnd, Jmp, Halt, TProg}
 use Rattle.t_spill_rules.specs.Spill.{or_int, type_of, field_type, filled_type, hidden_type}
 use Rattle.t_spill.specs.declared.known.Entry.{Entry}
@@ -44,9 +44,7 @@ MayShow n (Some r) x = (n ≤ max_names) × WellFormedFile n x
 -- the register of which a value's type hangs on what is known, if any
 abbrev pub base_subject : TBase → Option ℕ
 base_subject (Reg r) = Some r
-base_subject (Int i) = None
-base_subject (Label l) = None
-base_subject (Data d) = None
+base_subject _ = None
 
 abbrev pub value_subject : TValue → Option ℕ
 value_subject (Plain b ts) = base_subject b

@@ -1,8 +1,8 @@
 -- What a place of a program has to be like for the types there to be computed: each number then is a u64.
 use Rattle.std.specs.Prelude.{ℕ, ◌≤◌, List, [], ◌∷◌, length}
-use Rattle.t_types.specs.Tree.{Ty, IntTy, VarTy, CodeTy, ExistsTy, TupleTy, TFile}
+use Rattle.t_types.specs.Tree.{Ty, CodeTy, TFile}
 use Rattle.t_types.specs.WellFormed.{max_names, WellFormedFile}
-use Rattle.t_terms.specs.Tree.{TValue, Plain, Pack, TInstr, Arith, Bnz, Ld, Malloc, Mov, St, Unpack, TEnd, Jmp, Halt}
+use Rattle.t_terms.specs.Tree.{TValue, Plain, Pack, TInstr, Arith, Bnz, Mov, Unpack, TEnd, Jmp, Halt}
 use Rattle.t_terms.specs.Tree.{TSeq, Then, Ends, TBlock, TData, TProg, names_after}
 use Rattle.t_terms.specs.Whole.{WellFormedValue, WellFormedInstr}
 use Rattle.t_spill_rules.specs.Spill.{base_type, next}
@@ -11,10 +11,7 @@ use Rattle.t_spill_code.specs.Onto.{ValueFits}
 -- code owes as many types as go to it, at least
 abbrev pub Enough : Ty → List Ty → Type 0
 Enough (CodeTy owes file) ts = length ts ≤ owes
-Enough IntTy ts = Unit {0}
-Enough (VarTy i) ts = Unit {0}
-Enough (ExistsTy t) ts = Unit {0}
-Enough (TupleTy fs) ts = Unit {0}
+Enough _ ts = Unit {0}
 
 abbrev pub Applies : TProg → TFile → TValue → Type 0
 Applies P x (Plain b []) = Unit {0}
@@ -30,11 +27,9 @@ ReadyValue P n x v =
 abbrev pub InstrApplies : TProg → TFile → TInstr → Type 0
 InstrApplies P x (Arith op rd rs v) = Applies P x v
 InstrApplies P x (Bnz r v) = Applies P x v
-InstrApplies P x (Ld rd rs i) = Unit {0}
-InstrApplies P x (Malloc rd ts) = Unit {0}
 InstrApplies P x (Mov rd v) = Applies P x v
-InstrApplies P x (St rd i rs) = Unit {0}
 InstrApplies P x (Unpack rd v) = Applies P x v
+InstrApplies _ x _ = Unit {0}
 
 abbrev pub ReadyInstr : TProg → ℕ → TFile → TInstr → Type 0
 ReadyInstr P n x i =

@@ -4,7 +4,7 @@ use Rattle.idx_core.specs.declared.span.Span.{Span}
 use Rattle.t_types.specs.Tree.{Ty, TFile, MoreRegs, TFields, MoreFields}
 use Rattle.t_types.specs.Read.{tree}
 use Rattle.t_types.specs.declared.types.TType.{TType}
-use Rattle.t_terms.specs.Tree.{TBase, Reg, Int, Label, Data, TValue, Plain, Pack, TInstr, Arith, Bnz, Ld, Malloc}
+use Rattle.t_terms.specs.Tree.{TBase, Label, TValue, Plain, Pack, TInstr, Arith, Bnz, Ld, Malloc}
 use Rattle.t_terms.specs.Tree.{Mov, St}
 use Rattle.t_terms.specs.Tree.{Unpack, TEnd, Jmp, Halt, TSeq, Then, Ends}
 use Rattle.t_terms.specs.declared.instr.Instr.{Instr}
@@ -38,10 +38,8 @@ based (Pack t v s) = based v
 
 -- the label of a value, if it has one, has a next
 abbrev pub BaseFits : TBase → Type 0
-BaseFits (Reg r) = Unit {0}
-BaseFits (Int i) = Unit {0}
 BaseFits (Label l) = l + 1 < 2 ^ 64
-BaseFits (Data d) = Unit {0}
+BaseFits _ = Unit {0}
 
 abbrev pub ValueFits : TValue → Type 0
 ValueFits v = BaseFits (based v)
@@ -49,11 +47,9 @@ ValueFits v = BaseFits (based v)
 abbrev pub InstrFits : TInstr → Type 0
 InstrFits (Arith op rd rs v) = ValueFits v
 InstrFits (Bnz r v) = ValueFits v
-InstrFits (Ld rd rs i) = Unit {0}
-InstrFits (Malloc rd ts) = Unit {0}
 InstrFits (Mov rd v) = ValueFits v
-InstrFits (St rd i rs) = Unit {0}
 InstrFits (Unpack rd v) = ValueFits v
+InstrFits _ = Unit {0}
 
 abbrev pub EndFits : TEnd → Type 0
 EndFits (Jmp v) = ValueFits v

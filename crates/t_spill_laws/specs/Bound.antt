@@ -2,7 +2,7 @@
 use Rattle.std.specs.Prelude.{ℕ, ◌≤◌, List, [], ◌∷◌}
 use Rattle.t_types.specs.Tree.{Ty, IntTy, VarTy, CodeTy, ExistsTy, TupleTy, TFile, NoRegs, MoreRegs, TFields, NoFields}
 use Rattle.t_types.specs.Tree.{MoreFields}
-use Rattle.t_terms.specs.Tree.{TBase, Reg, Int, Label, Data, TValue, Plain, Pack, TInstr, Arith, Bnz, Ld, Malloc, Mov}
+use Rattle.t_terms.specs.Tree.{TBase, Reg, TValue, Plain, Pack, TInstr, Arith, Bnz, Ld, Malloc, Mov}
 use Rattle.t_terms.specs.Tree.{St, Unpack, Jmp, Halt, TSeq, Then, Ends, TBlock, TData, TProg}
 
 abbrev mutual
@@ -27,9 +27,7 @@ InTypes k (t ∷ ts) = InType k t × InTypes k ts
 
 abbrev pub InBase : ℕ → TBase → Type 0
 InBase k (Reg r) = r ≤ k
-InBase k (Int i) = Unit {0}
-InBase k (Label l) = Unit {0}
-InBase k (Data d) = Unit {0}
+InBase k _ = Unit {0}
 
 abbrev pub InValue : ℕ → TValue → Type 0
 InValue k (Plain b ts) = InBase k b × InTypes k ts

@@ -122,10 +122,7 @@ base_type P file (Data d) = or_int (option_map data_type (slice_get P.heap d))
 
 abbrev pub applied_type : Ty → List Ty → Ty
 applied_type (CodeTy owes file) ts = CodeTy (owes - length ts) (inst_file ts owes file)
-applied_type IntTy ts = IntTy
-applied_type (VarTy i) ts = IntTy
-applied_type (ExistsTy t) ts = IntTy
-applied_type (TupleTy fs) ts = IntTy
+applied_type _ ts = IntTy
 
 abbrev pub type_of : TProg → TFile → TValue → Ty
 type_of P file (Plain b []) = base_type P file b
@@ -138,31 +135,19 @@ type_in (Some (AField t flag)) = t
 
 abbrev pub field_type : Ty → ℕ → Ty
 field_type (TupleTy fs) i = type_in (field fs i)
-field_type IntTy i = IntTy
-field_type (VarTy n) i = IntTy
-field_type (CodeTy n file) i = IntTy
-field_type (ExistsTy t) i = IntTy
+field_type _ i = IntTy
 
 abbrev pub filled_type : Ty → ℕ → Ty
 filled_type (TupleTy fs) i = TupleTy (filled fs i)
-filled_type IntTy i = IntTy
-filled_type (VarTy n) i = IntTy
-filled_type (CodeTy n file) i = IntTy
-filled_type (ExistsTy t) i = IntTy
+filled_type _ i = IntTy
 
 abbrev pub hidden_type : Ty → Ty
 hidden_type (ExistsTy t) = t
-hidden_type IntTy = IntTy
-hidden_type (VarTy n) = IntTy
-hidden_type (CodeTy n file) = IntTy
-hidden_type (TupleTy fs) = IntTy
+hidden_type _ = IntTy
 
 abbrev pub target_file : Ty → TFile
 target_file (CodeTy owes file) = file
-target_file IntTy = NoRegs
-target_file (VarTy n) = NoRegs
-target_file (ExistsTy t) = NoRegs
-target_file (TupleTy fs) = NoRegs
+target_file _ = NoRegs
 
 -- the register that an instruction gives a type, if any, and the type
 abbrev pub next : TProg → TFile → TInstr → TFile
@@ -180,12 +165,7 @@ reg r = Plain (Reg r) []
 -- the file of the target of a branch or a jump
 abbrev pub target : TProg → TFile → TInstr → TFile
 target P file (Bnz r v) = target_file (type_of P file v)
-target P file (Arith op rd rs v) = NoRegs
-target P file (Ld rd rs i) = NoRegs
-target P file (Malloc rd ts) = NoRegs
-target P file (Mov rd v) = NoRegs
-target P file (St rd i rs) = NoRegs
-target P file (Unpack rd v) = NoRegs
+target _ file _ = NoRegs
 
 abbrev pub end_target : TProg → TFile → TEnd → TFile
 end_target P file (Jmp v) = target_file (type_of P file v)
@@ -199,9 +179,7 @@ numbers (MoreRegs r t x) = r ∷ numbers x
 -- the registers that are read: by a value, an instruction, an end
 abbrev pub base_reads : TBase → List ℕ
 base_reads (Reg r) = r ∷ []
-base_reads (Int i) = []
-base_reads (Label l) = []
-base_reads (Data d) = []
+base_reads _ = []
 
 abbrev pub value_reads : TValue → List ℕ
 value_reads (Plain b ts) = base_reads b
@@ -471,11 +449,9 @@ FewNamesFile n file = each_file (λ d i. Unit {0}) (λ d. d ≤ max_names) n fil
 abbrev pub values_of : TInstr → List TValue
 values_of (Arith op rd rs v) = v ∷ []
 values_of (Bnz r v) = v ∷ []
-values_of (Ld rd rs i) = []
-values_of (Malloc rd ts) = []
 values_of (Mov rd v) = v ∷ []
-values_of (St rd i rs) = []
 values_of (Unpack rd v) = v ∷ []
+values_of _ = []
 
 abbrev pub ValuesFew : TProg → ℕ → TFile → List TValue → Type 0
 ValuesFew P n file [] = Unit {0}

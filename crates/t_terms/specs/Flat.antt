@@ -1,6 +1,6 @@
 -- No package stands inside a package.
 use Rattle.std.specs.Prelude.{List, [], ◌∷◌}
-use Rattle.t_terms.specs.Tree.{TValue, Plain, Pack, TInstr, Arith, Bnz, Ld, Malloc, Mov, St, Unpack, TEnd, Jmp, Halt}
+use Rattle.t_terms.specs.Tree.{TValue, Plain, Pack, TInstr, Arith, Bnz, Mov, Unpack, TEnd, Jmp, Halt}
 use Rattle.t_terms.specs.Tree.{TSeq, Then, Ends, TBlock, TData, TProg}
 
 -- the value is no package
@@ -17,11 +17,9 @@ FlatValue (Pack t v s) = NoPack v
 abbrev pub FlatInstr : TInstr → Type 0
 FlatInstr (Arith op rd rs v) = FlatValue v
 FlatInstr (Bnz r v) = FlatValue v
-FlatInstr (Ld rd rs i) = Unit {0}
-FlatInstr (Malloc rd ts) = Unit {0}
 FlatInstr (Mov rd v) = FlatValue v
-FlatInstr (St rd i rs) = Unit {0}
 FlatInstr (Unpack rd v) = FlatValue v
+FlatInstr _ = Unit {0}
 
 -- in an end
 abbrev pub FlatEnd : TEnd → Type 0

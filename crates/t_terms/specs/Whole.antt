@@ -47,10 +47,8 @@ WellFormedBlocks p q (b ∷ bs) = WellFormedBlock p q b × WellFormedBlocks p q 
 -- the value names no register
 abbrev pub HasNoRegister : TValue → Type 0
 HasNoRegister (Plain (Reg r) ts) = ⊥
-HasNoRegister (Plain (Int i) ts) = Unit {0}
-HasNoRegister (Plain (Label l) ts) = Unit {0}
-HasNoRegister (Plain (Data d) ts) = Unit {0}
 HasNoRegister (Pack t v s) = HasNoRegister v
+HasNoRegister _ = Unit {0}
 
 -- a field of a data tuple: a closed type, and a value under no type names that names no register
 abbrev pub WellFormedDatum : ℕ → ℕ → TDatum → Type 0

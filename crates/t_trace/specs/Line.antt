@@ -67,9 +67,7 @@ words_text n k (x ∷ xs) (MoreRegs r t file) =
     separator k
     ++ (codes "r" ++ (decimal r ++ (codes "=" ++ (word_text x.1 ++ (codes ":"
     ++ (text_at n 0 t ++ words_text n (suc k) xs file))))))
-words_text n k [] NoRegs = []
-words_text n k [] (MoreRegs r t file) = []
-words_text n k (x ∷ xs) NoRegs = []
+words_text n k _ _ = []
 
 -- the line of the state after m steps, which stands at an instruction of a block, where n type names are in scope, and
 -- the registers of the file have these words

@@ -1,17 +1,15 @@
 -- The integers of a program have 64 bits.
 use Rattle.std.specs.Prelude.{◌≤ℤ◌, ℤ, pos, negsuc, List, [], ◌∷◌}
 use Rattle.t_types.specs.WellFormed.{max_number}
-use Rattle.t_terms.specs.Tree.{TBase, Reg, Int, Label, Data, TValue, Plain, Pack, TInstr, Arith, Bnz, Ld, Malloc, Mov}
-use Rattle.t_terms.specs.Tree.{St, Unpack, TEnd, Jmp, Halt, TSeq, Then, Ends, TBlock, TData}
+use Rattle.t_terms.specs.Tree.{TBase, Int, TValue, Plain, Pack, TInstr, Arith, Bnz, Mov}
+use Rattle.t_terms.specs.Tree.{Unpack, TEnd, Jmp, Halt, TSeq, Then, Ends, TBlock, TData}
 
 abbrev pub IntFits : ℤ → Type 0
 IntFits z = (negsuc max_number ≤ℤ z) × (z ≤ℤ pos max_number)
 
 abbrev pub BaseFits : TBase → Type 0
-BaseFits (Reg r) = Unit {0}
 BaseFits (Int i) = IntFits i
-BaseFits (Label l) = Unit {0}
-BaseFits (Data d) = Unit {0}
+BaseFits _ = Unit {0}
 
 abbrev pub ValueFits : TValue → Type 0
 ValueFits (Plain b ts) = BaseFits b
@@ -20,11 +18,9 @@ ValueFits (Pack t v s) = ValueFits v
 abbrev pub InstrFits : TInstr → Type 0
 InstrFits (Arith op rd rs v) = ValueFits v
 InstrFits (Bnz r v) = ValueFits v
-InstrFits (Ld rd rs i) = Unit {0}
-InstrFits (Malloc rd ts) = Unit {0}
 InstrFits (Mov rd v) = ValueFits v
-InstrFits (St rd i rs) = Unit {0}
 InstrFits (Unpack rd v) = ValueFits v
+InstrFits _ = Unit {0}
 
 abbrev pub EndFits : TEnd → Type 0
 EndFits (Jmp v) = ValueFits v

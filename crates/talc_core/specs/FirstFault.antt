@@ -95,15 +95,11 @@ AssemblyFault text code span = assembly.FirstFault text code span ⊎ AcceptingF
 
 -- the first fault of a text of which this is needed
 abbrev pub FirstFault : Need → List ℕ → Fault → Type 0
-FirstFault AnyText text fault = ⊥
 FirstFault AnyTerm text (Source code span) = TermFault text code span
 FirstFault AProgram text (Source code span) = ProgramFault text code span
 FirstFault CellFree text (Source code span) = CellFault text code span
 FirstFault AnAssembly text (Tal code span) = AssemblyFault text code span
-FirstFault AnyTerm text (Tal code span) = ⊥
-FirstFault AProgram text (Tal code span) = ⊥
-FirstFault CellFree text (Tal code span) = ⊥
-FirstFault AnAssembly text (Source code span) = ⊥
+FirstFault _ text _ = ⊥
 
 -- the text is one of which this is needed
 abbrev pub IsTaken : Need → List ℕ → Type 0

@@ -78,7 +78,7 @@ unpacked ls b (HPack h v s) e c = absurd (clash e)
     clash : true ≡ false → ⊥
     clash x = cc
 
-label_const : (ls : List Known) (v : HVal) → is_label v ≡ true → is_const ls v ≡ true
+pub label_const : (ls : List Known) (v : HVal) → is_label v ≡ true → is_const ls v ≡ true
 label_const ls (HVar i) e = cc
 label_const ls (HInt n) e = cc
 label_const ls (HLabel l) e = refl

@@ -5,7 +5,6 @@ pub mod Tuples
 pub mod Addresses
 pub mod Registers
 pub mod Afterwards
-pub mod Inverses
 pub mod Keeping
 pub mod Lessened
 pub mod Laying

@@ -42,7 +42,7 @@ use Rattle.t_machine.proofs.Addresses.{started_more, new_tuple, started_new, sta
 use Rattle.t_machine.proofs.Registers.{held_int, held_address, held_label, held_word, held_full, is_integer, reads}
 use Rattle.t_machine.proofs.Registers.{in_range, place_in_range, operand_in_range, placed, operand, number, writes}
 use Rattle.t_machine.proofs.Registers.{set_count}
-use Rattle.t_machine.proofs.Inverses.{int_read, address_read, label_read, full_read, some_read, map_read, test_read}
+use Rattle.t_collect.proofs.Inverses.{int_read, address_read, label_read, full_read, some_read, map_read, test_read}
 
 -- the place n is where the step leads from the place a
 abbrev pub Leading : List ℕ → ℕ → ℕ → Where → Type 0

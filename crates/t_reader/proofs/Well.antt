@@ -302,10 +302,10 @@ heap_length : (xs : List SData) → length (plain_heap xs) ≡ length xs
 heap_length [] = refl
 heap_length (x ∷ xs) = let h = heap_length xs in omega (arith, h)
 
-pub is_whole : (text : List ℕ) (raw : List RawItem) (bs : List code.Block) (xs : List heap_of.Data) →
-    IsShape text raw → program_faults text raw ≡ [] → spanned_parts bs xs ≡ program_of text raw → Whole (parts bs xs)
-is_whole text raw bs xs h f e =
-    let k = fits_Program h.shape (kept_cut h.cut) h.short in
+-- what a text stands for, as it was read
+pub whole_program : (text : List ℕ) (raw : List RawItem) → FitsItems raw → 1 ≤ length (blocks_in raw) →
+    program_faults text raw ≡ [] → Whole (plain_program (program_of text raw))
+whole_program text raw fits some f =
     let blocks = map (block_of text (labels_of text raw)) (blocks_in raw) in
     let heap = map (data_of text (labels_of text raw)) (data_in raw) in
     let l : length (plain_blocks blocks) ≡ length (blocks_in raw) =
@@ -314,5 +314,11 @@ is_whole text raw bs xs h f e =
     heap_length heap ∙ length-map (data_in raw) (data_of text (labels_of text raw)) in
     let w = well_items text raw (length (blocks_in raw)) (length (data_in raw))
     (λ x. rw (← zero-add (length (blocks_in raw)), ← zero-add (length (data_in raw)))
-    (labels_named text 0 0 raw x)) [] raw k.0 f in
-    subst (λ (P : SProg). Whole (plain_program P)) (sym e) (omega (arith, l, k.1), rw (l, m) w.0, rw (l, m) w.1)
+    (labels_named text 0 0 raw x)) [] raw fits f in
+    (omega (arith, l, some), rw (l, m) w.0, rw (l, m) w.1)
+
+pub is_whole : (text : List ℕ) (raw : List RawItem) (bs : List code.Block) (xs : List heap_of.Data) →
+    IsShape text raw → program_faults text raw ≡ [] → spanned_parts bs xs ≡ program_of text raw → Whole (parts bs xs)
+is_whole text raw bs xs h f e =
+    let k = fits_Program h.shape (kept_cut h.cut) h.short in
+    subst (λ (P : SProg). Whole (plain_program P)) (sym e) (whole_program text raw k.0 k.1 f)

@@ -1,7 +1,6 @@
 mod Binding
 mod Fields
 mod Lines
-mod Room
 mod Rows
 mod Stepping
 pub mod Marks

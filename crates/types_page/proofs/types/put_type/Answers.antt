@@ -1,6 +1,6 @@
 use Rattle.std.proofs.Common.{arith}
 use Rattle.f_terms.specs.Read.{tree}
-use Rattle.types_page.proofs.Room.{put_fits}
+use Rattle.f_check.proofs.Types.{put_fits}
 use Rattle.types_page.proofs.types.put_type.Goals as goal
 
 pub put-requires : goal.put-requires

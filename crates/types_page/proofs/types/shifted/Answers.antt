@@ -1,6 +1,6 @@
 use Rattle.std.proofs.Common.{arith}
 use Rattle.f_terms.specs.Read.{tree}
-use Rattle.types_page.proofs.Room.{shift_fits}
+use Rattle.f_check.proofs.Types.{shift_fits}
 use Rattle.types_page.proofs.types.shifted.Goals as goal
 
 pub shift-requires : goal.shift-requires

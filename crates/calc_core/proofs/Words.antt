@@ -5,7 +5,7 @@ use Rattle.idx_core.specs.declared.arith.Op.{Op}
 use Rattle.idx_core.specs.Arith.{is_zero}
 use Rattle.calc_core.specs.Ends.{Result, lift, pick}
 use Rattle.calc_core.specs.Scope.{IsField, IsTypeOf, args_onto}
-use Rattle.calc_core.specs.Substitution.{renamed, scope_renamed, with_type, substituted as sub}
+use Rattle.calc_core.specs.Substitution.{renamed, scope_renamed, with_type, under_binders, substituted as sub}
 use Rattle.calc_core.specs.Substitution.{all_substituted as subs}
 use Rattle.calc_core.specs.Types.{Ty, IntTy, VarTy, TupleTy, CodeTy, ExistsTy, RefTy, Tys, NoTys, MoreTys, count}
 use Rattle.calc_core.specs.Words.{Word, WInt, WTuple, WCode, WCell, Words, NoWords, MoreWords, at, size, onto, field}
@@ -13,11 +13,7 @@ use Rattle.calc_core.specs.Words.{project, operate, held, hold, one_more, Made, 
 use Rattle.calc_core.specs.Words.{with_value, at_zero, halt_with}
 use Rattle.calc_core.proofs.Ends.{Fine}
 use Rattle.calc_core.proofs.Opening.{Opens, opens_plain, opens_some}
-use Rattle.calc_core.proofs.Substituting.{sub_ren}
-
-pub subs_count : (s : ℕ → Ty) (ts : Tys) → count (subs s ts) ≡ count ts
-subs_count s NoTys = refl
-subs_count s (MoreTys t ts) = ap suc (subs_count s ts)
+use Rattle.calc_core.proofs.Substituting.{names_up, scons_sub, sub_ren, sub_sub}
 
 -- more cells
 abbrev pub More : List Ty → List Ty → Type 0
@@ -32,6 +28,10 @@ at_front (x ∷ S) t (suc i) u a = at_front S t i u a
 -- variables
 abbrev pub CodeIs : Type 0 → Type 1
 CodeIs C = C → (owes : ℕ) → (args : Tys) → (s : ℕ → Ty) → (g : List Ty) → Type 0
+
+-- a type put for the variable of a package's type
+opened : (h t : Ty) (s : ℕ → Ty) → sub (with_type h VarTy) (sub (under_binders 1 s) t) ≡ sub (with_type h s) t
+opened h t s = sub_sub t (with_type h VarTy) (under_binders 1 s) (with_type h s) (names_up (MoreTys h NoTys) s)
 
 module _ {C : Type 0} (Is : CodeIs C) where
   -- values of closed types, where cells hold values of the types S
@@ -79,19 +79,32 @@ module _ {C : Type 0} (Is : CodeIs C) where
   stored_more (MoreWords v st) S Z g m h = (h.0, h.1, h.2, has_more v S Z h.0 m h.3, stored_more st S Z h.1 m h.4)
 
   -- packs are not seen
-  pub packed : (v : Word C) (S : List Ty) (t h : Ty) → Has S v (sub (with_type h VarTy) t) → Has S v (ExistsTy t)
+  packed : (v : Word C) (S : List Ty) (t h : Ty) → Has S v (sub (with_type h VarTy) t) → Has S v (ExistsTy t)
   packed (WInt n) S t h q = (suc q.0, (t, h, refl, q.1))
   packed (WTuple vs) S t h q = (q.0, (suc q.1.0, (t, h, refl, q.1.1)), q.2)
   packed (WCode c env) S t h q = (q.0, q.1, q.2, q.3, (suc q.4.0, (t, h, refl, q.4.1)), q.5, q.6)
   packed (WCell p) S t h q = (q.0, (suc q.1.0, (t, h, refl, q.1.1)), q.2)
 
-  pub unpacked : (v : Word C) (S : List Ty) (t : Ty) → Has S v (ExistsTy t) → (h : Ty)
+  unpacked : (v : Word C) (S : List Ty) (t : Ty) → Has S v (ExistsTy t) → (h : Ty)
       × Has S v (sub (with_type h VarTy) t)
   unpacked (WInt n) S t q = opens_some t IntTy refl q
   unpacked (WTuple vs) S t q = let o = opens_some t (TupleTy q.0) refl q.1 in (o.0, (q.0, o.1, q.2))
   unpacked (WCode c env) S t q =
       let o = opens_some t (CodeTy q.0 q.1) refl q.4 in (o.0, (q.0, q.1, q.2, q.3, o.1, q.5, q.6))
   unpacked (WCell p) S t q = let o = opens_some t (RefTy q.0) refl q.1 in (o.0, (q.0, o.1, q.2))
+
+  pub pack_sound : (v : Word C) (S : List Ty) (s : ℕ → Ty) (t h : Ty) → Has S v (sub s (sub (with_type h VarTy) t)) →
+      Has S v (sub s (ExistsTy t))
+  pack_sound v S s t h q =
+      packed v S (sub (under_binders 1 s) t) (sub s h)
+      (subst (Has S v)
+      (sub_sub t s (with_type h VarTy) (with_type (sub s h) s) (scons_sub h s VarTy s (λ i. refl))
+      ∙ sym (opened (sub s h) t s)) q)
+
+  pub unpack_sound : (v : Word C) (S : List Ty) (s : ℕ → Ty) (t : Ty) → Has S v (sub s (ExistsTy t)) →
+      (h : Ty) × Has S v (sub (with_type h s) t)
+  unpack_sound v S s t q =
+      let o = unpacked v S (sub (under_binders 1 s) t) q in (o.0, subst (Has S v) (opened o.0 t s) o.1)
 
   pub env_at : (env : Words C) (S : List Ty) (s : ℕ → Ty) (g : List Ty) (i : ℕ) (t : Ty) → EnvHas S env s g →
       IsTypeOf g i t → Has S (at env i) (sub s t)

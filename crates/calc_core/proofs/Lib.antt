@@ -10,3 +10,5 @@ pub mod Trees
 pub mod Scopes
 pub mod Ends
 pub mod Opening
+pub mod Words
+pub mod WordLists

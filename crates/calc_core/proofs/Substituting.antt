@@ -160,3 +160,27 @@ names_up ts s i =
     ∙ sub_same (s h.0) VarTy (λ j. refl)
     ∙ sym (with_types_past ts s h.0) ∙ ap (with_types ts s) (sym h.1))
     (low_or_past (count ts) i)
+
+pub up_up : (m n : ℕ) (s : ℕ → Ty) (i : ℕ) → up (lift m n) s i ≡ up m (up n s) i
+up_up zero n s i = refl
+up_up (suc m) n s zero = refl
+up_up (suc m) n s (suc i) = ap (ren suc) (up_up m n s i)
+
+pub subs_count : (s : ℕ → Ty) (ts : Tys) → count (subs s ts) ≡ count ts
+subs_count s NoTys = refl
+subs_count s (MoreTys t ts) = ap suc (subs_count s ts)
+
+-- types put for names under o more, and then types for variables
+pub named_sub : (o : ℕ) (ts us : Tys) (s : ℕ → Ty) → subs (up o s) (subs (up o (with_types ts VarTy)) us)
+    ≡ subs (up o (with_types (subs s ts) VarTy)) (subs (up (lift o (count ts)) s) us)
+named_sub o ts us s =
+    subs_sub us (up o s) (up o (with_types ts VarTy)) (up o (with_types ts' s))
+    (sub_up o s (with_types ts VarTy) (with_types ts' s) (names_sub ts s VarTy s (λ i. refl)))
+    ∙ sym (subs_sub us (up o (with_types ts' VarTy)) (up (lift o (count ts)) s) (up o (with_types ts' s))
+    (λ i. ap (sub (up o (with_types ts' VarTy))) (up_up o (count ts) s i)
+    ∙ sub_up o (with_types ts' VarTy) (up (count ts) s) (with_types ts' s)
+    (λ j. subst (λ m. sub (with_types ts' VarTy) (up m s j) ≡ with_types ts' s j) (subs_count s ts) (names_up ts' s j))
+    i))
+  where
+    ts' : Tys
+    ts' = subs s ts

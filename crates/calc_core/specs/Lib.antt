@@ -11,3 +11,4 @@ pub mod Substitution
 pub mod TyLaws
 pub mod Types
 pub mod Walks
+pub mod Words

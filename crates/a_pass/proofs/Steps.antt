@@ -11,6 +11,7 @@ use Rattle.a_laws.specs.Allocate.{Known, all_closed, are_const, atype, atypes, c
 use Rattle.a_laws.specs.Allocate.{datum_of, fill, final, is_const, is_label, is_pack, is_some, level_of, n_v, n_vs}
 use Rattle.a_laws.specs.Allocate.{named, one_more, or_zero, packs, pre_v, pre_vs, v_next, v_type, v_types, val, vals}
 use Rattle.a_laws.specs.Allocate.{var_of, vs_next}
+use Rattle.a_laws.proofs.Data.{label_const}
 use Rattle.h_terms.specs.Nodes.{tied, at_last, tupled, more}
 use Rattle.h_terms.specs.declared.node.HPart.{HPart}
 use Rattle.c_terms.specs.C.{CTy, CTys}
@@ -379,14 +380,6 @@ mutual
       const_next ls v d (label_const ls v (first_true (is_label v) (all_closed 0 (atypes ts)) c))
   const_next ls (HPack h v s) d c =
       const_next ls v d (first_true (is_const ls v) (not (packs ls v) && (closed 0 (atype h) && closed 0 (atype s))) c)
-
-  label_const : (ls : List Known) (v : HVal) → is_label v ≡ true → is_const ls v ≡ true
-  label_const ls (HVar i) e = cc
-  label_const ls (HInt n) e = cc
-  label_const ls (HLabel l) e = refl
-  label_const ls (HTuple vs) e = cc
-  label_const ls (HApply v ts) e = cc
-  label_const ls (HPack h v s) e = cc
 
 const_pre : (ks : HBlks) (g : List a.ATy) (ls : List Known) (v : HVal) (b d : ℕ) (r : a.ATm) → is_const ls v ≡ true →
     pre_v ks g ls b d v r ≡ r

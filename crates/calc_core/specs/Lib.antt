@@ -1,5 +1,6 @@
 pub mod Arena
 pub mod Roots
+pub mod Row
 pub mod Stack
 pub mod Ends
 pub mod Laws

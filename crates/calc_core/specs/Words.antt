@@ -42,20 +42,13 @@ field (suc (suc i)) (MoreWords v vs) = field (suc i) vs
 
 -- a field of a tuple
 abbrev pub project : {C : Type 0} → ℕ → Word C → Option (Word C)
-project i (WInt n) = None
 project i (WTuple vs) = field i vs
-project i (WCode c env) = None
-project i (WCell p) = None
+project i _ = None
 
 -- the result of an operation on integers
 abbrev pub operate : {C : Type 0} → Op → Word C → Word C → Option (Word C)
 operate op (WInt x) (WInt y) = Some (WInt (compute op x y))
-operate op (WInt x) (WTuple ws) = None
-operate op (WInt x) (WCode c env) = None
-operate op (WInt x) (WCell p) = None
-operate op (WTuple vs) w = None
-operate op (WCode c env) w = None
-operate op (WCell p) w = None
+operate op _ _ = None
 
 -- a store: the values that the cells hold, by place. It only grows. What the cell at p holds
 abbrev pub held : {C : Type 0} → ℕ → Words C → Option (Word C)
@@ -86,17 +79,13 @@ given (Some v) st = Makes v st
 
 -- what a cell holds
 abbrev pub get : {C : Type 0} → Word C → Words C → Made C
-get (WInt n) st = Fails
-get (WTuple vs) st = Fails
-get (WCode c env) st = Fails
 get (WCell p) st = given (held p st) st
+get _ st = Fails
 
 -- a cell set to a value; the result is the empty tuple
 abbrev pub set : {C : Type 0} → Word C → Word C → Words C → Made C
-set (WInt n) w st = Fails
-set (WTuple vs) w st = Fails
-set (WCode c env) w st = Fails
 set (WCell p) w st = Makes (WTuple NoWords) (hold p w st)
+set _ w st = Fails
 
 -- what follows a declaration
 abbrev pub with_value : {C : Type 0} → Made C → (Word C → Words C → Result) → Result
@@ -106,13 +95,9 @@ with_value (Makes v st) go = go v st
 -- the one result for zero, the other for any other integer
 abbrev pub at_zero : {C : Type 0} → Word C → Result → Result → Result
 at_zero (WInt n) r s = pick (is_zero n) r s
-at_zero (WTuple ws) r s = stops Stuck
-at_zero (WCode c env) r s = stops Stuck
-at_zero (WCell p) r s = stops Stuck
+at_zero _ r s = stops Stuck
 
 -- a program halts with an integer
 abbrev pub halt_with : {C : Type 0} → Word C → Result
 halt_with (WInt n) = stops (Halted n)
-halt_with (WTuple ws) = stops Stuck
-halt_with (WCode c env) = stops Stuck
-halt_with (WCell p) = stops Stuck
+halt_with _ = stops Stuck

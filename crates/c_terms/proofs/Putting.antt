@@ -4,7 +4,7 @@ use Rattle.calc_core.specs.Ends.{lift}
 use Rattle.c_terms.specs.C.{CTy, CTys, TCInt, TCVar, TCTuple, TCCode, TCExists, TCRef, NoCTys, MoreCTys, ccount}
 use Rattle.c_terms.specs.Typing.{cren, scons, cup, csub, csubs, names}
 use Rattle.c_terms.specs.Puts.{further_one, without, var_or, cput, cputs, capply}
-use Rattle.calc_core.proofs.Substituting.{ren_ren, subs_same, up_same, sub_up, subs_sub, names_up, ren_none}
+use Rattle.calc_core.proofs.Substituting.{ren_ren, subs_same, up_same, sub_up, subs_sub, names_up, ren_none, up_up}
 use Rattle.calc_core.proofs.Lifts.{lift_zero, lift_suc}
 
 -- put is a substitution
@@ -43,11 +43,6 @@ put_first : (u : CTy) (i : ℕ) → var_or (without 0 i) u ≡ scons u TCVar i
 put_first u zero = refl
 put_first u (suc i) = refl
 
-pub cup_cup : (m c : ℕ) (s : ℕ → CTy) (i : ℕ) → cup (lift m c) s i ≡ cup m (cup c s) i
-cup_cup zero c s i = refl
-cup_cup (suc m) c s zero = refl
-cup_cup (suc m) c s (suc i) = ap (cren suc) (cup_cup m c s i)
-
 put_at : (n : ℕ) (u : CTy) (args : CTys) → cputs n (cren (lift n) u) args ≡ csubs (cup n (scons u TCVar)) args
 put_at n u args =
     puts_sub args n (cren (lift n) u) (cup n (scons u TCVar))
@@ -67,6 +62,6 @@ one_by_one (MoreCTys t ts) owes args =
     ∙ ap (λ xs. Some (TCCode owes xs))
     (subs_sub args (cup owes (names ts TCVar)) (cup (lift owes (ccount ts)) (scons t TCVar))
     (cup owes (names ts (scons t TCVar)))
-    (λ i. ap (csub (cup owes (names ts TCVar))) (cup_cup owes (ccount ts) (scons t TCVar) i)
+    (λ i. ap (csub (cup owes (names ts TCVar))) (up_up owes (ccount ts) (scons t TCVar) i)
     ∙ sub_up owes (names ts TCVar) (cup (ccount ts) (scons t TCVar)) (names ts (scons t TCVar))
     (names_up ts (scons t TCVar)) i))

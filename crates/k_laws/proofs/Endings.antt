@@ -8,7 +8,8 @@ use Rattle.calc_core.specs.Ends as B
 use Rattle.k_terms.specs.K.{KTy, NoKTys, MoreKTys, KVal, KVar, KInt, KTuple, KCode, KVals, NoKVals, MoreKVals, KDecl}
 use Rattle.k_terms.specs.K.{KName, KProj, KArith, KPack, KUnpack, KCell, KGet, KSet, KTm, KLet, KCall, KIf, KHalt}
 use Rattle.k_terms.specs.K.{kv_next, kvs_next, kd_next, kt_next}
-use Rattle.k_terms.specs.Meaning.{KWord, KWords, WCode, NoWords, MoreWords, size, kv_value, kopen, kenter}
+use Rattle.calc_core.specs.Words.{WCode, NoWords, MoreWords, size}
+use Rattle.k_terms.specs.Meaning.{KCodeAt, KWord, KWords, kv_value, kopen, kenter}
 use Rattle.f_terms.specs.Eval.{Val, Vals, Result, Gives, Spent, Stuck, then_eval}
 use Rattle.k_laws.specs.Cps.{kat}
 use Rattle.k_laws.specs.Translates.{Thing, stands, named, Form, AnyRest, Bind, Pass, to_rest, deliver, as_value}
@@ -234,11 +235,11 @@ module _ (c : ℕ) (O : End) where
   return_to : (form : Form) (kenv : KWords) (b td : ℕ) (t : KTy) (body : KTm) →
       form td (suc (suc (size kenv))) (named (suc (size kenv))) body → (a u n : ℕ) (v : Val) (st : Vals) →
       (b ≤ c → c < kt_next (suc b) body → 1 ≤ u) → GoodBind a form kenv v n st →
-      Takes (a + u) n (WCode b 0 (MoreKTys t NoKTys) body kenv) v st
+      Takes (a + u) n (WCode (KCodeAt b 0 (MoreKTys t NoKTys) body) kenv) v st
   return_to form kenv b td t body f a u n v st h g = record { takes = λ x r kst rs. back x r kst rs (same_or c b) }
     where
       self : KWord
-      self = WCode b 0 (MoreKTys t NoKTys) body kenv
+      self = WCode (KCodeAt b 0 (MoreKTys t NoKTys) body) kenv
 
       inside : (x : KWord) → Rel v x → Does a n (suc b) (MoreWords x (MoreWords self kenv)) st body
       inside x r =

@@ -2,7 +2,8 @@
 use Rattle.std.proofs.Common.{ℤ, ◌≡◌, ℕ, ◌+◌, ◌≤◌, inl, inr, [], refl, sym, ap, ◌∙◌, subst, arith, ⊎_elim}
 use Rattle.calc_core.specs.Ends as B
 use Rattle.k_terms.specs.K.{KVal, KTm, KHalt}
-use Rattle.k_terms.specs.Meaning.{KWords, NoWords, kv_value, krun}
+use Rattle.calc_core.specs.Words.{NoWords}
+use Rattle.k_terms.specs.Meaning.{KWords, kv_value, krun}
 use Rattle.f_terms.specs.Ty.{TInt, NoTys}
 use Rattle.f_terms.specs.Tm.{Term}
 use Rattle.f_terms.specs.Eval.{Val, VInt, VTup, VFun, VSus, VCell, Vals, Empty, Result, Gives, Spent, Stuck, enter_by}

@@ -5,8 +5,9 @@ use Rattle.f_terms.specs.Ty.{Ty, Tys}
 use Rattle.f_terms.specs.Eval.{Val, VInt, VTup, VFun, VSus, VCell, Vals, Empty, And, value_at, cells}
 use Rattle.f_terms.specs.Eval as E
 use Rattle.k_terms.specs.K.{KTy, NoKTys, MoreKTys, KVal, KVals, KTm, kv_next}
-use Rattle.k_terms.specs.Meaning.{KWord, KWords, WInt, WTuple, WCode, WCell, NoWords, MoreWords, size, at, field, held}
-use Rattle.k_terms.specs.Meaning.{hold, one_more, kv_value, kvs_value}
+use Rattle.calc_core.specs.Words.{WInt, WTuple, WCode, WCell, NoWords, MoreWords, at, size, field, held, hold}
+use Rattle.calc_core.specs.Words.{one_more}
+use Rattle.k_terms.specs.Meaning.{KCodeAt, KWord, KWords, kv_value, kvs_value}
 use Rattle.k_laws.specs.Cps.{Atom, Level, Literal}
 use Rattle.k_laws.specs.Translates.{Thing, Plain, Made, Things, NoThings, MoreThings, stands, named, stand, tuple_of}
 use Rattle.k_laws.specs.Translates.{Pass, atom_of, cps}
@@ -23,12 +24,12 @@ abbrev mutual
   Rel (VTup vs) w = (ws : KWords) × (w ≡ WTuple ws) × RelAll vs ws
   Rel (VFun env body) w =
       (c : ℕ) × (kenv : KWords) × (names : List Atom) × (m : KTm) × (n : ℕ) × (tl : List ℕ) × (td : ℕ) × (g : Tys)
-      × (t : Ty) × (a1 a2 : KTy) × (w ≡ WCode c 0 (MoreKTys a1 (MoreKTys a2 NoKTys)) m kenv) × RelEnv env names kenv
+      × (t : Ty) × (a1 a2 : KTy) × (w ≡ WCode (KCodeAt c 0 (MoreKTys a1 (MoreKTys a2 NoKTys)) m) kenv) × RelEnv env names kenv
       × cps body n tl g t td (suc (suc (suc (size kenv)))) (Level (suc (size kenv)) ∷ Level (size kenv) ∷ names)
       (Pass (suc (suc (size kenv)))) m
   Rel (VSus env body) w =
       (c : ℕ) × (kenv : KWords) × (names : List Atom) × (m : KTm) × (n : ℕ) × (tl : List ℕ) × (td : ℕ) × (g : Tys)
-      × (t : Ty) × (a1 : KTy) × (w ≡ WCode c 1 (MoreKTys a1 NoKTys) m kenv) × RelEnv env names kenv
+      × (t : Ty) × (a1 : KTy) × (w ≡ WCode (KCodeAt c 1 (MoreKTys a1 NoKTys) m) kenv) × RelEnv env names kenv
       × cps body n tl g t td (suc (suc (size kenv))) names (Pass (suc (size kenv))) m
   Rel (VCell a) w = w ≡ WCell a
 

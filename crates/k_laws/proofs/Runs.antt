@@ -4,9 +4,10 @@ use Rattle.std.proofs.Common.{ap, subst, arith}
 use Rattle.idx_core.specs.Arith.{is_zero}
 use Rattle.calc_core.specs.Ends.{if_fits, pick, Spent, Result, stops, enters}
 use Rattle.k_terms.specs.K.{KTm, KLet, KCall, KIf, KHalt, kcount, kv_next, kd_next, kt_next}
-use Rattle.k_terms.specs.Meaning.{KWord, WInt, WTuple, WCode, WCell, KWords, MoreWords, size, onto, kv_value}
-use Rattle.k_terms.specs.Meaning.{kvs_value, Made, Makes, Fails, kd_value, KEnter, kopen, with_value, at_zero, kterm}
-use Rattle.k_terms.specs.Meaning.{kenter}
+use Rattle.calc_core.specs.Words.{WInt, WTuple, WCode, WCell, MoreWords, size, onto, Made, Makes, Fails, with_value}
+use Rattle.calc_core.specs.Words.{at_zero}
+use Rattle.k_terms.specs.Meaning.{KNumbered, KCodeAt, KWord, KWords, kv_value, kvs_value, kd_value, KEnter, kopen}
+use Rattle.k_terms.specs.Meaning.{kterm, kenter}
 use Rattle.k_laws.specs.Count.{count}
 
 -- within m calls, a term whose first code has the number b, from a store
@@ -17,7 +18,7 @@ run m b env t st = kterm (kenter m) b t env st
 -- more calls
 module _ (Q : Result → Result → Type 0) (same : (r : Result) → Q r r) (none : (r : Result) → Q (stops Spent) r)
     (entering : (c : ℕ) (r r' : Result) → Q r r' → Q (enters c r) (enters c r')) where
-  at_value : (o : Made) (go go' : KWord → KWords → Result) → ((w : KWord) (st : KWords) → Q (go w st) (go' w st)) →
+  at_value : (o : Made KNumbered) (go go' : KWord → KWords → Result) → ((w : KWord) (st : KWords) → Q (go w st) (go' w st)) →
       Q (with_value o go) (with_value o go')
   at_value Fails go go' h = same _
   at_value (Makes w st) go go' h = h w st
@@ -29,7 +30,7 @@ module _ (Q : Result → Result → Type 0) (same : (r : Result) → Q r r) (non
       at_pick true = h
       at_pick false = k
   at_test (WTuple ws) a a' b b' h k = same _
-  at_test (WCode c owes args body env) a a' b b' h k = same _
+  at_test (WCode c env) a a' b b' h k = same _
   at_test (WCell p) a a' b b' h k = same _
 
   at_fits : (b : Bool) (r r' : Result) → Q r r' → Q (if_fits b r) (if_fits b r')
@@ -44,9 +45,9 @@ module _ (Q : Result → Result → Type 0) (same : (r : Result) → Q r r) (non
   at_open e e' h m (WInt n) args st = same _
   at_open e e' h m (WTuple ws) args st = same _
   at_open e e' h m (WCell p) args st = same _
-  at_open e e' h m (WCode c owes takes body env) args st =
+  at_open e e' h m (WCode (KCodeAt c owes takes body) env) args st =
       at_fits (nat_eq m owes && nat_eq (size args) (kcount takes)) _ _
-      (h c body (onto args (MoreWords (WCode c owes takes body env) env)) st)
+      (h c body (onto args (MoreWords (WCode (KCodeAt c owes takes body) env) env)) st)
 
   at_run : (e e' : KEnter) → OfEnter e e' → (b : ℕ) (env st : KWords) (t : KTm) →
       Q (kterm e b t env st) (kterm e' b t env st)

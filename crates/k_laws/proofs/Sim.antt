@@ -2,7 +2,8 @@
 use Rattle.std.proofs.Common.{◌≡◌, ℕ, zero, suc, ◌+◌, ◌<◌, ◌≤◌, ◌⊎◌, inl, inr, List, ◌∷◌, refl, sym, ap, subst, arith}
 use Rattle.std.specs.Prelude.{◌==◌}
 use Rattle.k_terms.specs.K.{NoKTys, MoreKTys, KVal, KName, KTm, KLet, KIf, kv_next, kt_next}
-use Rattle.k_terms.specs.Meaning.{KWord, KWords, WCode, NoWords, MoreWords, size, kv_value, kopen, kenter}
+use Rattle.calc_core.specs.Words.{WCode, NoWords, MoreWords, size}
+use Rattle.k_terms.specs.Meaning.{KCodeAt, KWord, KWords, kv_value, kopen, kenter}
 use Rattle.f_terms.specs.Ty.{Ty, TInt, TArrow, TAll, TTuple, TSome, TRef, Tys, MoreTys, shift, put}
 use Rattle.f_terms.specs.Tm.{Term, MVar, MNum, MFix, MApp, MGen, MInst, MTuple, MProj, MArith, MIf0, MLet, MPack}
 use Rattle.f_terms.specs.Tm.{MOpen, MRef, MDeref, MAssign, Terms, NoTerms, MoreTerms}
@@ -69,7 +70,7 @@ module _ (c : ℕ) (O : End) where
         (λ v m st g. record { word = wk; has = inl (refl, refl); ready = t v m st g }) h) kst rs)
       where
         self : KWord
-        self = WCode rf.0 0 (MoreKTys rf.9 (MoreKTys rf.10 NoKTys)) rf.3 rf.1
+        self = WCode (KCodeAt rf.0 0 (MoreKTys rf.9 (MoreKTys rf.10 NoKTys)) rf.3) rf.1
 
         inner : KWords
         inner = MoreWords wk (MoreWords wx (MoreWords self rf.1))
@@ -93,7 +94,7 @@ module _ (c : ℕ) (O : End) where
         (λ v m st g. record { word = wk; has = inl (refl, refl); ready = t v m st g }) h) kst rs)
       where
         inner : KWords
-        inner = MoreWords wk (MoreWords (WCode rf.0 1 (MoreKTys rf.9 NoKTys) rf.3 rf.1) rf.1)
+        inner = MoreWords wk (MoreWords (WCode (KCodeAt rf.0 1 (MoreKTys rf.9 NoKTys) rf.3) rf.1) rf.1)
 
     does_app : (v w : Val) (n b a td : ℕ) (k : AnyRest) (kenv : KWords) (st : Vals) (fv xv : Thing) (m : KTm) →
         Den fv kenv v → Den xv kenv w → There k kenv → n ≤ d → Ready c O a k kenv n (apply enter v w n st) →

@@ -6,9 +6,10 @@ use Rattle.idx_core.specs.declared.arith.Op.{Op}
 use Rattle.idx_core.specs.Arith.{is_zero, compute}
 use Rattle.calc_core.specs.Ends as B
 use Rattle.k_terms.specs.K.{KProj, KArith, KCell, KGet, KSet, KTm, kv_next, kt_next}
-use Rattle.k_terms.specs.Meaning.{KWord, KWords, WInt, WTuple, WCell, NoWords, MoreWords, size, field, held, hold}
-use Rattle.k_terms.specs.Meaning.{one_more, kv_value, with_value, at_zero}
-use Rattle.k_terms.specs.Meaning as M
+use Rattle.calc_core.specs.Words.{WInt, WTuple, WCell, NoWords, MoreWords, size, field, held, hold, one_more}
+use Rattle.calc_core.specs.Words.{with_value, at_zero}
+use Rattle.k_terms.specs.Meaning.{KWord, KWords, kv_value}
+use Rattle.calc_core.specs.Words as M
 use Rattle.f_terms.specs.Ty.{Ty}
 use Rattle.f_terms.specs.Eval.{Val, VInt, VTup, VFun, VSus, VCell, Vals, Empty, And, Result, Gives, Spent, Stuck}
 use Rattle.f_terms.specs.Eval.{Results, GiveAll, SpentAll, StuckAll, then_eval, then_all, all_then, as_tuple, value_at}

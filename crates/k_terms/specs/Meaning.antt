@@ -1,58 +1,22 @@
 -- What a term of the CPS calculus does. Types are not used.
-use Rattle.std.specs.Prelude.{ℤ, pos, ℕ, zero, suc, nat_eq, ◌&&◌, Option, Some, None}
-use Rattle.idx_core.specs.declared.arith.Op.{Op}
-use Rattle.idx_core.specs.Arith.{compute, is_zero}
-use Rattle.calc_core.specs.Ends.{if_fits, pick, Halted, Spent, Stuck, Result, stops, enters}
+use Rattle.std.specs.Prelude.{ℕ, zero, suc, nat_eq, ◌&&◌}
+use Rattle.calc_core.specs.Ends.{if_fits, Spent, Stuck, Result, stops, enters}
+use Rattle.calc_core.specs.Words.{Word, WInt, WTuple, WCode, WCell, Words, NoWords, MoreWords, at, size, onto, project}
+use Rattle.calc_core.specs.Words.{operate, one_more, Made, Makes, given, get, set, with_value, at_zero, halt_with}
 use Rattle.k_terms.specs.K.{KTys, KVal, KVar, KInt, KTuple, KCode, KVals, NoKVals, MoreKVals, KDecl, KName, KProj}
 use Rattle.k_terms.specs.K.{KArith, KPack, KUnpack, KCell, KGet, KSet, KTm, KLet, KCall, KIf, KHalt, kcount, kv_next}
 use Rattle.k_terms.specs.K.{kd_next, kt_next}
 
--- a value: an integer, a tuple, a code with its number and its environment, or a cell, by its place in the store
-mutual
-  pub data KWord : Type 0 where
-    WInt : ℤ → KWord
-    WTuple : KWords → KWord
-    WCode : (number : ℕ) → (owes : ℕ) → (args : KTys) → (body : KTm) → (env : KWords) → KWord
-    WCell : (place : ℕ) → KWord
+-- a code, with its number
+pub data KNumbered : Type 0 where
+  KCodeAt : (number : ℕ) (owes : ℕ) (args : KTys) (body : KTm) → KNumbered
 
-  pub data KWords : Type 0 where
-    NoWords : KWords
-    MoreWords : KWord → KWords → KWords
+-- values, whose codes keep the values that they were made among
+abbrev pub KWord : Type 0
+KWord = Word KNumbered
 
-abbrev pub at : KWords → ℕ → KWord
-at NoWords i = WInt (pos 0)
-at (MoreWords v vs) zero = v
-at (MoreWords v vs) (suc i) = at vs i
-
-abbrev pub size : KWords → ℕ
-size NoWords = 0
-size (MoreWords v vs) = suc (size vs)
-
-abbrev pub onto : KWords → KWords → KWords
-onto NoWords env = env
-onto (MoreWords v vs) env = onto vs (MoreWords v env)
-
--- field i, from 1 on
-abbrev pub field : ℕ → KWords → Option KWord
-field i NoWords = None
-field zero (MoreWords v vs) = None
-field (suc zero) (MoreWords v vs) = Some v
-field (suc (suc i)) (MoreWords v vs) = field (suc i) vs
-
-abbrev pub project : ℕ → KWord → Option KWord
-project i (WInt n) = None
-project i (WTuple vs) = field i vs
-project i (WCode b owes args body env) = None
-project i (WCell p) = None
-
-abbrev pub operate : Op → KWord → KWord → Option KWord
-operate op (WInt x) (WInt y) = Some (WInt (compute op x y))
-operate op (WInt x) (WTuple ws) = None
-operate op (WInt x) (WCode b owes args body env) = None
-operate op (WInt x) (WCell p) = None
-operate op (WTuple vs) w = None
-operate op (WCode b owes args body env) w = None
-operate op (WCell p) w = None
+abbrev pub KWords : Type 0
+KWords = Words KNumbered
 
 -- the value of a tree whose codes are numbered from b on
 abbrev mutual
@@ -60,49 +24,14 @@ abbrev mutual
   kv_value b (KVar i) env = at env i
   kv_value b (KInt n) env = WInt n
   kv_value b (KTuple vs) env = WTuple (kvs_value b vs env)
-  kv_value b (KCode owes args body) env = WCode b owes args body env
+  kv_value b (KCode owes args body) env = WCode (KCodeAt b owes args body) env
 
   pub kvs_value : ℕ → KVals → KWords → KWords
   kvs_value b NoKVals env = NoWords
   kvs_value b (MoreKVals v vs) env = MoreWords (kv_value b v env) (kvs_value (kv_next b v) vs env)
 
--- a store: the values that the cells hold, by place. It only grows
-abbrev pub held : ℕ → KWords → Option KWord
-held p NoWords = None
-held zero (MoreWords v vs) = Some v
-held (suc p) (MoreWords v vs) = held p vs
-
-abbrev pub hold : ℕ → KWord → KWords → KWords
-hold p w NoWords = NoWords
-hold zero w (MoreWords v vs) = MoreWords w vs
-hold (suc p) w (MoreWords v vs) = MoreWords v (hold p w vs)
-
-abbrev pub one_more : KWords → KWord → KWords
-one_more NoWords w = MoreWords w NoWords
-one_more (MoreWords v vs) w = MoreWords v (one_more vs w)
-
 -- what a declaration names, and the store then
-pub data Made : Type 0 where
-  Makes : KWord → KWords → Made
-  Fails : Made
-
-abbrev pub given : Option KWord → KWords → Made
-given None st = Fails
-given (Some v) st = Makes v st
-
-abbrev pub get : KWord → KWords → Made
-get (WInt n) st = Fails
-get (WTuple vs) st = Fails
-get (WCode b owes args body env) st = Fails
-get (WCell p) st = given (held p st) st
-
-abbrev pub set : KWord → KWord → KWords → Made
-set (WInt n) w st = Fails
-set (WTuple vs) w st = Fails
-set (WCode b owes args body env) w st = Fails
-set (WCell p) w st = Makes (WTuple NoWords) (hold p w st)
-
-abbrev pub kd_value : ℕ → KDecl → KWords → KWords → Made
+abbrev pub kd_value : ℕ → KDecl → KWords → KWords → Made KNumbered
 kd_value b (KName v) env st = Makes (kv_value b v env) st
 kd_value b (KProj i v) env st = given (project i (kv_value b v env)) st
 kd_value b (KArith op v w) env st = given (operate op (kv_value b v env) (kv_value (kv_next b v) w env)) st
@@ -120,27 +49,12 @@ KEnter = ℕ → KTm → KWords → KWords → Result
 abbrev pub kopen : KEnter → ℕ → KWord → KWords → KWords → Result
 kopen enter m (WInt n) vs st = stops Stuck
 kopen enter m (WTuple ws) vs st = stops Stuck
-kopen enter m (WCode b owes args body env) vs st =
+kopen enter m (WCode (KCodeAt b owes args body) env) vs st =
     if_fits (nat_eq m owes && nat_eq (size vs) (kcount args))
-    (enter b body (onto vs (MoreWords (WCode b owes args body env) env)) st)
+    (enter b body (onto vs (MoreWords (WCode (KCodeAt b owes args body) env) env)) st)
 kopen enter m (WCell p) vs st = stops Stuck
 
-abbrev pub with_value : Made → (KWord → KWords → Result) → Result
-with_value Fails go = stops Stuck
-with_value (Makes v st) go = go v st
-
-abbrev pub at_zero : KWord → Result → Result → Result
-at_zero (WInt n) r s = pick (is_zero n) r s
-at_zero (WTuple ws) r s = stops Stuck
-at_zero (WCode b owes args body env) r s = stops Stuck
-at_zero (WCell p) r s = stops Stuck
-
-abbrev pub halt_with : KWord → Result
-halt_with (WInt n) = stops (Halted n)
-halt_with (WTuple ws) = stops Stuck
-halt_with (WCode b owes args body env) = stops Stuck
-halt_with (WCell p) = stops Stuck
-
+-- what a term does from the values in scope and a store; its codes are numbered from b on
 abbrev pub kterm : KEnter → ℕ → KTm → KWords → KWords → Result
 kterm enter b (KLet d t) env st = with_value (kd_value b d env st)
     (λ v st2. kterm enter (kd_next b d) t (MoreWords v env) st2)
@@ -154,5 +68,6 @@ abbrev pub kenter : ℕ → KEnter
 kenter zero b body env st = stops Spent
 kenter (suc n) b body env st = enters b (kterm (kenter n) (suc b) body env st)
 
+-- a whole program within n calls
 abbrev pub krun : ℕ → KTm → Result
 krun n t = kterm (kenter n) 0 t NoWords NoWords

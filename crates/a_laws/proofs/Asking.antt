@@ -7,7 +7,8 @@ use Rattle.a_terms.specs.Tree.{Unpack, Malloc, Init, ABlk, arity}
 use Rattle.a_laws.specs.Constants.{Constants, constant, of_args, tuples_in}
 use Rattle.a_laws.specs.Mallocs.{mallocs, all_mallocs, unless_constant, tuples_made, all_made, made_in, made_in_all}
 use Rattle.a_laws.specs.Mallocs.{MallocsAreAsked}
-use Rattle.a_laws.specs.Stands.{Thing, Is, Made, Gone, thing_at, listed, Means, takes, all_take, made_at, Stands_v}
+use Rattle.a_laws.specs.Stands.{scope, Thing, Is, Made, Gone, thing_at, listed, Means, takes, all_take, made_at}
+use Rattle.a_laws.specs.Stands.{Stands_v}
 use Rattle.a_laws.specs.Stands.{tuple_of, Stands_vs, Any, Filling, Content, Unit_named, Stands_t, Stands_all}
 use Rattle.a_laws.specs.Stands.{arg_things}
 
@@ -50,7 +51,7 @@ module _ (ds : List HVal) where
       omega (arith, x, y)
   of_thing os Gone m w e = absurd e
 
-  of_value : (v : AVal) (w : HVal) (os : Constants) (env : List Thing) (m : ℕ) → Stands_v ds os env m v w →
+  of_value : (v : AVal) (w : HVal) (os : Constants) (env : List Thing) (m : ℕ) → Stands_v (scope ds os env m) v w →
       tuples_made os w ≡ things_made os (takes env v)
   of_value (Var i) w os env m s = of_thing os (thing_at env i) m w s
   of_value (Num n) w os env m s = ap (tuples_made os) s
@@ -61,7 +62,7 @@ module _ (ds : List HVal) where
   of_value (Pack h v u) w os env m s = ap (tuples_made os) s.3 ∙ of_value v s.1 os env m s.6
 
   of_values : (vs : List AVal) (ws : HVals) (os : Constants) (env : List Thing) (m : ℕ) →
-      Stands_vs ds os env m vs ws → all_made os ws ≡ things_made os (all_take env vs)
+      Stands_vs (scope ds os env m) vs ws → all_made os ws ≡ things_made os (all_take env vs)
   of_values [] ws os env m s = ap (all_made os) s
   of_values (v ∷ vs) ws os env m s =
       let a = ap (all_made os) s.2 in
@@ -72,7 +73,7 @@ module _ (ds : List HVal) where
 
   mutual
     of_term : (a : ATm) (h : HTm) (os : Constants) (made env : List Thing) (k : ℕ) →
-        Stands_t ds os Any made env k a h → mallocs a + things_made os made ≡ made_in os h
+        Stands_t (scope ds os env k) Any made a h → mallocs a + things_made os made ≡ made_in os h
     of_term (Let (Value v) e) h os made env k (w, t, is, sv, at, st) =
         let a = ap (made_in os) is in
         let b = of_value v w os env k sv in
@@ -139,7 +140,7 @@ module _ (ds : List HVal) where
 
     -- the fields that are filled ask for as many tuples as they took
     of_filling : (a : ATm) (h : HTm) (os : Constants) (fs : List HVal) (n : ℕ) (taken made env : List Thing) (k : ℕ) →
-        Stands_t ds os (Filling fs n taken) made env k a h → all_made os (listed fs) ≡ things_made os taken →
+        Stands_t (scope ds os env k) (Filling fs n taken) made a h → all_made os (listed fs) ≡ things_made os taken →
         suc (mallocs a) + things_made os made ≡ made_in os h
     of_filling (Let (Init v i w) e) h os fs zero taken made env k (y, left, ev, ei, sw, at, st) same =
         let new = made_at env k (fs ++ y ∷ []) in
@@ -166,7 +167,7 @@ module _ (ds : List HVal) where
     of_filling (Halt v) h os fs n taken made env k s same = absurd s
 
     of_content : (a : ATm) (h : HTm) (os : Constants) (made env : List Thing) (k : ℕ) →
-        Stands_t ds os Content made env k a h → suc (mallocs a) + things_made os made ≡ made_in os h
+        Stands_t (scope ds os env k) Content made a h → suc (mallocs a) + things_made os made ≡ made_in os h
     of_content (Let (Init v i w) e) h os made env k (x, t, ev, ei, is, sw, at, st) =
         let a = ap (made_in os) is in
         let b = of_value w x os env k sw in
@@ -183,7 +184,7 @@ module _ (ds : List HVal) where
     of_content (Halt v) h os made env k s = absurd s
 
     of_unit : (a : ATm) (h : HTm) (os : Constants) (env : List Thing) (k : ℕ) →
-        Stands_t ds os Unit_named [] env k a h → mallocs a ≡ suc (made_in os h)
+        Stands_t (scope ds os env k) Unit_named [] a h → mallocs a ≡ suc (made_in os h)
     of_unit (Let (Malloc ts) e) h os env k (none, st) =
         let r = of_term e h os [] (Is k ∷ env) (suc k) st in omega (arith, r)
     of_unit (Let (Init v i w) e) h os env k s = absurd s

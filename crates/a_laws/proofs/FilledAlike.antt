@@ -5,7 +5,7 @@ use Rattle.h_terms.specs.H.{HVal, HTuple, HTm}
 use Rattle.a_terms.specs.Tree.{ATm, Let, Call, If0, Halt, Value, Proj, Arith, Unpack, Malloc, Init}
 use Rattle.a_laws.specs.Constants.{Constants}
 use Rattle.a_laws.specs.OneAllocation.{unnumbered, plain_term}
-use Rattle.a_laws.specs.Stands.{Thing, Gone, listed, takes, made_at, Stands_v, Any, Filling, Stands_t}
+use Rattle.a_laws.specs.Stands.{scope, Thing, Gone, listed, takes, made_at, Stands_v, Any, Filling, Stands_t}
 use Rattle.a_laws.proofs.Posts.{all_posts, things_posts, one_more, more_things, of_value, fields_of, posts_after}
 use Rattle.a_laws.proofs.OneValue.{Good, good_gone, good_made, one_value, as_many}
 
@@ -39,7 +39,7 @@ apart_last xs ys us vs n e =
 module _ (ds : List HVal) (os : Constants) (k : ℕ) (h : HTm) where
   -- so many fields are to come
   pub count_fields : (a : ATm) (fs : List HVal) (n : ℕ) (taken made env : List Thing)
-      (s : Stands_t ds os (Filling fs n taken) made env k a h) →
+      (s : Stands_t (scope ds os env k) (Filling fs n taken) made a h) →
       length (fields_of ds a h os fs n taken made env k s) ≡ suc n
   count_fields (Let (Init v i w) e) fs zero taken made env (y, left, ev, ei, sw, at, st) = refl
   count_fields (Let (Init v i w) e) fs (suc n) taken made env (y, ev, ei, sw, st) =
@@ -60,15 +60,15 @@ module _ (ds : List HVal) (os : Constants) (k : ℕ) (h : HTm) where
     pub one : ATm
     pub other : ATm
     pub good : Good env k
-    pub one_stands : Stands_t ds os Any next env k one h
-    pub other_stands : Stands_t ds os Any next env k other h
+    pub one_stands : Stands_t (scope ds os env k) Any next one h
+    pub other_stands : Stands_t (scope ds os env k) Any next other h
     pub moved : (rs : List HVal) → things_posts os made ++ tuple ∷ rs ≡ things_posts os next ++ rs
     pub taken_same : taken ≡ other_taken
     pub back : plain_term one ≡ plain_term other → plain_term a ≡ plain_term b
 
   pub alike : (m n : ℕ) (a b : ATm) (fs gs : List HVal) (taken other made env : List Thing) → Good env k →
-      (s : Stands_t ds os (Filling fs m taken) made env k a h) →
-      (r : Stands_t ds os (Filling gs n other) made env k b h) →
+      (s : Stands_t (scope ds os env k) (Filling fs m taken) made a h) →
+      (r : Stands_t (scope ds os env k) (Filling gs n other) made b h) →
       m ≡ n → fs ≡ gs → length taken ≡ length other →
       fields_of ds a h os fs m taken made env k s ≡ fields_of ds b h os gs n other made env k r →
       all_posts os (listed fs) ≡ things_posts os taken →
@@ -76,7 +76,7 @@ module _ (ds : List HVal) (os : Constants) (k : ℕ) (h : HTm) where
   alike zero zero (Let (Init v i w) e) (Let (Init u j x) f) fs gs taken other made env good
       (y, left, ev, ei, sw, at, st) (z, right, fv, fi, sx, bt, su) mn same long fields posted =
       let yz = head_is fields in
-      let sx2 = subst (λ q. Stands_v ds os env k x q) (sym yz) sx in
+      let sx2 = subst (λ q. Stands_v (scope ds os env k) x q) (sym yz) sx in
       let tops = as_many ds os env k good w x y sw sx2 in
       let p = length-append taken (takes env w) in
       let q = length-append other (takes env x) in
@@ -88,8 +88,9 @@ module _ (ds : List HVal) (os : Constants) (k : ℕ) (h : HTm) where
       let fields_at = ei ∙ ap (λ z. suc (length z)) same ∙ sym fi in
       let new = made_at env k (fs ++ y ∷ []) in
       let su1 =
-      subst (λ q. Stands_t ds os Any (right ++ made_at env k q ∷ []) (made_at env k q ∷ env) k f h) (sym all) su in
-      let su2 = subst (λ q. Stands_t ds os Any (q ++ new ∷ []) (new ∷ env) k f h) (sym parts.0) su1 in
+      subst (λ q. Stands_t (scope ds os (made_at env k q ∷ env) k) Any (right ++ made_at env k q ∷ []) f h) (sym all) su
+        in
+      let su2 = subst (λ q. Stands_t (scope ds os (new ∷ env) k) Any (q ++ new ∷ []) f h) (sym parts.0) su1 in
       let t = HTuple (listed (fs ++ y ∷ [])) in
       let more = takes env w in
       record {
@@ -112,7 +113,7 @@ module _ (ds : List HVal) (os : Constants) (k : ℕ) (h : HTm) where
   alike (suc m) (suc n) (Let (Init v i w) e) (Let (Init u j x) f) fs gs taken other made env good
       (y, ev, ei, sw, st) (z, fv, fi, sx, su) mn same long fields posted =
       let yz = head_is fields in
-      let sx2 = subst (λ q. Stands_v ds os env k x q) (sym yz) sx in
+      let sx2 = subst (λ q. Stands_v (scope ds os env k) x q) (sym yz) sx in
       let tops = as_many ds os env k good w x y sw sx2 in
       let p = length-append taken (takes env w) in
       let q = length-append other (takes env x) in

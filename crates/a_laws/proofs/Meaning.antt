@@ -19,7 +19,8 @@ use Rattle.a_terms.specs.Tree.{ATys, NoATys, MoreATys, AVal, Var, ADecl, Value, 
 use Rattle.a_terms.specs.Tree.{Let, Call, If0, Halt, ABlk, AConsts, arity}
 use Rattle.a_laws.specs.Allocate.{alloc_main, alloc_prog, atypes}
 use Rattle.a_laws.specs.Constants.{Constants, constant, constant_at, of_args, tuples_in}
-use Rattle.a_laws.specs.Stands.{AllocStands, Thing, Is, Gone, listed, made_at, takes, Stands_v, Stands_vs, Shows, Any}
+use Rattle.a_laws.specs.Stands.{scope, AllocStands, Thing, Is, Gone, listed, made_at, takes, Stands_v, Stands_vs, Shows}
+use Rattle.a_laws.specs.Stands.{Any}
 use Rattle.a_laws.specs.Stands.{Filling}
 use Rattle.a_laws.specs.Stands.{Content}
 use Rattle.a_laws.specs.Stands.{Unit_named, Stands_t, Stands_all, arg_things}
@@ -176,14 +177,15 @@ module _ (D : List AConsts) (ds : List HVal) (shown : Shows ds D ds) (ks : HBlks
       record { stores = s; agree = agree_moves m m2 h h2 k ys env vars g a.agree; known = a.known }
 
   read_v : (m : List ℕ) (h : A.AHeap) (st : HWords) (os : Constants) (env : List Thing) (k : ℕ) (ys : HWords)
-      (vars : List A.AWord) → At D m h st os env k ys vars → (v : AVal) (w : HVal) → Stands_v ds os env k v w →
+      (vars : List A.AWord) → At D m h st os env k ys vars → (v : AVal) (w : HVal) → Stands_v (scope ds os env k) v w →
       Reads m h vars v (hv_value w ys)
   read_v m h st os env k ys vars a v w s =
       value_reads m h D ds shown a.stores.kept os k ys a.known env vars a.agree v w s
 
   read_vs : (m : List ℕ) (h : A.AHeap) (st : HWords) (os : Constants) (env : List Thing) (k : ℕ) (ys : HWords)
       (vars : List A.AWord) → At D m h st os env k ys vars → (vs : List AVal) (ws : HVals) →
-      Stands_vs ds os env k vs ws → (xs : List A.AWord) × (A.values vars vs ≡ Some xs) × Rels m h (hvs_value ws ys) xs
+      Stands_vs (scope ds os env k) vs ws → (xs : List A.AWord) × (A.values vars vs ≡ Some xs) × Rels m h
+        (hvs_value ws ys) xs
   read_vs m h st os env k ys vars a vs ws s =
       values_read m h D ds shown a.stores.kept os k ys a.known env vars a.agree vs ws s
 
@@ -267,7 +269,7 @@ module _ (D : List AConsts) (ds : List HVal) (shown : Shows ds D ds) (ks : HBlks
 
     mutual
       term_rel : (a : ATm) (t : HTm) (os : Constants) (made env : List Thing) (k : ℕ) (ys : HWords) (m : List ℕ)
-          (h : A.AHeap) (st : HWords) (vars : List A.AWord) (log : List ℕ) → Stands_t ds os Any made env k a t →
+          (h : A.AHeap) (st : HWords) (vars : List A.AWord) (log : List ℕ) → Stands_t (scope ds os env k) Any made a t →
           At D m h st os env k ys vars → Same a vars h log t ys st
       term_rel (Let (Value v) e) t os made env k ys m h st vars log (w, u, is, sv, tk, se) g =
           let r = read_v m h st os env k ys vars g v w sv in
@@ -349,7 +351,7 @@ module _ (D : List AConsts) (ds : List HVal) (shown : Shows ds D ds) (ks : HBlks
       -- a tuple, the last one of the heap, some of whose fields are filled
       fill_rel : (a : ATm) (t : HTm) (os : Constants) (fs : List HVal) (n : ℕ) (taken made env : List Thing) (k : ℕ)
           (ys : HWords) (m : List ℕ) (h : A.AHeap) (st : HWords) (vars : List A.AWord) (log : List ℕ)
-          (ws : List A.AWord) → Stands_t ds os (Filling fs n taken) made (Gone ∷ env) k a t →
+          (ws : List A.AWord) → Stands_t (scope ds os (Gone ∷ env) k) (Filling fs n taken) made a t →
           At D m h st os env k ys vars → Rels m h (hvs_value (listed fs) ys) ws →
           Unstuck (hterm ks he t ys st).end →
           A.term next a (A.ZTuple (length h) ∷ vars) (h ++ (map Some ws ++ nones (suc n)) ∷ []) log
@@ -408,7 +410,7 @@ module _ (D : List AConsts) (ds : List HVal) (shown : Shows ds D ds) (ks : HBlks
       -- a cell, the last one of the heap, which is not set
       cell_rel : (a : ATm) (t : HTm) (os : Constants) (made env : List Thing) (k : ℕ) (ys : HWords) (m : List ℕ)
           (h : A.AHeap) (st : HWords) (vars : List A.AWord) (log : List ℕ) →
-          Stands_t ds os Content made (Gone ∷ env) k a t → At D m h st os env k ys vars →
+          Stands_t (scope ds os (Gone ∷ env) k) Content made a t → At D m h st os env k ys vars →
           Unstuck (hterm ks he t ys st).end →
           A.term next a (A.ZTuple (length h) ∷ vars) (h ++ (None ∷ []) ∷ []) log ≡ ends log (hterm ks he t ys st)
       cell_rel (Let (Init v i w) e) t os made env k ys m h st vars log (x, u, ev, ei, is, sw, tk, se) g =
@@ -446,7 +448,7 @@ module _ (D : List AConsts) (ds : List HVal) (shown : Shows ds D ds) (ks : HBlks
       -- the empty tuple that names an assignment
       unit_rel : (a : ATm) (t : HTm) (os : Constants) (made env : List Thing) (k : ℕ) (ys : HWords) (m : List ℕ)
           (h : A.AHeap) (st : HWords) (vars : List A.AWord) (log : List ℕ) →
-          Stands_t ds (None ∷ os) Unit_named made env k a t → At D m h st os env k ys vars →
+          Stands_t (scope ds (None ∷ os) env k) Unit_named made a t → At D m h st os env k ys vars →
           Same a vars h log t (MoreHWords (YTuple NoHWords) ys) st
       unit_rel (Let (Malloc ts) e) t os made env k ys m h st vars log (none, se) g =
           let here = A.ZTuple (length h) in
@@ -482,7 +484,8 @@ module _ (D : List AConsts) (ds : List HVal) (shown : Shows ds D ds) (ks : HBlks
     block : ABlk
     is : o ≡ Some block
     args : atypes x.args ≡ block.args
-    stands : Stands_t ds (of_args x.args []) Any [] (arg_things 0 [] block.args) (arity block.args) block.body x.body
+    stands : Stands_t (scope ds (of_args x.args []) (arg_things 0 [] block.args) (arity block.args)) Any [] block.body
+      x.body
 
   abbrev BlockOf : Option ABlk → Option HBlk → Type 0
   BlockOf o None = o ≡ None

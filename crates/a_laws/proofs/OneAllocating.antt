@@ -8,7 +8,7 @@ use Rattle.a_terms.specs.Tree.{Unpack, Malloc, Init, ABlk, arity}
 use Rattle.a_laws.specs.Allocate.{atypes}
 use Rattle.a_laws.specs.Constants.{Constants, constant, of_args, tuples_in}
 use Rattle.a_laws.specs.OneAllocation.{unnumbered, all_unnumbered, untyped, plain_term, plain_blocks, OneAllocation}
-use Rattle.a_laws.specs.Stands.{Thing, Is, Gone, listed, takes, all_take, Stands_v, Stands_vs, Any, Stands_t}
+use Rattle.a_laws.specs.Stands.{scope, Thing, Is, Gone, listed, takes, all_take, Stands_v, Stands_vs, Any, Stands_t}
 use Rattle.a_laws.specs.Stands.{Stands_all, arg_things}
 use Rattle.a_laws.proofs.Endings.{Ends, Makes, begins, all_there}
 use Rattle.a_laws.proofs.FilledAlike.{head_is, alike, apart, cancel, count_fields}
@@ -28,15 +28,15 @@ one_list (x ∷ xs) (y ∷ ys) e = ap₂ (λ p q. p ∷ q) (first_value e) (one_
 
 module _ (ds : List HVal) where
   values_same : (os : Constants) (env : List Thing) (k : ℕ) → Good env k → (vs us : List AVal) (ws : HVals) →
-      Stands_vs ds os env k vs ws → Stands_vs ds os env k us ws → all_take env vs ≡ all_take env us →
+      Stands_vs (scope ds os env k) vs ws → Stands_vs (scope ds os env k) us ws → all_take env vs ≡ all_take env us →
       all_unnumbered vs ≡ all_unnumbered us
   values_same os env k good [] [] ws s r t = refl
   values_same os env k good [] (u ∷ us) ws s r t = absurd (no_values (sym s ∙ r.2))
   values_same os env k good (v ∷ vs) [] ws s r t = absurd (no_values (sym r ∙ s.2))
   values_same os env k good (v ∷ vs) (u ∷ us) ws s r t =
       let e = sym s.2 ∙ r.2 in
-      let ru = subst (λ z. Stands_v ds os env k u z) (sym (first_value e)) r.3 in
-      let rest = subst (λ z. Stands_vs ds os env k us z) (sym (more_values e)) r.4 in
+      let ru = subst (λ z. Stands_v (scope ds os env k) u z) (sym (first_value e)) r.3 in
+      let rest = subst (λ z. Stands_vs (scope ds os env k) us z) (sym (more_values e)) r.4 in
       let tops = as_many ds os env k good v u s.0 s.3 ru in
       let parts = apart (takes env v) (all_take env vs) (takes env u) (all_take env us) tops t in
       ap₂ (λ p q. p ∷ q) (one_value ds os env k good v u s.0 s.3 ru parts.0)
@@ -44,8 +44,8 @@ module _ (ds : List HVal) where
 
   -- two values that take the tuples together
   two_values : (os : Constants) (env made : List Thing) (k : ℕ) → Good env k → (v u p q : AVal) (x y : HVal) →
-      Stands_v ds os env k v x → Stands_v ds os env k u y → takes env v ++ takes env u ≡ made →
-      Stands_v ds os env k p x → Stands_v ds os env k q y → takes env p ++ takes env q ≡ made →
+      Stands_v (scope ds os env k) v x → Stands_v (scope ds os env k) u y → takes env v ++ takes env u ≡ made →
+      Stands_v (scope ds os env k) p x → Stands_v (scope ds os env k) q y → takes env p ++ takes env q ≡ made →
       (unnumbered v ≡ unnumbered p) × (unnumbered u ≡ unnumbered q)
   two_values os env made k good v u p q x y sv su at sp sq bt =
       let tops = as_many ds os env k good v p x sv sp in
@@ -73,8 +73,9 @@ module _ (ds : List HVal) where
         none_more t rs (cancel (things_posts os made) [] (t ∷ rs) (all ∙ sym eq))
 
     -- two terms at one place, where these tuples are to come
-    run : (rs : List HVal) (made env : List Thing) (a b : ATm) → Good env k → Stands_t ds os Any made env k a h →
-        Stands_t ds os Any made env k b h → things_posts os made ++ rs ≡ first_posts os h → AtEnd →
+    run : (rs : List HVal) (made env : List Thing) (a b : ATm) → Good env k → Stands_t (scope ds os env k) Any made a h
+      →
+        Stands_t (scope ds os env k) Any made b h → things_posts os made ++ rs ≡ first_posts os h → AtEnd →
         plain_term a ≡ plain_term b
     run [] made env a b good s r eq end = ⊎_elim
         (λ (x : Ends ds os made env k h a). ⊎_elim
@@ -111,7 +112,7 @@ module _ (ds : List HVal) where
         (begins ds a h os made env k s)
 
   pub one_term : (h : HTm) (os : Constants) (env : List Thing) (k : ℕ) (a b : ATm) → Good env k →
-      Stands_t ds os Any [] env k a h → Stands_t ds os Any [] env k b h → plain_term a ≡ plain_term b
+      Stands_t (scope ds os env k) Any [] a h → Stands_t (scope ds os env k) Any [] b h → plain_term a ≡ plain_term b
   one_term (HLet (HName w) t) os env k a b good s r =
       run (HLet (HName w) t) os k (first_posts os (HLet (HName w) t)) [] env a b good s r refl
       (λ made env2 c d g x y.
@@ -205,7 +206,8 @@ module _ (ds : List HVal) where
   all_one (b ∷ bs) (c ∷ cs) (x ∷ xs) s r =
       let os = of_args x.args [] in
       let args = sym s.0.1 ∙ r.0.1 in
-      let rc = subst (λ z. Stands_t ds os Any [] (arg_things 0 [] z) (arity z) c.body x.body) (sym args) r.0.2 in
+      let rc = subst (λ z. Stands_t (scope ds os (arg_things 0 [] z) (arity z)) Any [] c.body x.body) (sym args) r.0.2
+        in
       let good = good_args b.args 0 [] (good_none 0) (arity b.args) (omega arith) in
       let body = one_term x.body os (arg_things 0 [] b.args) (arity b.args) b.body c.body good s.0.2 rc in
       ap₂ (λ p q. p ∷ q)

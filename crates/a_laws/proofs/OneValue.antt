@@ -6,7 +6,7 @@ use Rattle.a_terms.specs.Tree.{AVal, Var, Num, Lab, Data, Apply, Pack}
 use Rattle.a_laws.specs.Allocate.{atype, atypes}
 use Rattle.a_laws.specs.Constants.{Constants, constant}
 use Rattle.a_laws.specs.OneAllocation.{unnumbered}
-use Rattle.a_laws.specs.Stands.{Thing, Is, Made, Gone, thing_at, Means, tuple_of, takes, made_at, Stands_v}
+use Rattle.a_laws.specs.Stands.{scope, Thing, Is, Made, Gone, thing_at, Means, tuple_of, takes, made_at, Stands_v}
 use Rattle.a_laws.proofs.Inside.{integer, label, applied, types, hidden, content, shape}
 
 -- each variable and each tuple stands at one place
@@ -170,7 +170,7 @@ module _ (ds : List HVal) (os : Constants) (env : List Thing) (k : ℕ) (good : 
   differs : (m n : ℕ) (w : HVal) → form w ≡ m → form w ≡ n → (m ≡ n → ⊥) → ⊥
   differs m n w a b c = c (sym a ∙ b)
 
-  pub one_value : (v u : AVal) (w : HVal) → Stands_v ds os env k v w → Stands_v ds os env k u w →
+  pub one_value : (v u : AVal) (w : HVal) → Stands_v (scope ds os env k) v w → Stands_v (scope ds os env k) u w →
       takes env v ≡ takes env u → unnumbered v ≡ unnumbered u
   one_value (Var i1) (Var i2) w s r t = ap Var (one_var (thing_at env i1) (thing_at env i2) i1 i2 w refl refl s r t)
   one_value (Var i1) (Num n2) w s r t =
@@ -214,7 +214,7 @@ module _ (ds : List HVal) (os : Constants) (env : List Thing) (k : ℕ) (good : 
       absurd (differs 4 3 w (ap form s.2) (ap form r.2) (λ e. omega (arith, e)))
   one_value (Apply v1 ts1) (Apply v2 ts2) w s r t =
       let e = sym s.2 ∙ r.2 in
-      let inner = subst (λ z. Stands_v ds os env k v2 z) (sym (applied e)) r.4 in
+      let inner = subst (λ z. Stands_v (scope ds os env k) v2 z) (sym (applied e)) r.4 in
       ap₂ Apply (one_value v1 v2 s.0 s.4 inner t) (sym s.3 ∙ ap atypes (types e) ∙ r.3)
   one_value (Apply v1 ts1) (Pack h2 v2 s2) w s r t =
       absurd (differs 4 5 w (ap form s.2) (ap form r.3) (λ e. omega (arith, e)))
@@ -230,7 +230,7 @@ module _ (ds : List HVal) (os : Constants) (env : List Thing) (k : ℕ) (good : 
       absurd (differs 5 4 w (ap form s.3) (ap form r.2) (λ e. omega (arith, e)))
   one_value (Pack h1 v1 s1) (Pack h2 v2 s2) w s r t =
       let e = sym s.3 ∙ r.3 in
-      let inner = subst (λ z. Stands_v ds os env k v2 z) (sym (content e)) r.6 in
+      let inner = subst (λ z. Stands_v (scope ds os env k) v2 z) (sym (content e)) r.6 in
       ap (λ z. Pack z (unnumbered v1) s1) (sym s.4 ∙ ap atype (hidden e) ∙ r.4)
       ∙ ap₂ (Pack h2) (one_value v1 v2 s.1 s.6 inner t) (sym s.5 ∙ ap atype (shape e) ∙ r.5)
 
@@ -252,7 +252,7 @@ module _ (ds : List HVal) (os : Constants) (env : List Thing) (k : ℕ) (good : 
   of_thing (Made l m fs) w e = sym (ap tops e.1 ∙ ap tops_if (ap (constant os) (sym e.1) ∙ e.2))
   of_thing Gone w e = absurd e
 
-  how_many : (v : AVal) (w : HVal) → Stands_v ds os env k v w → length (takes env v) ≡ tops w
+  how_many : (v : AVal) (w : HVal) → Stands_v (scope ds os env k) v w → length (takes env v) ≡ tops w
   how_many (Var i) w s = of_thing (thing_at env i) w s
   how_many (Num n) w s = sym (ap tops s)
   how_many (Lab l) w s = sym (ap tops s)
@@ -261,6 +261,6 @@ module _ (ds : List HVal) (os : Constants) (env : List Thing) (k : ℕ) (good : 
   how_many (Pack h v u) w s = how_many v s.1 s.6 ∙ sym (ap tops s.3)
 
   -- two values that stand for one take as many
-  pub as_many : (v u : AVal) (w : HVal) → Stands_v ds os env k v w → Stands_v ds os env k u w →
+  pub as_many : (v u : AVal) (w : HVal) → Stands_v (scope ds os env k) v w → Stands_v (scope ds os env k) u w →
       length (takes env v) ≡ length (takes env u)
   as_many v u w s r = how_many v w s ∙ sym (how_many u w r)

@@ -6,7 +6,8 @@ use Rattle.h_terms.specs.H.{HArith, HUnpack, HCell, HGet, HSet, HTm, HLet, HCall
 use Rattle.a_terms.specs.Tree.{AVal, Var, Num, Lab, Data, Apply, Pack, ATm, Let, Call, If0, Halt, Value, Proj, Arith}
 use Rattle.a_terms.specs.Tree.{Unpack, Malloc, Init}
 use Rattle.a_laws.specs.Constants.{Constants, constant}
-use Rattle.a_laws.specs.Stands.{Thing, Is, Made, Gone, thing_at, listed, Means, tuple_of, takes, all_take, made_at}
+use Rattle.a_laws.specs.Stands.{scope, Thing, Is, Made, Gone, thing_at, listed, Means, tuple_of, takes, all_take}
+use Rattle.a_laws.specs.Stands.{made_at}
 use Rattle.a_laws.specs.Stands.{Stands_v, Stands_vs, Any, Filling, Content, Stands_t}
 
 abbrev with_tuple : Option HVal → List HVal → HVal → List HVal
@@ -73,7 +74,7 @@ module _ (ds : List HVal) where
       ∙ sym (append-nil (all_posts os (listed fs) ++ t ∷ []))
   of_thing os Gone m w e = absurd e
 
-  pub of_value : (v : AVal) (w : HVal) (os : Constants) (env : List Thing) (m : ℕ) → Stands_v ds os env m v w →
+  pub of_value : (v : AVal) (w : HVal) (os : Constants) (env : List Thing) (m : ℕ) → Stands_v (scope ds os env m) v w →
       posts os w ≡ things_posts os (takes env v)
   of_value (Var i) w os env m s = of_thing os (thing_at env i) m w s
   of_value (Num n) w os env m s = ap (posts os) s
@@ -85,26 +86,29 @@ module _ (ds : List HVal) where
   of_value (Pack h v u) w os env m s = ap (posts os) s.3 ∙ of_value v s.1 os env m s.6
 
   pub of_values : (vs : List AVal) (ws : HVals) (os : Constants) (env : List Thing) (m : ℕ) →
-      Stands_vs ds os env m vs ws → all_posts os ws ≡ things_posts os (all_take env vs)
+      Stands_vs (scope ds os env m) vs ws → all_posts os ws ≡ things_posts os (all_take env vs)
   of_values [] ws os env m s = ap (all_posts os) s
   of_values (v ∷ vs) ws os env m s =
       ap (all_posts os) s.2 ∙ ap₂ ◌++◌ (of_value v s.0 os env m s.3) (of_values vs s.1 os env m s.4)
       ∙ sym (more_things os (takes env v) (all_take env vs))
 
   -- one value that takes all that is made, and two
-  pub of_one : (v : AVal) (w : HVal) (os : Constants) (made env : List Thing) (m : ℕ) → Stands_v ds os env m v w →
+  pub of_one : (v : AVal) (w : HVal) (os : Constants) (made env : List Thing) (m : ℕ) → Stands_v (scope ds os env m) v w
+    →
       takes env v ≡ made → things_posts os made ≡ posts os w
   of_one v w os made env m s at = sym (of_value v w os env m s ∙ ap (things_posts os) at)
 
-  pub of_two : (v u : AVal) (x y : HVal) (os : Constants) (made env : List Thing) (m : ℕ) → Stands_v ds os env m v x →
-      Stands_v ds os env m u y → takes env v ++ takes env u ≡ made → things_posts os made ≡ posts os x ++ posts os y
+  pub of_two : (v u : AVal) (x y : HVal) (os : Constants) (made env : List Thing) (m : ℕ) → Stands_v (scope ds os env m)
+    v x →
+      Stands_v (scope ds os env m) u y → takes env v ++ takes env u ≡ made → things_posts os made ≡ posts os x ++ posts
+        os y
   of_two v u x y os made env m s r at =
       let both = ap₂ ◌++◌ (of_value v x os env m s) (of_value u y os env m r) in
       sym (both ∙ sym (more_things os (takes env v) (takes env u)) ∙ ap (things_posts os) at)
 
   -- the fields that are to come
   abbrev pub fields_of : (a : ATm) (h : HTm) (os : Constants) (fs : List HVal) (n : ℕ)
-      (taken made env : List Thing) (k : ℕ) → Stands_t ds os (Filling fs n taken) made env k a h → List HVal
+      (taken made env : List Thing) (k : ℕ) → Stands_t (scope ds os env k) (Filling fs n taken) made a h → List HVal
   fields_of (Let (Init v i w) e) h os fs zero taken made env k (y, left, ev, ei, sw, at, st) = y ∷ []
   fields_of (Let (Init v i w) e) h os fs (suc n) taken made env k (y, ev, ei, sw, st) =
       y ∷ fields_of e h os (fs ++ y ∷ []) n (taken ++ takes env w) made (Gone ∷ env) k st
@@ -146,7 +150,7 @@ module _ (ds : List HVal) where
   mutual
     -- the tuples that are made, and those to come
     pub to_come : (a : ATm) (h : HTm) (os : Constants) (made env : List Thing) (k : ℕ) →
-        Stands_t ds os Any made env k a h → (rs : List HVal) × (things_posts os made ++ rs ≡ first_posts os h)
+        Stands_t (scope ds os env k) Any made a h → (rs : List HVal) × (things_posts os made ++ rs ≡ first_posts os h)
     to_come (Let (Value v) e) h os made env k (w, t, is, sv, at, st) =
         ([], append-nil (things_posts os made) ∙ of_one ds v w os made env k sv at ∙ sym (ap (first_posts os) is))
     to_come (Let (Proj i v) e) h os made env k (w, t, inl is, sv, at, st) =
@@ -175,7 +179,7 @@ module _ (ds : List HVal) where
         ([], append-nil (things_posts os made) ∙ of_one ds v x os made env k sv at ∙ sym (ap (first_posts os) is))
 
     pub to_come_filled : (a : ATm) (h : HTm) (os : Constants) (fs : List HVal) (n : ℕ) (taken made env : List Thing)
-        (k : ℕ) (s : Stands_t ds os (Filling fs n taken) made env k a h) →
+        (k : ℕ) (s : Stands_t (scope ds os env k) (Filling fs n taken) made a h) →
         all_posts os (listed fs) ≡ things_posts os taken →
         (rs : List HVal)
         × (things_posts os made ++ HTuple (listed (fs ++ fields_of ds a h os fs n taken made env k s)) ∷ rs
@@ -204,7 +208,7 @@ module _ (ds : List HVal) where
     to_come_filled (Halt v) h os fs n taken made env k s same = absurd s
 
     in_cell : (a : ATm) (h : HTm) (os : Constants) (made env : List Thing) (k : ℕ) →
-        Stands_t ds os Content made env k a h → things_posts os made ++ [] ≡ first_posts os h
+        Stands_t (scope ds os env k) Content made a h → things_posts os made ++ [] ≡ first_posts os h
     in_cell (Let (Init v i w) e) h os made env k (x, t, ev, ei, is, sw, at, st) =
         append-nil (things_posts os made) ∙ of_one ds w x os made env k sw at ∙ sym (ap (first_posts os) is)
     in_cell (Let (Value v) e) h os made env k s = absurd s

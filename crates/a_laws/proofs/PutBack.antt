@@ -9,7 +9,8 @@ use Rattle.a_laws.specs.Back.{drop_fields, drops, held_by, shown_at}
 use Rattle.a_laws.specs.Constants.{Constants, constant, constant_at, constants, is_package, of_args, one_if, or_else}
 use Rattle.a_laws.specs.Constants.{packed, settle_all, settle_t, settle_v, settle_vs, tuples_all, tuples_in, tuples_t}
 use Rattle.a_laws.specs.Constants.{tuples_v, tuples_vs, two}
-use Rattle.a_laws.specs.Stands.{Any, Content, Filling, Gone, Is, Made, Means, Shown, Shows, Shows_fields, Shows_v}
+use Rattle.a_laws.specs.Stands.{scope, Any, Content, Filling, Gone, Is, Made, Means, Shown, Shows, Shows_fields}
+use Rattle.a_laws.specs.Stands.{Shows_v}
 use Rattle.a_laws.specs.Stands.{Stands_all, Stands_t, Stands_v, Stands_vs, Thing, arg_things, listed, made_at, named}
 use Rattle.a_laws.specs.Stands.{takes, thing_at}
 use Rattle.a_terms.specs.Meaning.{pick}
@@ -217,7 +218,7 @@ module _ (ds : List HVal) where
   var_back os k Gone s w m c p = absurd m
 
   value_back : (v : AVal) (w : HVal) (os : Constants) (k : ℕ) (env : List Thing) (benv : List Shown) →
-      Stands_v ds os env k v w → NoCell_v w → EnvOk os k env benv → back_v ds benv k v ≡ settle_v os w
+      Stands_v (scope ds os env k) v w → NoCell_v w → EnvOk os k env benv → back_v ds benv k v ≡ settle_v os w
   value_back (Var i) w os k env benv s c ok = var_back os k (thing_at env i) (shown_at benv i) w s c (ok i)
   value_back (Num n) w os k env benv s c ok = sym (ap (settle_v os) s)
   value_back (Lab l) w os k env benv s c ok = sym (ap (settle_v os) s)
@@ -235,7 +236,7 @@ module _ (ds : List HVal) where
       ∙ sym (ap (settle_v os) s.3)
 
   values_back : (vs : List AVal) (ws : HVals) (os : Constants) (k : ℕ) (env : List Thing) (benv : List Shown) →
-      Stands_vs ds os env k vs ws → NoCell_vs ws → EnvOk os k env benv → back_vs ds benv k vs ≡ settle_vs os ws
+      Stands_vs (scope ds os env k) vs ws → NoCell_vs ws → EnvOk os k env benv → back_vs ds benv k vs ≡ settle_vs os ws
   values_back [] ws os k env benv s c ok = sym (ap (settle_vs os) s)
   values_back (v ∷ vs) ws os k env benv s c ok =
       let n = subst NoCell_vs s.2 c in
@@ -243,7 +244,7 @@ module _ (ds : List HVal) where
       ∙ sym (ap (settle_vs os) s.2)
 
   content_no : (a : ATm) (h : HTm) (os : Constants) (made : List Thing) (env : List Thing) (k : ℕ) →
-      Stands_t ds os Content made env k a h → NoCell_t h → ⊥
+      Stands_t (scope ds os env k) Content made a h → NoCell_t h → ⊥
   content_no (Let (Init v i w) e) h os made env k s c = (subst NoCell_t s.4 c).0
   content_no (Let (Value v) e) h os made env k s c = s
   content_no (Let (Proj i v) e) h os made env k s c = s
@@ -268,7 +269,7 @@ module _ (ds : List HVal) where
   Partly os k fs s = NoCell_vs (listed fs) → s k ≡ HTuple (settle_vs os (listed fs))
 
   init_back : (v w : AVal) (os : Constants) (k : ℕ) (env : List Thing) (benv : List Shown) (fs : List HVal) (y : HVal) →
-      v ≡ Var 0 → Stands_v ds os env k w y → EnvOk os k env benv → Partly os k fs (shown_at benv 0) →
+      v ≡ Var 0 → Stands_v (scope ds os env k) w y → EnvOk os k env benv → Partly os k fs (shown_at benv 0) →
       Partly os k (fs ++ y ∷ []) (λ m. add_field (back_v ds benv m v) (back_v ds benv m w))
   init_back v w os k env benv fs y ev sw ok old c =
       let no = fields_no fs y c in
@@ -277,7 +278,7 @@ module _ (ds : List HVal) where
 
   mutual
     term_back : (a : ATm) (h : HTm) (os : Constants) (made : List Thing) (k : ℕ) (env : List Thing)
-        (benv : List Shown) → Stands_t ds os Any made env k a h → NoCell_t h → EnvOk os k env benv →
+        (benv : List Shown) → Stands_t (scope ds os env k) Any made a h → NoCell_t h → EnvOk os k env benv →
         back_t ds benv k a ≡ settle_t os h
     term_back (Let (Value v) e) h os made k env benv (w, t, is, sv, at, st) c ok =
         let n = subst NoCell_t is c in
@@ -328,7 +329,8 @@ module _ (ds : List HVal) where
         ap HHalt (value_back v x os k env benv sv n ok) ∙ sym (ap (settle_t os) is)
 
     fill_back : (a : ATm) (h : HTm) (os : Constants) (fs : List HVal) (n : ℕ) (taken made : List Thing) (k : ℕ)
-        (env : List Thing) (benv : List Shown) → Stands_t ds os (Filling fs n taken) made env k a h → NoCell_t h →
+        (env : List Thing) (benv : List Shown) → Stands_t (scope ds os env k) (Filling fs n taken) made a h → NoCell_t h
+          →
         EnvOk os k env benv →
         Partly os k fs (shown_at benv 0) → back_t ds benv k a ≡ settle_t os h
     fill_back (Let (Init v i w) e) h os fs zero taken made k env benv (y, left, ev, ei, sw, at, st) c ok old =
@@ -371,7 +373,7 @@ module _ (ds : List HVal) where
       let os = of_args x.args [] in
       let k = arg_count 0 b.args in
       let z : arity b.args ≡ k = sym (count_is b.args 0 ∙ omega arith) in
-      let st = subst (λ m. Stands_t ds os Any [] (arg_things 0 [] b.args) m b.body x.body) z s.0.2 in
+      let st = subst (λ m. Stands_t (scope ds os (arg_things 0 [] b.args) m) Any [] b.body x.body) z s.0.2 in
       let body = term_back b.body x.body os [] k (arg_things 0 [] b.args) (arg_names 0 [] b.args) st c.0.1
       (args_ok b.args 0 [] [] (λ os m i. tt) os k) in
       let args = ap drops (sym s.0.1) ∙ drops_are x.args c.0.0 in

@@ -12,7 +12,7 @@ use Rattle.h_terms.specs.H.{HGet, HSet, HTm, HLet, HHalt, HBlk}
 use Rattle.a_laws.specs.Allocate.{alloc_data, alloc_main, alloc_prog, atype}
 use Rattle.a_laws.specs.Back.{back_data, back_t}
 use Rattle.a_laws.specs.Constants.{settle_t, tuples_in}
-use Rattle.a_laws.specs.Stands.{Any, Stands, Stands_t, Thing}
+use Rattle.a_laws.specs.Stands.{scope, Any, Stands, Stands_t, Thing}
 
 abbrev any : CTy
 any = TCExists (TCVar 0)
@@ -189,7 +189,7 @@ cell_made =
 cell_is_made : alloc_main [] cell ≡ cell_made
 cell_is_made = refl
 
-cell_stands : Stands_t [] [] Any [] [] 0 cell_made cell
+cell_stands : Stands_t (scope [] [] [] 0) Any [] cell_made cell
 cell_stands =
     inr (
       refl,
@@ -225,7 +225,7 @@ second_field = Let (Malloc (MoreATys AInt NoATys)) (Let (Init (Var 0) 2 (Num (po
 not_first : (i : ℕ) → i ≡ 2 → i ≡ 1 → ⊥
 not_first i two one = omega (arith, two, one)
 
-not_second : (ds : List HVal) (h : HTm) → Stands_t ds [] Any [] [] 0 second_field h → ⊥
+not_second : (ds : List HVal) (h : HTm) → Stands_t (scope ds [] [] 0) Any [] second_field h → ⊥
 not_second ds h (inl (zero, many, (y, left, var, field, means, at, rest))) = not_first 2 refl field
 not_second ds h (inl (suc n, many, (y, var, field, means, rest))) = not_first 2 refl field
 not_second ds h (inr (one, (x, t, var, field, is, means, takes, rest))) = not_first 2 refl field
@@ -243,7 +243,7 @@ none_left (y ∷ xs) x e = cc
 more_than_two : (n : ℕ) → 2 ≡ suc (suc (suc n)) → ⊥
 more_than_two n e = omega (arith, e)
 
-not_idle : (ds : List HVal) (h : HTm) → Stands_t ds [] Any [] [] 0 idle h → ⊥
+not_idle : (ds : List HVal) (h : HTm) → Stands_t (scope ds [] [] 0) Any [] idle h → ⊥
 not_idle ds h (inl (zero, many, (y, left, var, field, means, at, (x, z, t, set, is, vx, vz, takes, rest)))) =
     not_first 2 refl set
 not_idle ds h
@@ -274,7 +274,7 @@ shared =
 shared_halts : meaning (record { blocks = []; tuples = [] }) shared 0 ≡ Halted (pos 5) []
 shared_halts = refl
 
-not_shared : (ds : List HVal) (h : HTm) → Stands_t ds [] Any [] [] 0 shared h → ⊥
+not_shared : (ds : List HVal) (h : HTm) → Stands_t (scope ds [] [] 0) Any [] shared h → ⊥
 not_shared ds h (
   x,
   y,

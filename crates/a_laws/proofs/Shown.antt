@@ -10,7 +10,7 @@ use Rattle.a_terms.specs.Meaning.{with_more}
 use Rattle.a_terms.specs.Tree.{AConsts, AVal, Var, Num, Lab, Data, Apply, Pack}
 use Rattle.a_laws.specs.Allocate.{all_closed, atype, atypes, closed, is_label}
 use Rattle.a_laws.specs.Constants.{Constants, constant, constant_at, constants, is_package, packed, two}
-use Rattle.a_laws.specs.Stands.{Thing, Is, Made, Gone, thing_at, Means, Stands_v, Stands_vs, Shows, Shows_fields}
+use Rattle.a_laws.specs.Stands.{scope, Thing, Is, Made, Gone, thing_at, Means, Stands_v, Stands_vs, Shows, Shows_fields}
 use Rattle.a_laws.specs.Stands.{Shows_v, listed}
 use Rattle.a_laws.proofs.OneValue.{form}
 use Rattle.a_laws.proofs.Rel.{Holds, Moves, Rel, Rels, rel_moves}
@@ -220,7 +220,7 @@ module _ (m : List ℕ) (h : AHeap) where
       var_reads (y ∷ env) (x ∷ vars) (suc i) w a s = var_reads env vars i w a.1 s
 
       module _ (env : List Thing) (vars : List AWord) (agree : Agree m h k ys env vars) where
-        pub value_reads : (v : AVal) (w : HVal) → Stands_v ds os env k v w → Reads vars v (hv_value w ys)
+        pub value_reads : (v : AVal) (w : HVal) → Stands_v (scope ds os env k) v w → Reads vars v (hv_value w ys)
         value_reads (Var i) w s = var_reads env vars i w agree s
         value_reads (Num n) w s = (ZInt n, refl, subst (λ z. Rel m h (hv_value z ys) (ZInt n)) (sym s) refl)
         value_reads (Lab l) w s = (ZLabel l, refl, subst (λ z. Rel m h (hv_value z ys) (ZLabel l)) (sym s) refl)
@@ -234,7 +234,7 @@ module _ (m : List ℕ) (h : AHeap) where
             let r = value_reads v s.1 s.6 in
             (r.0, r.1, subst (λ z. Rel m h (hv_value z ys) r.0) (sym s.3) r.2)
 
-        pub values_read : (vs : List AVal) (ws : HVals) → Stands_vs ds os env k vs ws →
+        pub values_read : (vs : List AVal) (ws : HVals) → Stands_vs (scope ds os env k) vs ws →
             (xs : List AWord) × (values vars vs ≡ Some xs) × Rels m h (hvs_value ws ys) xs
         values_read [] ws s = ([], refl, subst (λ z. Rels m h (hvs_value z ys) []) (sym s) refl)
         values_read (v ∷ vs) ws s =

@@ -15,7 +15,8 @@ use Rattle.a_laws.specs.Back.{arg_count}
 use Rattle.a_laws.specs.Constants.{Constants, constant, named_by, of_args, one_if, tuples_all, tuples_d, tuples_in}
 use Rattle.a_laws.specs.Constants.{tuples_t, tuples_v, tuples_vs}
 use Rattle.a_laws.specs.Statements.{AllocTypesKept}
-use Rattle.a_laws.specs.Stands.{AllHaveKinds, AllocStands, Any, HasKinds, Filling, Gone, Is, Made, Means, Stands_all}
+use Rattle.a_laws.specs.Stands.{scope, AllHaveKinds, AllocStands, Any, HasKinds, Filling, Gone, Is, Made, Means}
+use Rattle.a_laws.specs.Stands.{Stands_all}
 use Rattle.a_laws.specs.Stands.{Stands_t, Stands_v}
 use Rattle.a_laws.specs.Stands.{Stands_vs, Thing, all_take, arg_things, listed, takes, thing_at, tuple_of}
 use Rattle.a_terms.specs.Meaning.{pick}
@@ -66,7 +67,7 @@ module _ (ds : List HVal) where
     abbrev Read : ℕ → ℕ → HVal → ℕ → List Thing → List Thing → Type 0
     Read b e v d taken env =
         (d3 : ℕ) (env3 : List Thing) → Later d env d3 env3 →
-        Stands_v ds os env3 k0 (val ls b e d3 v) v × (takes env3 (val ls b e d3 v) ≡ taken)
+        Stands_v (scope ds os env3 k0) (val ls b e d3 v) v × (takes env3 (val ls b e d3 v) ≡ taken)
 
     abbrev Reads : ℕ → ℕ → HVals → ℕ → List Thing → List Thing → Type 0
     Reads b e NoHVals d taken env = taken ≡ []
@@ -82,7 +83,7 @@ module _ (ds : List HVal) where
         (r.0, r.1, r.2, λ d3 env3 p. r.3 d3 env3 (λ l x a. p l x (q l x a)), rest)
 
     all_read : (vs : HVals) (b e d : ℕ) (taken : List Thing) (env : List Thing) → Reads b e vs d taken env →
-        Stands_vs ds os env k0 (vals ls b e d vs) vs × (all_take env (vals ls b e d vs) ≡ taken)
+        Stands_vs (scope ds os env k0) (vals ls b e d vs) vs × (all_take env (vals ls b e d vs) ≡ taken)
     all_read NoHVals b e d taken env r = (refl, sym r)
     all_read (MoreHVals v vs) b e d taken env r =
         let first = r.3 d env (λ l x a. a) in
@@ -91,7 +92,7 @@ module _ (ds : List HVal) where
 
     -- a variable stands for a hoisted one, and takes no tuple
     abbrev Stays : List Thing → AVal → ℕ → Type 0
-    Stays env v i = Stands_v ds os env k0 v (HVar i) × (takes env v ≡ [])
+    Stays env v i = Stands_v (scope ds os env k0) v (HVar i) × (takes env v ≡ [])
 
     var_read : (ms : List Known) (k j i d : ℕ) (env : List Thing) → k0 ≡ k + j → i < k → Agree d ms k env →
         (d3 : ℕ) (env3 : List Thing) → Later d env d3 env3 →
@@ -113,14 +114,14 @@ module _ (ds : List HVal) where
       vars : List Thing
       taken : List Thing
       shows : (made next : List Thing) → next ≡ made ++ taken → (rest : ATm) (h : HTm) →
-          Stands_t ds os Any next vars k0 rest h → Stands_t ds os Any made env k0 (pre rest) h
+          Stands_t (scope ds os vars k0) Any next rest h → Stands_t (scope ds os env k0) Any made (pre rest) h
       later : Later d env d2 vars
       good : Q taken vars
 
     -- nothing is made
     as_is : (made next : List Thing) → next ≡ made ++ [] → (env : List Thing) (rest : ATm) (h : HTm) →
-        Stands_t ds os Any next env k0 rest h → Stands_t ds os Any made env k0 rest h
-    as_is made next e env rest h x = subst (λ m. Stands_t ds os Any m env k0 rest h) (e ∙ append-nil made) x
+        Stands_t (scope ds os env k0) Any next rest h → Stands_t (scope ds os env k0) Any made rest h
+    as_is made next e env rest h x = subst (λ m. Stands_t (scope ds os env k0) Any m rest h) (e ∙ append-nil made) x
 
     -- the fields after those of vs
     abbrev then_all : List HVal → HVals → List HVal
@@ -151,8 +152,8 @@ module _ (ds : List HVal) where
       shows : (made left next : List Thing) → made ≡ left ++ (done ++ taken) →
           next ≡ left ++ Made number k0 (then_all fs (MoreHVals v vs)) ∷ [] →
           (rest : ATm) (h : HTm) →
-          Stands_t ds os Any next (Made number k0 (then_all fs (MoreHVals v vs)) ∷ vars) k0 rest h →
-          Stands_t ds os (Filling fs (many vs) done) made (Gone ∷ env) k0 (pre rest) h
+          Stands_t (scope ds os (Made number k0 (then_all fs (MoreHVals v vs)) ∷ vars) k0) Any next rest h →
+          Stands_t (scope ds os (Gone ∷ env) k0) (Filling fs (many vs) done) made (pre rest) h
       later : Later (suc l) (Gone ∷ env) (suc (final l (MoreHVals v vs)))
           (Made number k0 (then_all fs (MoreHVals v vs)) ∷ vars)
 
@@ -175,7 +176,7 @@ module _ (ds : List HVal) where
             q,
             first.0,
             m ∙ ap (λ xs. left ++ (done ++ xs)) (sym same),
-            subst (λ z. Stands_t ds os Any z (new ∷ old) k0 rest h) n x,
+            subst (λ z. Stands_t (scope ds os (new ∷ old) k0) Any z rest h) n x,
           );
           later = λ p x a. at_more (suc l) old p x new a;
         }
@@ -208,7 +209,8 @@ module _ (ds : List HVal) where
         (Let (Malloc (v_types ks g vs)) (fill ls b d (vs_next ls d vs) 1 vs rest))))
         (pick c d (suc (final (vs_next ls d vs) vs)))
         (λ taken env2. (d3 : ℕ) (env3 : List Thing) → Later (pick c d (suc (final (vs_next ls d vs) vs))) env2 d3 env3 →
-        Stands_v ds os env3 k0 (pick c (Data (n_vs ls b vs)) (Var (d3 - suc (final (vs_next ls d vs) vs)))) (HTuple vs)
+        Stands_v (scope ds os env3 k0) (pick c (Data (n_vs ls b vs)) (Var (d3 - suc (final (vs_next ls d vs) vs))))
+          (HTuple vs)
         × (takes env3 (pick c (Data (n_vs ls b vs)) (Var (d3 - suc (final (vs_next ls d vs) vs)))) ≡ taken))
 
     tuple_comes : (vs : HVals) (b d : ℕ) (env : List Thing) →
@@ -350,7 +352,7 @@ module _ (ds : List HVal) where
 
   module _ (ks : HBlks) where
     abbrev Standing : HTm → List ATy → List Known → Constants → ℕ → ℕ → ℕ → List Thing → Type 0
-    Standing t g ls os k b d env = Stands_t ds os Any [] env k (alloc_t ks g ls b d t) t
+    Standing t g ls os k b d env = Stands_t (scope ds os env k) Any [] (alloc_t ks g ls b d t) t
 
     stands_is : (t : HTm) (g : List ATy) (ls : List Known) (os : Constants) (k b d : ℕ) (env : List Thing) →
         Within ds b (tuples_t os t) → AgreeK ds ls os → InT k t → Agree d ls k env → Standing t g ls os k b d env
@@ -587,7 +589,7 @@ module _ (ds : List HVal) where
           (
             refl,
             refl,
-            subst (λ k. Stands_t ds os Any [] (arg_things 0 [] (atypes x.args)) k
+            subst (λ k. Stands_t (scope ds os (arg_things 0 [] (atypes x.args)) k) Any []
                 (alloc_t ks (types_of (atypes x.args) []) (arg_levels 0 [] x.args) b (arg_depth 0 x.args) x.body)
                 x.body) n z,
           ),

@@ -5,7 +5,7 @@
 -- field, or by the next declaration, call, choice or halt. So none is idle, and none stands for two. A cell looks like
 -- a tuple of one field, so at a malloc, an initialisation and a projection either may be meant. The type that is
 -- written at a field of data is that of its value.
-use Rattle.std.specs.Prelude.{◌≡◌, ◌⊎◌, ◌++◌, ℕ, zero, suc, ◌-◌, List, [], ◌∷◌, length, slice_get, Some, None}
+use Rattle.std.specs.Prelude.{◌≡◌, ◌⊎◌, ◌++◌, ℕ, zero, suc, ◌-◌, List, [], ◌∷◌, length, slice_get, Option, Some, None}
 use Rattle.c_terms.specs.C.{CTy, CTys}
 use Rattle.h_terms.specs.H.{HVal, HVar, HInt, HLabel, HTuple, HApply, HPack, HVals, NoHVals, MoreHVals, HName, HProj}
 use Rattle.h_terms.specs.H.{HArith, HUnpack, HCell, HGet, HSet, HTm, HLet, HCall, HIf, HHalt, HBlks}
@@ -62,27 +62,45 @@ abbrev pub all_take : List Thing → List AVal → List Thing
 all_take env [] = []
 all_take env (v ∷ vs) = takes env v ++ all_take env vs
 
--- the tuple that is made where these are the variables and k those of the hoisted term
+-- what is in scope of a part of the allocated term: the values that the program's data stand for; the constants that
+-- the variables of the hoisted term name, and how many these are; and what the allocated term's variables stand for
+pub record Scope : Type 0 where
+  pub tuples : List HVal
+  pub constants : Constants
+  pub things : List Thing
+  pub names : ℕ
+
+abbrev pub scope : List HVal → Constants → List Thing → ℕ → Scope
+scope ds os env k = record { tuples = ds; constants = os; things = env; names = k }
+
+-- with one more variable of the hoisted term, which names this constant, if any, and is the new variable
+abbrev pub with_name : Option HVal → Scope → Scope
+with_name o s = scope s.tuples (o ∷ s.constants) (Is s.names ∷ s.things) (suc s.names)
+
+-- with one more variable of the allocated term alone
+abbrev pub with_thing : Thing → Scope → Scope
+with_thing x s = scope s.tuples s.constants (x ∷ s.things) s.names
+
+-- the tuple that is made with these fields
 abbrev pub made_at : List Thing → ℕ → List HVal → Thing
 made_at env k fs = Made (length env) k fs
 
--- the value v stands for w, where the data stand for ds
-abbrev pub Stands_v : List HVal → Constants → List Thing → ℕ → AVal → HVal → Type 0
-Stands_v ds os env m (Var i) w = Means os (thing_at env i) m w
-Stands_v ds os env m (Num n) w = w ≡ HInt n
-Stands_v ds os env m (Lab l) w = w ≡ HLabel l
-Stands_v ds os env m (Data n) w =
-    (vs : HVals) × (c : HVal) × (w ≡ HTuple vs) × (constant os w ≡ Some c) × (slice_get ds n ≡ Some c)
-Stands_v ds os env m (Apply v ts) w =
-    (x : HVal) × (us : CTys) × (w ≡ HApply x us) × (atypes us ≡ ts) × Stands_v ds os env m v x
-Stands_v ds os env m (Pack h v s) w =
-    (a : CTy) × (x : HVal) × (b : CTy) × (w ≡ HPack a x b) × (atype a ≡ h) × (atype b ≡ s)
-    × Stands_v ds os env m v x
+-- the value v stands for w
+abbrev pub Stands_v : Scope → AVal → HVal → Type 0
+Stands_v s (Var i) w = Means s.constants (thing_at s.things i) s.names w
+Stands_v s (Num n) w = w ≡ HInt n
+Stands_v s (Lab l) w = w ≡ HLabel l
+Stands_v s (Data n) w =
+    (vs : HVals) × (c : HVal) × (w ≡ HTuple vs) × (constant s.constants w ≡ Some c) × (slice_get s.tuples n ≡ Some c)
+Stands_v s (Apply v ts) w =
+    (x : HVal) × (us : CTys) × (w ≡ HApply x us) × (atypes us ≡ ts) × Stands_v s v x
+Stands_v s (Pack h v t) w =
+    (a : CTy) × (x : HVal) × (b : CTy) × (w ≡ HPack a x b) × (atype a ≡ h) × (atype b ≡ t) × Stands_v s v x
 
-abbrev pub Stands_vs : List HVal → Constants → List Thing → ℕ → List AVal → HVals → Type 0
-Stands_vs ds os env m [] ws = ws ≡ NoHVals
-Stands_vs ds os env m (v ∷ vs) ws =
-    (x : HVal) × (xs : HVals) × (ws ≡ MoreHVals x xs) × Stands_v ds os env m v x × Stands_vs ds os env m vs xs
+abbrev pub Stands_vs : Scope → List AVal → HVals → Type 0
+Stands_vs s [] ws = ws ≡ NoHVals
+Stands_vs s (v ∷ vs) ws =
+    (x : HVal) × (xs : HVals) × (ws ≡ MoreHVals x xs) × Stands_v s v x × Stands_vs s vs xs
 
 -- the value of a data field, in which no variable stands, is w
 abbrev pub Shows_v : List HVal → AVal → HVal → Type 0
@@ -123,52 +141,51 @@ pub data Mode : Type 0 where
   Content : Mode
   Unit_named : Mode
 
--- the term a stands for h, where k variables of the hoisted term are in scope, and name the constants os, and these
--- tuples are made and not taken
-abbrev pub Stands_t : List HVal → Constants → Mode → List Thing → List Thing → ℕ → ATm → HTm → Type 0
-Stands_t ds os Any made env k (Let (Value v) e) h =
-    (w : HVal) × (t : HTm) × (h ≡ HLet (HName w) t) × Stands_v ds os env k v w × (takes env v ≡ made)
-    × Stands_t ds (constant os w ∷ os) Any [] (Is k ∷ env) (suc k) e t
-Stands_t ds os Any made env k (Let (Proj i v) e) h =
+-- the term a stands for h, where these tuples are made and not taken
+abbrev pub Stands_t : Scope → Mode → List Thing → ATm → HTm → Type 0
+Stands_t s Any made (Let (Value v) e) h =
+    (w : HVal) × (t : HTm) × (h ≡ HLet (HName w) t) × Stands_v s v w × (takes s.things v ≡ made)
+    × Stands_t (with_name (constant s.constants w) s) Any [] e t
+Stands_t s Any made (Let (Proj i v) e) h =
     (w : HVal) × (t : HTm) × ((h ≡ HLet (HProj i w) t) ⊎ ((i ≡ 1) × (h ≡ HLet (HGet w) t)))
-    × Stands_v ds os env k v w × (takes env v ≡ made)
-    × Stands_t ds (None ∷ os) Any [] (Is k ∷ env) (suc k) e t
-Stands_t ds os Any made env k (Let (Arith op v w) e) h =
-    (x : HVal) × (y : HVal) × (t : HTm) × (h ≡ HLet (HArith op x y) t) × Stands_v ds os env k v x
-    × Stands_v ds os env k w y × (takes env v ++ takes env w ≡ made)
-    × Stands_t ds (None ∷ os) Any [] (Is k ∷ env) (suc k) e t
-Stands_t ds os Any made env k (Let (Unpack v) e) h =
-    (w : HVal) × (t : HTm) × (h ≡ HLet (HUnpack w) t) × Stands_v ds os env k v w × (takes env v ≡ made)
-    × Stands_t ds (None ∷ os) Any [] (Is k ∷ env) (suc k) e t
-Stands_t ds os Any made env k (Let (Malloc ts) e) h =
-    ((n : ℕ) × (arity ts ≡ suc n) × Stands_t ds os (Filling [] n []) made (Gone ∷ env) k e h)
-    ⊎ ((arity ts ≡ 1) × Stands_t ds os Content made (Gone ∷ env) k e h)
-Stands_t ds os Any made env k (Let (Init v i w) e) h =
-    (x : HVal) × (y : HVal) × (t : HTm) × (i ≡ 1) × (h ≡ HLet (HSet x y) t) × Stands_v ds os env k v x
-    × Stands_v ds os env k w y × (takes env v ++ takes env w ≡ made)
-    × Stands_t ds (None ∷ os) Unit_named [] (Gone ∷ env) k e t
-Stands_t ds os Any made env k (Call v ts vs) h =
-    (x : HVal) × (us : CTys) × (xs : HVals) × (h ≡ HCall x us xs) × (atypes us ≡ ts) × Stands_v ds os env k v x
-    × Stands_vs ds os env k vs xs × (takes env v ++ all_take env vs ≡ made)
-Stands_t ds os Any made env k (If0 v a b) h =
-    (x : HVal) × (t : HTm) × (u : HTm) × (h ≡ HIf x t u) × Stands_v ds os env k v x × (takes env v ≡ made)
-    × Stands_t ds os Any [] env k a t × Stands_t ds os Any [] env k b u
-Stands_t ds os Any made env k (Halt v) h =
-    (x : HVal) × (h ≡ HHalt x) × Stands_v ds os env k v x × (takes env v ≡ made)
+    × Stands_v s v w × (takes s.things v ≡ made) × Stands_t (with_name None s) Any [] e t
+Stands_t s Any made (Let (Arith op v w) e) h =
+    (x : HVal) × (y : HVal) × (t : HTm) × (h ≡ HLet (HArith op x y) t) × Stands_v s v x × Stands_v s w y
+    × (takes s.things v ++ takes s.things w ≡ made) × Stands_t (with_name None s) Any [] e t
+Stands_t s Any made (Let (Unpack v) e) h =
+    (w : HVal) × (t : HTm) × (h ≡ HLet (HUnpack w) t) × Stands_v s v w × (takes s.things v ≡ made)
+    × Stands_t (with_name None s) Any [] e t
+Stands_t s Any made (Let (Malloc ts) e) h =
+    ((n : ℕ) × (arity ts ≡ suc n) × Stands_t (with_thing Gone s) (Filling [] n []) made e h)
+    ⊎ ((arity ts ≡ 1) × Stands_t (with_thing Gone s) Content made e h)
+Stands_t s Any made (Let (Init v i w) e) h =
+    (x : HVal) × (y : HVal) × (t : HTm) × (i ≡ 1) × (h ≡ HLet (HSet x y) t) × Stands_v s v x × Stands_v s w y
+    × (takes s.things v ++ takes s.things w ≡ made)
+    × Stands_t (scope s.tuples (None ∷ s.constants) (Gone ∷ s.things) s.names) Unit_named [] e t
+Stands_t s Any made (Call v ts vs) h =
+    (x : HVal) × (us : CTys) × (xs : HVals) × (h ≡ HCall x us xs) × (atypes us ≡ ts) × Stands_v s v x
+    × Stands_vs s vs xs × (takes s.things v ++ all_take s.things vs ≡ made)
+Stands_t s Any made (If0 v a b) h =
+    (x : HVal) × (t : HTm) × (u : HTm) × (h ≡ HIf x t u) × Stands_v s v x × (takes s.things v ≡ made)
+    × Stands_t s Any [] a t × Stands_t s Any [] b u
+Stands_t s Any made (Halt v) h =
+    (x : HVal) × (h ≡ HHalt x) × Stands_v s v x × (takes s.things v ≡ made)
 -- the last field; the tuples that the fields took are the last that were made, and the new one comes in their place
-Stands_t ds os (Filling fs zero taken) made env k (Let (Init v i w) e) h =
-    (y : HVal) × (left : List Thing) × (v ≡ Var 0) × (i ≡ suc (length fs)) × Stands_v ds os env k w y
-    × (made ≡ left ++ (taken ++ takes env w))
-    × Stands_t ds os Any (left ++ made_at env k (fs ++ y ∷ []) ∷ []) (made_at env k (fs ++ y ∷ []) ∷ env) k e h
-Stands_t ds os (Filling fs (suc n) taken) made env k (Let (Init v i w) e) h =
-    (y : HVal) × (v ≡ Var 0) × (i ≡ suc (length fs)) × Stands_v ds os env k w y
-    × Stands_t ds os (Filling (fs ++ y ∷ []) n (taken ++ takes env w)) made (Gone ∷ env) k e h
-Stands_t ds os Content made env k (Let (Init v i w) e) h =
-    (x : HVal) × (t : HTm) × (v ≡ Var 0) × (i ≡ 1) × (h ≡ HLet (HCell x) t) × Stands_v ds os env k w x
-    × (takes env w ≡ made) × Stands_t ds (None ∷ os) Any [] (Is k ∷ env) (suc k) e t
-Stands_t ds os Unit_named made env k (Let (Malloc ts) e) h =
-    (ts ≡ NoATys) × Stands_t ds os Any made (Is k ∷ env) (suc k) e h
-Stands_t ds os _ made env k _ h = ⊥
+Stands_t s (Filling fs zero taken) made (Let (Init v i w) e) h =
+    (y : HVal) × (left : List Thing) × (v ≡ Var 0) × (i ≡ suc (length fs)) × Stands_v s w y
+    × (made ≡ left ++ (taken ++ takes s.things w))
+    × Stands_t (with_thing (made_at s.things s.names (fs ++ y ∷ [])) s) Any
+    (left ++ made_at s.things s.names (fs ++ y ∷ []) ∷ []) e h
+Stands_t s (Filling fs (suc n) taken) made (Let (Init v i w) e) h =
+    (y : HVal) × (v ≡ Var 0) × (i ≡ suc (length fs)) × Stands_v s w y
+    × Stands_t (with_thing Gone s) (Filling (fs ++ y ∷ []) n (taken ++ takes s.things w)) made e h
+Stands_t s Content made (Let (Init v i w) e) h =
+    (x : HVal) × (t : HTm) × (v ≡ Var 0) × (i ≡ 1) × (h ≡ HLet (HCell x) t) × Stands_v s w x
+    × (takes s.things w ≡ made) × Stands_t (with_name None s) Any [] e t
+Stands_t s Unit_named made (Let (Malloc ts) e) h =
+    (ts ≡ NoATys)
+    × Stands_t (scope s.tuples s.constants (Is s.names ∷ s.things) (suc s.names)) Any made e h
+Stands_t s _ made _ h = ⊥
 
 -- the arguments of a block are its first variables
 abbrev pub arg_things : ℕ → List Thing → ATys → List Thing
@@ -181,7 +198,7 @@ Stands_all ds [] (x ∷ xs) = ⊥
 Stands_all ds (b ∷ bs) [] = ⊥
 Stands_all ds (b ∷ bs) (x ∷ xs) =
     ((b.owes ≡ x.owes) × (atypes x.args ≡ b.args)
-    × Stands_t ds (of_args x.args []) Any [] (arg_things 0 [] b.args) (arity b.args) b.body x.body)
+    × Stands_t (scope ds (of_args x.args []) (arg_things 0 [] b.args) (arity b.args)) Any [] b.body x.body)
     × Stands_all ds bs xs
 
 -- a program stands for a hoisted program, block by block; its data tuples, one after the other, are the tuples of
@@ -189,7 +206,7 @@ Stands_all ds (b ∷ bs) (x ∷ xs) =
 abbrev pub Stands : AProg → ATm → HBlks → HTm → Type 0
 Stands p main ks t =
     Shows (tuples_in ks t) p.tuples (tuples_in ks t) × AllHaveKinds p p.tuples
-    × Stands_all (tuples_in ks t) p.blocks ks × Stands_t (tuples_in ks t) [] Any [] [] 0 main t
+    × Stands_all (tuples_in ks t) p.blocks ks × Stands_t (scope (tuples_in ks t) [] [] 0) Any [] main t
 
 -- the allocation of a typed program stands for it
 abbrev pub AllocStands : Type 0

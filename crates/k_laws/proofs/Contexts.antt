@@ -12,7 +12,7 @@ use Rattle.f_terms.specs.Tm.{MOpen, MRef, MDeref, MAssign}
 use Rattle.k_laws.proofs.Below.{Belows}
 use Rattle.f_terms.specs.Keeps.{Keeps, TypeHas}
 use Rattle.k_laws.specs.Cps.{taking, kat, Atom, Level, Literal}
-use Rattle.k_laws.specs.Translates.{AnyRest, atom_of, cps}
+use Rattle.k_laws.specs.Translates.{AnyRest, atom_of, cps, scope}
 use Rattle.k_laws.proofs.KTypes.{LevelsIn, lift_lift, deeper, raised_at}
 use Rattle.f_terms.specs.OneType.{some_is}
 use Rattle.calc_core.proofs.Lifts.{lift_le}
@@ -143,7 +143,7 @@ head_keeps S (MDeref e) n g h = h.0
 head_keeps S (MAssign a b) n g h = h.0
 
 pub head_typed : (e : Term) (n : ℕ) (tl : List ℕ) (g : Tys) (t : Ty) (td depth : ℕ) (names : List Atom) (k : AnyRest)
-    (m : KTm) → cps e n tl g t td depth names k m → HasType e n g t
+    (m : KTm) → cps e (scope n tl g names) t td depth k m → HasType e n g t
 head_typed (MVar i) n tl g t td depth names k m h = h.0
 head_typed (MNum i) n tl g t td depth names k m h = h.0
 head_typed (MFix arg res e) n tl g t td depth names k m h = h.0

@@ -13,6 +13,7 @@ use Rattle.k_laws.specs.Annotated.{Annotated, AllAnnotated}
 use Rattle.k_laws.specs.Translates.{Thing, Plain, Made, Things, NoThings, MoreThings, is_atom, stands, named, stand}
 use Rattle.k_laws.specs.Translates.{tuple_of, Form, Forms, AnyRest, Bind, Pass, to_rest, deliver, as_value, atom_of}
 use Rattle.k_laws.specs.Translates.{call_form, inst_form, one_form, two_form, let_form, open_form, bound_once, cps}
+use Rattle.k_laws.specs.Translates.{scope}
 use Rattle.k_laws.specs.Translates.{cps_all, halting, cps_program}
 use Rattle.k_laws.proofs.KTypes.{raised_at}
 
@@ -157,12 +158,12 @@ InTail tail (f.Pass l) = Unit {0}
 abbrev MeetsAt : Bool → Noted → Type 1
 MeetsAt tail e = (n : ℕ) (tl : List ℕ) (g : Tys) (t : Ty) (td d : ℕ) (names : List Atom) (k : Rest) (r : AnyRest) →
     InTail tail k → Annotated tail e n g t → Suits g names d → Fits d k (typ tl t) r →
-    cps (bare e) n tl g t td d names r (f.cps e td d tl names k)
+    cps (bare e) (scope n tl g names) t td d r (f.cps e td d tl names k)
 
 -- the test and both branches, for the name of a level
 abbrev choice_form : Noted → Noted → ℕ → List ℕ → Tys → Ty → List Atom → ℕ → Form
 choice_form a b n tl g t names l ta d2 cv m2 = (c' : KVal) × (ma mb : KTm) × stands cv ta d2 c' × (m2 ≡ KIf c' ma mb)
-    × cps (bare a) n tl g t ta d2 names (Pass l) ma × cps (bare b) n tl g t ta d2 names (Pass l) mb
+    × cps (bare a) (scope n tl g names) t ta d2 (Pass l) ma × cps (bare b) (scope n tl g names) t ta d2 (Pass l) mb
 
 abbrev choice : Noted → Noted → List ℕ → List Atom → ℕ → Rest
 choice a b tl names l =
@@ -171,7 +172,7 @@ choice a b tl names l =
 chooses : (c a b : Noted) → MeetsAt false c → MeetsAt true a → MeetsAt true b →
     (n : ℕ) (tl : List ℕ) (g : Tys) (t : Ty) (td d : ℕ) (names : List Atom) (l : ℕ) →
     Annotated false c n g TInt → Annotated true a n g t → Annotated true b n g t → Suits g names d → l < d →
-    cps (bare c) n tl g TInt td d names (Bind tl TInt (choice_form a b n tl g t names l))
+    cps (bare c) (scope n tl g names) TInt td d (Bind tl TInt (choice_form a b n tl g t names l))
     (f.cps c td d tl names (choice a b tl names l))
 chooses c a b mc ma mb n tl g t td d names l hc ha hb suits lt =
     mc n tl g TInt td d names (choice a b tl names l) (Bind tl TInt (choice_form a b n tl g t names l)) refl hc suits (
@@ -192,7 +193,7 @@ chooses c a b mc ma mb n tl g t td d names l hc ha hb suits lt =
 abbrev BoundAt : Noted → Noted → Noted → ℕ → List ℕ → Tys → Ty → ℕ → ℕ → List Atom → AnyRest → KTm → Type 0
 BoundAt c a b n tl g t td d names r m =
     bound_once r td d
-    (λ d1 l m1. cps (bare c) n tl g TInt td d1 names (Bind tl TInt (choice_form a b n tl g t names l)) m1) m
+    (λ d1 l m1. cps (bare c) (scope n tl g names) TInt td d1 (Bind tl TInt (choice_form a b n tl g t names l)) m1) m
 
 bounds : (c a b : Noted) → MeetsAt false c → MeetsAt true a → MeetsAt true b →
     (n : ℕ) (tl : List ℕ) (g : Tys) (t : Ty) (td d : ℕ) (names : List Atom) (k : Rest) (r : AnyRest) →
@@ -211,7 +212,7 @@ bounds c a b mc ma mb n tl g t td d names (f.Bind form) (Bind tk u any) hc ha hb
 bounds c a b mc ma mb n tl g t td d names (f.Bind form) (Pass l) hc ha hb suits fits = absurd fits
 bounds c a b mc ma mb n tl g t td d names (f.Pass l) (Bind tk u any) hc ha hb suits fits = absurd fits
 bounds c a b mc ma mb n tl g t td d names (f.Pass l) (Pass k) hc ha hb suits fits =
-    subst (λ j. cps (bare c) n tl g TInt td d names (Bind tl TInt (choice_form a b n tl g t names j))
+    subst (λ j. cps (bare c) (scope n tl g names) TInt td d (Bind tl TInt (choice_form a b n tl g t names j))
     (f.cps c td d tl names (choice a b tl names l))) (sym fits.0)
     (chooses c a b mc ma mb n tl g t td d names l hc ha hb suits fits.1)
 
@@ -269,7 +270,7 @@ meets_one : (e : Noted) → MeetsAt false e →
     (make : ℕ → KVal → KDecl) (n : ℕ) (tl : List ℕ) (g : Tys) (s : Ty) (t : ℕ → KTy) (td d : ℕ) (names : List Atom)
     (k : Rest) (r : AnyRest) →
     Annotated false e n g s → Suits g names d → Fits d k t r →
-    cps (bare e) n tl g s td d names (Bind tl s (one_form r make)) (f.cps e td d tl names (f.to_one make k))
+    cps (bare e) (scope n tl g names) s td d (Bind tl s (one_form r make)) (f.cps e td d tl names (f.to_one make k))
 meets_one e me make n tl g s t td d names k r h suits fits =
     me n tl g s td d names (f.to_one make k) (Bind tl s (one_form r make)) refl h suits (
       (λ ta. refl),
@@ -281,12 +282,12 @@ meets_two : (x y : Noted) → MeetsAt false x → MeetsAt false y →
     (make : KVal → KVal → KDecl) (n : ℕ) (tl : List ℕ) (g : Tys) (s u : Ty) (t : ℕ → KTy) (td d : ℕ)
     (names : List Atom) (k : Rest) (r : AnyRest) →
     Annotated false x n g s → Annotated false y n g u → Suits g names d → Fits d k t r →
-    cps (bare x) n tl g s td d names
-    (Bind tl s (λ ta d1 av m1. cps (bare y) n tl g u ta d1 names (Bind tl u (two_form r make av)) m1))
+    cps (bare x) (scope n tl g names) s td d
+    (Bind tl s (λ ta d1 av m1. cps (bare y) (scope n tl g names) u ta d1 (Bind tl u (two_form r make av)) m1))
     (f.cps x td d tl names (f.Bind (λ ta d1 aa. f.cps y ta d1 tl names (f.to_two make aa k))))
 meets_two x y mx my make n tl g s u t td d names k r hx hy suits fits =
     mx n tl g s td d names (f.Bind (λ ta d1 aa. f.cps y ta d1 tl names (f.to_two make aa k)))
-    (Bind tl s (λ ta d1 av m1. cps (bare y) n tl g u ta d1 names (Bind tl u (two_form r make av)) m1)) refl hx
+    (Bind tl s (λ ta d1 av m1. cps (bare y) (scope n tl g names) u ta d1 (Bind tl u (two_form r make av)) m1)) refl hx
     suits (
       (λ ta. refl),
       λ ta e1 a le good. my n tl g u ta e1 names (f.to_two make a k) (Bind tl u (two_form r make (Plain a))) refl hy
@@ -339,7 +340,8 @@ mutual
         s,
         meets false e n tl g (TArrow s t) td d names
             (f.Bind (λ ta d1 fa. f.cps x ta d1 tl names (f.to_call tl fa u k)))
-            (Bind tl (TArrow s t) (λ ta d1 fv m1. cps (bare x) n tl g s ta d1 names (Bind tl s (call_form r fv)) m1))
+            (Bind tl (TArrow s t) (λ ta d1 fv m1. cps (bare x) (scope n tl g names) s ta d1 (Bind tl s (call_form r fv))
+              m1))
             refl h.1.1 suits (
               (λ ta. refl),
               λ ta e1 a le good. meets false x n tl g s ta e1 names (f.to_call tl a u k)
@@ -405,7 +407,8 @@ mutual
         has_type tail (ELet a b) n g t h,
         s,
         meets false a n tl g s td d names (f.Bind (λ ta d1 x. f.cps b ta d1 tl (x ∷ names) k))
-            (Bind tl s (let_form (λ ta d1 x m1. cps (bare b) n tl (MoreTys s g) t ta d1 (x ∷ names) r m1))) refl h.1
+            (Bind tl s (let_form (λ ta d1 x m1. cps (bare b) (scope n tl (MoreTys s g) (x ∷ names)) t ta d1 r m1))) refl
+              h.1
             suits (
               (λ ta. refl),
               λ ta e1 x le good. meets tail b n tl (MoreTys s g) t ta e1 (x ∷ names) k r it h.2
@@ -425,8 +428,8 @@ mutual
     meets false a n tl g (TSome u) td d names
         (f.Bind (λ ta d1 x. KLet (KUnpack (value x d1)) (f.cps b (suc ta) (suc d1) (ta ∷ tl) (Level d1 ∷ names) k)))
         (Bind tl (TSome u)
-        (open_form (λ ta d1 m1. cps (bare b) (n + 1) (ta ∷ tl) (in_open u g) (shift 1 0 t) (suc ta) (suc d1)
-        (Level d1 ∷ names) r m1))) refl h.1 suits (
+        (open_form (λ ta d1 m1. cps (bare b) (scope (n + 1) (ta ∷ tl) (in_open u g) (Level d1 ∷ names)) (shift 1 0 t)
+          (suc ta) (suc d1) r m1))) refl h.1 suits (
           (λ ta. refl),
           λ ta e1 x le good. (
             value x e1,
@@ -461,7 +464,7 @@ mutual
   meets_all : (es : Noteds) (n : ℕ) (tl : List ℕ) (g ts : Tys) (td d : ℕ) (names : List Atom) (done : List Atom)
       (F : Forms) (make : ℕ → ℕ → List Atom → KTm) →
       AllAnnotated es n g ts → Suits g names d → FitsAll d F done make →
-      cps_all (bare_all es) n tl g ts td d names F (f.cps_all es td d tl names done make)
+      cps_all (bare_all es) (scope n tl g names) ts td d F (f.cps_all es td d tl names done make)
   meets_all NoNoteds n tl g ts td d names done F make h suits fits =
       (h, subst (λ (xs : List Atom). F td d NoThings (make td d xs)) (append-nil done) (fits td d [] (omega arith) tt))
   meets_all (MoreNoteds e es) n tl g ts td d names done F make h suits fits = (
@@ -470,7 +473,8 @@ mutual
     h.2,
     meets false e n tl g h.0 td d names (f.Bind (λ ta d1 a. f.cps_all es ta d1 tl names (done ++ a ∷ []) make))
         (Bind tl h.0
-        (λ ta d1 x m1. cps_all (bare_all es) n tl g h.1 ta d1 names (λ tb d2 xs m2. F tb d2 (MoreThings x xs) m2) m1))
+        (λ ta d1 x m1. cps_all (bare_all es) (scope n tl g names) h.1 ta d1 (λ tb d2 xs m2.
+          F tb d2 (MoreThings x xs) m2) m1))
         refl h.3 suits (
           (λ ta. refl),
           λ ta e1 a le good. meets_all es n tl g h.1 ta e1 names (done ++ a ∷ [])

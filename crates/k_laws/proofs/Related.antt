@@ -10,7 +10,7 @@ use Rattle.calc_core.specs.Words.{one_more}
 use Rattle.k_terms.specs.Meaning.{KCodeAt, KWord, KWords, kv_value, kvs_value}
 use Rattle.k_laws.specs.Cps.{Atom, Level, Literal}
 use Rattle.k_laws.specs.Translates.{Thing, Plain, Made, Things, NoThings, MoreThings, stands, named, stand, tuple_of}
-use Rattle.k_laws.specs.Translates.{Pass, atom_of, cps}
+use Rattle.k_laws.specs.Translates.{Pass, atom_of, cps, scope}
 use Rattle.f_terms.specs.OneType.{some_is}
 
 -- the name of this level stands for that word
@@ -24,13 +24,14 @@ abbrev mutual
   Rel (VTup vs) w = (ws : KWords) × (w ≡ WTuple ws) × RelAll vs ws
   Rel (VFun env body) w =
       (c : ℕ) × (kenv : KWords) × (names : List Atom) × (m : KTm) × (n : ℕ) × (tl : List ℕ) × (td : ℕ) × (g : Tys)
-      × (t : Ty) × (a1 a2 : KTy) × (w ≡ WCode (KCodeAt c 0 (MoreKTys a1 (MoreKTys a2 NoKTys)) m) kenv) × RelEnv env names kenv
-      × cps body n tl g t td (suc (suc (suc (size kenv)))) (Level (suc (size kenv)) ∷ Level (size kenv) ∷ names)
+      × (t : Ty) × (a1 a2 : KTy) × (w ≡ WCode (KCodeAt c 0 (MoreKTys a1 (MoreKTys a2 NoKTys)) m) kenv) × RelEnv env
+        names kenv
+      × cps body (scope n tl g (Level (suc (size kenv)) ∷ Level (size kenv) ∷ names)) t td (suc (suc (suc (size kenv))))
       (Pass (suc (suc (size kenv)))) m
   Rel (VSus env body) w =
       (c : ℕ) × (kenv : KWords) × (names : List Atom) × (m : KTm) × (n : ℕ) × (tl : List ℕ) × (td : ℕ) × (g : Tys)
       × (t : Ty) × (a1 : KTy) × (w ≡ WCode (KCodeAt c 1 (MoreKTys a1 NoKTys) m) kenv) × RelEnv env names kenv
-      × cps body n tl g t td (suc (suc (size kenv))) names (Pass (suc (size kenv))) m
+      × cps body (scope n tl g names) t td (suc (suc (size kenv))) (Pass (suc (size kenv))) m
   Rel (VCell a) w = w ≡ WCell a
 
   pub RelAll : Vals → KWords → Type 0

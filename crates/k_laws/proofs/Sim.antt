@@ -13,7 +13,7 @@ use Rattle.f_terms.specs.Eval.{choose, eval_by, eval_all, enter_by}
 use Rattle.f_terms.specs.Eval as E
 use Rattle.k_laws.specs.Cps.{kat, kcat, Atom, Level}
 use Rattle.k_laws.specs.Translates.{Thing, Plain, Made, NoThings, stands, number, Form, Forms, AnyRest, Bind, Pass}
-use Rattle.k_laws.specs.Translates.{call_form, inst_form, cps, cps_all}
+use Rattle.k_laws.specs.Translates.{call_form, inst_form, cps, scope, cps_all}
 use Rattle.k_laws.specs.Count.{one}
 use Rattle.k_laws.proofs.Runs.{run}
 use Rattle.k_laws.proofs.Related.{Rel, RelEnv, Ext, ext_same, ext_more, ext_trans, rel_env_more, has_at, RelAll}
@@ -30,7 +30,7 @@ module _ (c : ℕ) (O : End) where
   abbrev pub EntersAt : Enter → ℕ → Type 1
   EntersAt enter d = (env : Vals) (body : Term) (n : ℕ) (st : Vals) → n ≤ d →
       (a f l : ℕ) (kenv : KWords) (names : List Atom) (m : KTm) (tn : ℕ) (tl : List ℕ) (td : ℕ) (g : Tys) (ty : Ty) →
-      cps body tn tl g ty td (size kenv) names (Pass l) m → RelEnv env names kenv → There (Pass l) kenv →
+      cps body (scope tn tl g names) ty td (size kenv) (Pass l) m → RelEnv env names kenv → There (Pass l) kenv →
       Ready c O a (Pass l) kenv n (enter env body n st) → (kst : KWords) → RelAll st kst →
       Ends_as c O O n a (λ j. kenter j f m kenv kst)
 
@@ -185,18 +185,18 @@ module _ (c : ℕ) (O : End) where
     -- what is shown of a term
     abbrev SimAt : Term → Type 1
     SimAt e = (n b a : ℕ) (env : Vals) (kenv : KWords) (st : Vals) (names : List Atom) (k : AnyRest) (m : KTm) (tn : ℕ)
-        (tl : List ℕ) (g : Tys) (ty : Ty) (td : ℕ) → cps e tn tl g ty td (size kenv) names k m →
+        (tl : List ℕ) (g : Tys) (ty : Ty) (td : ℕ) → cps e (scope tn tl g names) ty td (size kenv) k m →
         RelEnv env names kenv → There k kenv → n ≤ d → Ready c O a k kenv n (eval_by enter env e n st) →
         Does c O a n b kenv st m
 
     abbrev IfForm : Term → Term → ℕ → List ℕ → Tys → Ty → List Atom → ℕ → Form
     IfForm y z tn tl g ty names l ta d2 cv m2 = (c' : KVal) × (ma mb : KTm) × stands cv ta d2 c' × (m2 ≡ KIf c' ma mb)
-        × cps y tn tl g ty ta d2 names (Pass l) ma × cps z tn tl g ty ta d2 names (Pass l) mb
+        × cps y (scope tn tl g names) ty ta d2 (Pass l) ma × cps z (scope tn tl g names) ty ta d2 (Pass l) mb
 
     if_pass : (x y z : Term) → SimAt x → SimAt y → SimAt z →
         (n b a : ℕ) (env : Vals) (kenv : KWords) (st : Vals) (names : List Atom) (l : ℕ) (m : KTm) (tn : ℕ)
         (tl : List ℕ) (g : Tys) (ty : Ty) (td : ℕ) →
-        cps x tn tl g TInt td (size kenv) names (Bind tl TInt (IfForm y z tn tl g ty names l)) m →
+        cps x (scope tn tl g names) TInt td (size kenv) (Bind tl TInt (IfForm y z tn tl g ty names l)) m →
         RelEnv env names kenv → There (Pass l) kenv → n ≤ d →
         Ready c O a (Pass l) kenv n (eval_by enter env (MIf0 x y z) n st) → Does c O a n b kenv st m
     if_pass x y z sx sy sz n b a env kenv st names l m tn tl g ty td t r th le h =
@@ -263,7 +263,7 @@ module _ (c : ℕ) (O : End) where
     mutual
       pub sim : (e : Term) (n b a : ℕ) (env : Vals) (kenv : KWords) (st : Vals) (names : List Atom) (k : AnyRest)
           (m : KTm)
-          (tn : ℕ) (tl : List ℕ) (g : Tys) (ty : Ty) (td : ℕ) → cps e tn tl g ty td (size kenv) names k m →
+          (tn : ℕ) (tl : List ℕ) (g : Tys) (ty : Ty) (td : ℕ) → cps e (scope tn tl g names) ty td (size kenv) k m →
           RelEnv env names kenv → There k kenv → n ≤ d → Ready c O a k kenv n (eval_by enter env e n st) →
           Does c O a n b kenv st m
       sim (MVar i) n b a env kenv st names k m tn tl g ty td (te, at, lev, del) r th le h =
@@ -369,7 +369,8 @@ module _ (c : ℕ) (O : End) where
           sim x n b a env kenv st names (Bind _ _ _) m tn tl g _ td t r tt le
           (ready_then c O a a k (Bind tl s _) kenv kenv n (eval_by enter env x n st) _ h (λ v n1 s1 le1 h1. record {
             ready = λ b1 t1 big1 xv m1 e1 dx c1.
-                does_let c O v n1 b1 a t1 big1 s1 (λ ta d1 z m2. cps y tn tl (MoreTys s g) ty ta d1 (z ∷ names) k m2)
+                does_let c O v n1 b1 a t1 big1 s1 (λ ta d1 z m2. cps y (scope tn tl (MoreTys s g) (z ∷ names)) ty ta d1
+                  k m2)
                 xv m1
                 dx (λ b2 big2 at m2 e2 dy c2.
                 sim y n1 b2 a (And v env) big2 s1 (at ∷ names) k m2 tn tl (MoreTys s g) ty t1 c2
@@ -390,8 +391,8 @@ module _ (c : ℕ) (O : End) where
           (λ v n1 s1 le1 h1. record {
             ready = λ b1 t1 big1 xv m1 e1 dx c1.
                 does_open c O v n1 b1 a t1 big1 s1
-                (λ ta d1 m2. cps y (tn + 1) (ta ∷ tl) (in_open u g) (shift 1 0 ty) (suc ta) (suc d1)
-                (Level d1 ∷ names) k m2) xv m1 dx (λ b2 w m2 rv c2.
+                (λ ta d1 m2. cps y (scope (tn + 1) (ta ∷ tl) (in_open u g) (Level d1 ∷ names)) (shift 1 0 ty) (suc ta)
+                  (suc d1) k m2) xv m1 dx (λ b2 w m2 rv c2.
                 (let e2 = ext_more w big1 kenv e1 in
                 sim y n1 b2 a (And v env) (MoreWords w big1) s1 (Level (size big1) ∷ names) k m2 (tn + 1) (t1 ∷ tl)
                 (in_open u g) (shift 1 0 ty) (suc t1) c2
@@ -430,7 +431,7 @@ module _ (c : ℕ) (O : End) where
 
       sim_all : (es : Terms) (n b a : ℕ) (env : Vals) (kenv : KWords) (st : Vals) (names : List Atom) (form : Forms)
           (m : KTm) (tn : ℕ) (tl : List ℕ) (g : Tys) (ts : Tys) (td : ℕ) →
-          cps_all es tn tl g ts td (size kenv) names form m → RelEnv env names kenv → n ≤ d →
+          cps_all es (scope tn tl g names) ts td (size kenv) form m → RelEnv env names kenv → n ≤ d →
           ReadyAll c O a form kenv n (eval_all enter env es n st) → Does c O a n b kenv st m
       sim_all NoTerms n b a env kenv st names form m tn tl g ts td (te, t) r le h =
           (h (omega arith)).ready b td kenv NoThings m (ext_same kenv) tt t
@@ -453,7 +454,7 @@ module _ (c : ℕ) (O : End) where
     where
       one_turn : (d : ℕ) → EnterOk (enter_by d) d → (env : Vals) (body : Term) (n : ℕ) (st : Vals) → n ≤ d →
           (a f l : ℕ) (kenv : KWords) (names : List Atom) (m : KTm) (tn : ℕ) (tl : List ℕ) (td : ℕ) (g : Tys)
-          (ty : Ty) → cps body tn tl g ty td (size kenv) names (Pass l) m → RelEnv env names kenv →
+          (ty : Ty) → cps body (scope tn tl g names) ty td (size kenv) (Pass l) m → RelEnv env names kenv →
           There (Pass l) kenv → Ready c O a (Pass l) kenv (suc n) (eval_by (enter_by d) env body n st) →
           (kst : KWords) →
           RelAll st kst → ((c ≡ f) × (one (c == f) ≡ 1)) ⊎ (one (c == f) ≡ 0) →

@@ -15,7 +15,7 @@ use Rattle.f_terms.specs.Keeps.{Keeps, AllKeep}
 use Rattle.f_terms.specs.Limits.{nodes, nodes_all}
 use Rattle.k_laws.specs.Cps.{kty, all_kty, taking, spot, kat, kcat, Atom, Level}
 use Rattle.k_laws.specs.Translates.{Plain, Made, NoThings, MoreThings, stands, number, tuple_of, Form, Forms, AnyRest}
-use Rattle.k_laws.specs.Translates.{Bind, Pass, as_value, inst_now, cps, cps_all, halting, cps_program}
+use Rattle.k_laws.specs.Translates.{Bind, Pass, as_value, inst_now, cps, scope, cps_all, halting, cps_program}
 use Rattle.k_laws.proofs.KTypes.{put_in, put_code, scope_none, field_ktys, LevelsIn, levels_later, levels_more, deeper}
 use Rattle.k_laws.proofs.KTypes.{kat_in, opened, raised_at}
 use Rattle.k_terms.proofs.Each.{plain_t}
@@ -49,19 +49,19 @@ module _ (S : Ty → Type 0) (L : ℕ) (P : KProp) (pt : (d : ℕ) (r : ℕ → 
     -- what is shown of a term
     abbrev TypedAt : Term → Type 1
     TypedAt e = (n : ℕ) (tl : List ℕ) (ts : Tys) (t : Ty) (N r td : ℕ) (g : List KTy) (names : List Atom) (k : AnyRest)
-        (m : KTm) → cps e n tl ts t td (glength g) names k m → td + nodes e + r ≤ N → N ≤ L → Keeps S e n ts →
+        (m : KTm) → cps e (scope n tl ts names) t td (glength g) k m → td + nodes e + r ≤ N → N ≤ L → Keeps S e n ts →
         Belows n ts → LevelsIn n tl td → TEnv ts tl td names g → Good L P N r td k g (typ tl t) → KTypedWith P td g m
 
     abbrev IfForm : Term → Term → ℕ → List ℕ → Tys → Ty → List Atom → ℕ → Form
     IfForm y z n tl g ty names l ta d2 cv m2 = (c' : KVal) × (ma mb : KTm) × stands cv ta d2 c' × (m2 ≡ KIf c' ma mb)
-        × cps y n tl g ty ta d2 names (Pass l) ma × cps z n tl g ty ta d2 names (Pass l) mb
+        × cps y (scope n tl g names) ty ta d2 (Pass l) ma × cps z (scope n tl g names) ty ta d2 (Pass l) mb
 
     ok_int : (n : ℕ) (tl : List ℕ) (td : ℕ) → LevelsIn n tl td → S TInt → Ok L P td (typ tl TInt)
     ok_int n tl td f s = ok_typ n tl td TInt f tt s
 
     if_pass : (x y z : Term) → TypedAt x → TypedAt y → TypedAt z →
         (n : ℕ) (tl : List ℕ) (ts : Tys) (t : Ty) (N td : ℕ) (g : List KTy) (names : List Atom) (l : ℕ) (m : KTm) →
-        cps x n tl ts TInt td (glength g) names (Bind tl TInt (IfForm y z n tl ts t names l)) m →
+        cps x (scope n tl ts names) TInt td (glength g) (Bind tl TInt (IfForm y z n tl ts t names l)) m →
         td + nodes (MIf0 x y z) ≤ N → N ≤ L → Keeps S (MIf0 x y z) n ts → Belows n ts → Oks L P td (typ tl t) →
         LevelsIn n tl td → TEnv ts tl td names g → Good L P N 0 td (Pass l) g (typ tl t) → KTypedWith P td g m
     if_pass x y z sx sy sz n tl ts t N td g names l m c le lim kp b ot f r good =
@@ -105,7 +105,7 @@ module _ (S : Ty → Type 0) (L : ℕ) (P : KProp) (pt : (d : ℕ) (r : ℕ → 
 
     mutual
       typed_cps : (e : Term) (n : ℕ) (tl : List ℕ) (ts : Tys) (t : Ty) (N r td : ℕ) (g : List KTy) (names : List Atom)
-          (k : AnyRest) (m : KTm) → cps e n tl ts t td (glength g) names k m → td + nodes e + r ≤ N → N ≤ L →
+          (k : AnyRest) (m : KTm) → cps e (scope n tl ts names) t td (glength g) k m → td + nodes e + r ≤ N → N ≤ L →
           Keeps S e n ts → Belows n ts → LevelsIn n tl td → TEnv ts tl td names g → Good L P N r td k g (typ tl t) →
           KTypedWith P td g m
       typed_cps (MVar i) n tl ts t N r td g names k m (ht, a, lev, del) le lim kp b f rv good =
@@ -164,7 +164,7 @@ module _ (S : Ty → Type 0) (L : ℕ) (P : KProp) (pt : (d : ℕ) (r : ℕ → 
                   ap (kat d tl) et ∙ ap (λ x. TKCode 1 (MoreKTys (taking x) NoKTys)) (opened s n tl d f' bs),
                   ((kat_in s (n + 1) (d ∷ tl) (suc d) f2 bs, tt), tt),
                   typed_cps body (n + 1) (d ∷ tl) (raised ts) s N 0 (suc d) inner names (Pass (suc (glength big))) h.0
-                      (subst (λ x. cps body (n + 1) (d ∷ tl) (raised ts) s (suc d) (suc (suc x)) names
+                      (subst (λ x. cps body (scope (n + 1) (d ∷ tl) (raised ts) names) s (suc d) (suc (suc x))
                       (Pass (suc (glength big))) h.0) (sym len) h.2)
                       (omega (arith, low, le)) lim kp.1 (belows_raised ts n b) f2 r2
                       (record { there = inl (ap suc (sym len), refl) }),
@@ -313,7 +313,8 @@ module _ (S : Ty → Type 0) (L : ℕ) (P : KProp) (pt : (d : ℕ) (r : ℕ → 
           (record {
             is = λ d. refl;
             ready = λ M d1 g1 xv m1 e1 l l' tx c1.
-                does_let L P M d1 g1 (typ tl s) (λ ta d2 a m2. cps y n tl (MoreTys s ts) t ta d2 (a ∷ names) k m2) xv m1
+                does_let L P M d1 g1 (typ tl s) (λ ta d2 a m2. cps y (scope n tl (MoreTys s ts) (a ∷ names)) t ta d2 k
+                  m2) xv m1
                 (omega (arith, l)) (omega (arith, l', lim))
                 (ok_later L P td d1 (typ tl s) (ext_le d1 g1 td g e1) ox.type) tx (λ g2 a m2 e2 ha c2.
                 (let e3 = ext_trans d1 g2 d1 g1 td g e2 e1 in
@@ -383,8 +384,8 @@ module _ (S : Ty → Type 0) (L : ℕ) (P : KProp) (pt : (d : ℕ) (r : ℕ → 
                   typed_cps y (n + 1) (d1 ∷ tl) (in_open u ts) (shift 1 0 t) M r (suc d1) g2
                       (Level (glength g1) ∷ names)
                       k c1.1
-                      (subst (λ z. cps y (n + 1) (d1 ∷ tl) (in_open u ts) (shift 1 0 t) (suc d1) (suc z)
-                      (Level (glength g1) ∷ names) k c1.1) (sym len) c1.4)
+                      (subst (λ z. cps y (scope (n + 1) (d1 ∷ tl) (in_open u ts) (Level (glength g1) ∷ names))
+                        (shift 1 0 t) (suc d1) (suc z) k c1.1) (sym len) c1.4)
                       (omega (arith, l)) top (kp.2 u hx) (bu, belows_raised ts n b) (levels_more n tl d1 f1)
                       (inl (sym len, opened u n tl d1 f1 bu), r2) good2,
                 ));
@@ -479,7 +480,8 @@ module _ (S : Ty → Type 0) (L : ℕ) (P : KProp) (pt : (d : ℕ) (r : ℕ → 
           })
 
       typed_all : (es : Terms) (n : ℕ) (tl : List ℕ) (ts us : Tys) (N r td : ℕ) (g : List KTy) (names : List Atom)
-          (form : Forms) (m : KTm) → cps_all es n tl ts us td (glength g) names form m → td + nodes_all es + r ≤ N →
+          (form : Forms) (m : KTm) → cps_all es (scope n tl ts names) us td (glength g) form m → td + nodes_all es + r ≤
+            N →
           N ≤ L → AllKeep S es n ts → Belows n ts → LevelsIn n tl td → TEnv ts tl td names g →
           GoodForms L P N r td form g tl us → KTypedWith P td g m
       typed_all NoTerms n tl ts us N r td g names form m (te, c) le lim kp b f rv good =

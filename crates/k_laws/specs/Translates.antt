@@ -124,79 +124,104 @@ abbrev pub open_form : (ℕ → ℕ → KTm → Type 0) → Form
 open_form body td depth x m = (v : KVal) × (rest : KTm) × stands x td depth v × (m ≡ KLet (KUnpack v) rest)
     × body td depth rest
 
--- [e]k for e of type t under n type names, which have the levels tl, and the types g, at a place, where these stand for
--- the source variables
-abbrev mutual
-  pub cps : Term → ℕ → List ℕ → Tys → Ty → ℕ → ℕ → List Atom → AnyRest → KTm → Type 0
-  cps (MVar i) n tl g t td depth names k m = HasType (MVar i) n g t × (a : Atom) × atom_of names i a
-      × deliver k td depth (Plain a) m
-  cps (MNum i) n tl g t td depth names k m = HasType (MNum i) n g t × deliver k td depth (number i) m
-  cps (MFix arg res e) n tl g t td depth names k m =
-      HasType (MFix arg res e) n g t
-      × deliver k td depth (Made
-      (λ ta at v. (body : KTm) × (v ≡ KCode 0 (MoreKTys (kat ta tl arg) (MoreKTys (kcat ta tl res) NoKTys)) body)
-      × cps e n tl (in_fix arg res g) res ta (suc (suc (suc at))) (Level (suc at) ∷ Level at ∷ names)
-      (Pass (suc (suc at))) body)) m
-  cps (MGen e) n tl g t td depth names k m =
-      HasType (MGen e) n g t × (s : Ty) × (t ≡ TAll s)
-      × deliver k td depth (Made
-      (λ ta at v. (body : KTm) × (v ≡ KCode 1 (MoreKTys (kcat (suc ta) (ta ∷ tl) s) NoKTys) body)
-      × cps e (n + 1) (ta ∷ tl) (raised g) s (suc ta) (suc (suc at)) names (Pass (suc at)) body)) m
-  cps (MApp f x) n tl g t td depth names k m =
-      HasType (MApp f x) n g t × (s : Ty)
-      × cps f n tl g (TArrow s t) td depth names (Bind tl (TArrow s t)
-      (λ ta d1 fv m1. cps x n tl g s ta d1 names (Bind tl s (call_form k fv)) m1)) m
-  cps (MInst e s) n tl g t td depth names k m =
-      HasType (MInst e s) n g t × (b : Ty) × (t ≡ put 0 s b)
-      × cps e n tl g (TAll b) td depth names (Bind tl (TAll b) (inst_form k tl s)) m
-  cps (MTuple es) n tl g t td depth names k m =
-      HasType (MTuple es) n g t × (ts : Tys) × (t ≡ TTuple ts)
-      × cps_all es n tl g ts td depth names (λ ta d xs m. deliver k ta d (tuple_of xs) m) m
-  cps (MProj i e) n tl g t td depth names k m =
-      HasType (MProj i e) n g t × (ts : Tys) × (field_ty ts i ≡ Some t)
-      × cps e n tl g (TTuple ts) td depth names (Bind tl (TTuple ts) (one_form k (λ ta v. KProj i v))) m
-  cps (MArith op a b) n tl g t td depth names k m =
-      HasType (MArith op a b) n g t
-      × cps a n tl g TInt td depth names (Bind tl TInt
-      (λ ta d1 av m1. cps b n tl g TInt ta d1 names (Bind tl TInt (two_form k (KArith op) av)) m1)) m
-  cps (MIf0 c a b) n tl g t td depth names k m =
-      HasType (MIf0 c a b) n g t
-      × bound_once k td depth
-      (λ d1 l m1. cps c n tl g TInt td d1 names (Bind tl TInt (λ ta d2 cv m2. (c' : KVal) × (ma mb : KTm)
-      × stands cv ta d2 c' × (m2 ≡ KIf c' ma mb) × cps a n tl g t ta d2 names (Pass l) ma
-      × cps b n tl g t ta d2 names (Pass l) mb)) m1) m
-  cps (MLet a b) n tl g t td depth names k m =
-      HasType (MLet a b) n g t × (s : Ty)
-      × cps a n tl g s td depth names (Bind tl s
-      (let_form (λ ta d x m1. cps b n tl (MoreTys s g) t ta d (x ∷ names) k m1))) m
-  cps (MPack h e s) n tl g t td depth names k m =
-      HasType (MPack h e s) n g t × (u : Ty) × (s ≡ TSome u) × (t ≡ s)
-      × cps e n tl g (put 0 h u) td depth names (Bind tl (put 0 h u) (one_form k (packing tl h s))) m
-  cps (MOpen a b) n tl g t td depth names k m =
-      HasType (MOpen a b) n g t × (u : Ty)
-      × cps a n tl g (TSome u) td depth names (Bind tl (TSome u) (open_form
-      (λ ta d m1. cps b (n + 1) (ta ∷ tl) (in_open u g) (shift 1 0 t) (suc ta) (suc d) (Level d ∷ names) k m1))) m
-  cps (MRef e) n tl g t td depth names k m =
-      HasType (MRef e) n g t × (s : Ty) × (t ≡ TRef s)
-      × cps e n tl g s td depth names (Bind tl s (one_form k (λ ta v. KCell v))) m
-  cps (MDeref e) n tl g t td depth names k m =
-      HasType (MDeref e) n g t
-      × cps e n tl g (TRef t) td depth names (Bind tl (TRef t) (one_form k (λ ta v. KGet v))) m
-  cps (MAssign a b) n tl g t td depth names k m =
-      HasType (MAssign a b) n g t × (s : Ty) × (t ≡ TTuple NoTys)
-      × cps a n tl g (TRef s) td depth names (Bind tl (TRef s)
-      (λ ta d1 av m1. cps b n tl g s ta d1 names (Bind tl s (two_form k KSet av)) m1)) m
+-- what is in scope of a part of the source: so many type names, of these levels, and names of these types, for which
+-- these atoms stand
+pub record Scope : Type 0 where
+  pub type_names : ℕ
+  pub levels : List ℕ
+  pub types : Tys
+  pub atoms : List Atom
 
-  pub cps_all : Terms → ℕ → List ℕ → Tys → Tys → ℕ → ℕ → List Atom → Forms → KTm → Type 0
-  cps_all NoTerms n tl g ts td depth names form m = (ts ≡ NoTys) × form td depth NoThings m
-  cps_all (MoreTerms e es) n tl g ts td depth names form m =
+abbrev pub scope : ℕ → List ℕ → Tys → List Atom → Scope
+scope n levels types atoms = record { type_names = n; levels = levels; types = types; atoms = atoms }
+
+-- in a function at level f: itself, and its argument behind that
+abbrev pub in_function : (arg res : Ty) (f : ℕ) → Scope → Scope
+in_function arg res f s =
+    scope s.type_names s.levels (in_fix arg res s.types) (Level (suc f) ∷ Level f ∷ s.atoms)
+
+-- under a type name at level l; and with the value at a level that hides a type
+abbrev pub under_type : ℕ → Scope → Scope
+under_type l s = scope (s.type_names + 1) (l ∷ s.levels) (raised s.types) s.atoms
+
+abbrev pub with_hidden : (l level : ℕ) (u : Ty) → Scope → Scope
+with_hidden l level u s = scope (s.type_names + 1) (l ∷ s.levels) (in_open u s.types) (Level level ∷ s.atoms)
+
+-- with a name of type u, for which the atom a stands
+abbrev pub with_name : Ty → Atom → Scope → Scope
+with_name u a s = scope s.type_names s.levels (MoreTys u s.types) (a ∷ s.atoms)
+
+abbrev pub IsOf : Term → Scope → Ty → Type 0
+IsOf e s t = HasType e s.type_names s.types t
+
+-- [e]k for e of type t in a scope, at a place with td type names and depth names
+abbrev mutual
+  pub cps : Term → Scope → Ty → (td depth : ℕ) → AnyRest → KTm → Type 0
+  cps (MVar i) s t td depth k m = IsOf (MVar i) s t × (a : Atom) × atom_of s.atoms i a × deliver k td depth (Plain a) m
+  cps (MNum i) s t td depth k m = IsOf (MNum i) s t × deliver k td depth (number i) m
+  cps (MFix arg res e) s t td depth k m =
+      IsOf (MFix arg res e) s t
+      × deliver k td depth (Made
+      (λ ta at v. (body : KTm)
+      × (v ≡ KCode 0 (MoreKTys (kat ta s.levels arg) (MoreKTys (kcat ta s.levels res) NoKTys)) body)
+      × cps e (in_function arg res at s) res ta (suc (suc (suc at))) (Pass (suc (suc at))) body)) m
+  cps (MGen e) s t td depth k m =
+      IsOf (MGen e) s t × (u : Ty) × (t ≡ TAll u)
+      × deliver k td depth (Made
+      (λ ta at v. (body : KTm) × (v ≡ KCode 1 (MoreKTys (kcat (suc ta) (ta ∷ s.levels) u) NoKTys) body)
+      × cps e (under_type ta s) u (suc ta) (suc (suc at)) (Pass (suc at)) body)) m
+  cps (MApp f x) s t td depth k m =
+      IsOf (MApp f x) s t × (u : Ty)
+      × cps f s (TArrow u t) td depth (Bind s.levels (TArrow u t)
+      (λ ta d1 fv m1. cps x s u ta d1 (Bind s.levels u (call_form k fv)) m1)) m
+  cps (MInst e u) s t td depth k m =
+      IsOf (MInst e u) s t × (b : Ty) × (t ≡ put 0 u b)
+      × cps e s (TAll b) td depth (Bind s.levels (TAll b) (inst_form k s.levels u)) m
+  cps (MTuple es) s t td depth k m =
+      IsOf (MTuple es) s t × (ts : Tys) × (t ≡ TTuple ts)
+      × cps_all es s ts td depth (λ ta d xs m. deliver k ta d (tuple_of xs) m) m
+  cps (MProj i e) s t td depth k m =
+      IsOf (MProj i e) s t × (ts : Tys) × (field_ty ts i ≡ Some t)
+      × cps e s (TTuple ts) td depth (Bind s.levels (TTuple ts) (one_form k (λ ta v. KProj i v))) m
+  cps (MArith op a b) s t td depth k m =
+      IsOf (MArith op a b) s t
+      × cps a s TInt td depth (Bind s.levels TInt
+      (λ ta d1 av m1. cps b s TInt ta d1 (Bind s.levels TInt (two_form k (KArith op) av)) m1)) m
+  cps (MIf0 c a b) s t td depth k m =
+      IsOf (MIf0 c a b) s t
+      × bound_once k td depth
+      (λ d1 l m1. cps c s TInt td d1 (Bind s.levels TInt (λ ta d2 cv m2. (c' : KVal) × (ma mb : KTm)
+      × stands cv ta d2 c' × (m2 ≡ KIf c' ma mb) × cps a s t ta d2 (Pass l) ma × cps b s t ta d2 (Pass l) mb)) m1) m
+  cps (MLet a b) s t td depth k m =
+      IsOf (MLet a b) s t × (u : Ty)
+      × cps a s u td depth (Bind s.levels u (let_form (λ ta d x m1. cps b (with_name u x s) t ta d k m1))) m
+  cps (MPack h e u) s t td depth k m =
+      IsOf (MPack h e u) s t × (v : Ty) × (u ≡ TSome v) × (t ≡ u)
+      × cps e s (put 0 h v) td depth (Bind s.levels (put 0 h v) (one_form k (packing s.levels h u))) m
+  cps (MOpen a b) s t td depth k m =
+      IsOf (MOpen a b) s t × (u : Ty)
+      × cps a s (TSome u) td depth (Bind s.levels (TSome u) (open_form
+      (λ ta d m1. cps b (with_hidden ta d u s) (shift 1 0 t) (suc ta) (suc d) k m1))) m
+  cps (MRef e) s t td depth k m =
+      IsOf (MRef e) s t × (u : Ty) × (t ≡ TRef u)
+      × cps e s u td depth (Bind s.levels u (one_form k (λ ta v. KCell v))) m
+  cps (MDeref e) s t td depth k m =
+      IsOf (MDeref e) s t × cps e s (TRef t) td depth (Bind s.levels (TRef t) (one_form k (λ ta v. KGet v))) m
+  cps (MAssign a b) s t td depth k m =
+      IsOf (MAssign a b) s t × (u : Ty) × (t ≡ TTuple NoTys)
+      × cps a s (TRef u) td depth (Bind s.levels (TRef u)
+      (λ ta d1 av m1. cps b s u ta d1 (Bind s.levels u (two_form k KSet av)) m1)) m
+
+  pub cps_all : Terms → Scope → Tys → (td depth : ℕ) → Forms → KTm → Type 0
+  cps_all NoTerms s ts td depth form m = (ts ≡ NoTys) × form td depth NoThings m
+  cps_all (MoreTerms e es) s ts td depth form m =
       (t : Ty) × (ts' : Tys) × (ts ≡ MoreTys t ts')
-      × cps e n tl g t td depth names (Bind tl t
-      (λ ta d1 x m1. cps_all es n tl g ts' ta d1 names (λ tb d2 xs m2. form tb d2 (MoreThings x xs) m2) m1)) m
+      × cps e s t td depth (Bind s.levels t
+      (λ ta d1 x m1. cps_all es s ts' ta d1 (λ tb d2 xs m2. form tb d2 (MoreThings x xs) m2) m1)) m
 
 -- the rest of a program: x. halt x
 abbrev pub halting : Form
 halting td depth x m = (v : KVal) × stands x td depth v × (m ≡ KHalt v)
 
 abbrev pub cps_program : Term → KTm → Type 0
-cps_program e m = cps e 0 [] NoTys TInt 0 0 [] (Bind [] TInt halting) m
+cps_program e m = cps e (scope 0 [] NoTys []) TInt 0 0 (Bind [] TInt halting) m

@@ -34,7 +34,7 @@ module _ (ds : List HVal) where
       × Stands_t (scope ds (None ∷ os) (Is k ∷ env) (suc k)) Any [] e t
   Ends os made env k (HLet (HSet x y) t) a =
       (v : AVal) × (u : AVal) × (e : ATm) × (a ≡ Let (Init v 1 u) (Let (Malloc NoATys) e)) × Stands_v
-        (scope ds os env k) v x
+      (scope ds os env k) v x
       × Stands_v (scope ds os env k) u y × (takes env v ++ takes env u ≡ made)
       × Stands_t (scope ds (None ∷ os) (Is k ∷ Gone ∷ env) (suc k)) Any [] e t
   Ends os made env k (HCall x us xs) a =

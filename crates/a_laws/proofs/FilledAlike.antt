@@ -89,7 +89,7 @@ module _ (ds : List HVal) (os : Constants) (k : ℕ) (h : HTm) where
       let new = made_at env k (fs ++ y ∷ []) in
       let su1 =
       subst (λ q. Stands_t (scope ds os (made_at env k q ∷ env) k) Any (right ++ made_at env k q ∷ []) f h) (sym all) su
-        in
+      in
       let su2 = subst (λ q. Stands_t (scope ds os (new ∷ env) k) Any (q ++ new ∷ []) f h) (sym parts.0) su1 in
       let t = HTuple (listed (fs ++ y ∷ [])) in
       let more = takes env w in

@@ -185,7 +185,7 @@ module _ (D : List AConsts) (ds : List HVal) (shown : Shows ds D ds) (ks : HBlks
   read_vs : (m : List ℕ) (h : A.AHeap) (st : HWords) (os : Constants) (env : List Thing) (k : ℕ) (ys : HWords)
       (vars : List A.AWord) → At D m h st os env k ys vars → (vs : List AVal) (ws : HVals) →
       Stands_vs (scope ds os env k) vs ws → (xs : List A.AWord) × (A.values vars vs ≡ Some xs) × Rels m h
-        (hvs_value ws ys) xs
+      (hvs_value ws ys) xs
   read_vs m h st os env k ys vars a vs ws s =
       values_read m h D ds shown a.stores.kept os k ys a.known env vars a.agree vs ws s
 
@@ -485,7 +485,7 @@ module _ (D : List AConsts) (ds : List HVal) (shown : Shows ds D ds) (ks : HBlks
     is : o ≡ Some block
     args : atypes x.args ≡ block.args
     stands : Stands_t (scope ds (of_args x.args []) (arg_things 0 [] block.args) (arity block.args)) Any [] block.body
-      x.body
+        x.body
 
   abbrev BlockOf : Option ABlk → Option HBlk → Type 0
   BlockOf o None = o ≡ None

@@ -74,7 +74,7 @@ module _ (ds : List HVal) where
 
     -- two terms at one place, where these tuples are to come
     run : (rs : List HVal) (made env : List Thing) (a b : ATm) → Good env k → Stands_t (scope ds os env k) Any made a h
-      →
+        →
         Stands_t (scope ds os env k) Any made b h → things_posts os made ++ rs ≡ first_posts os h → AtEnd →
         plain_term a ≡ plain_term b
     run [] made env a b good s r eq end = ⊎_elim
@@ -207,7 +207,7 @@ module _ (ds : List HVal) where
       let os = of_args x.args [] in
       let args = sym s.0.1 ∙ r.0.1 in
       let rc = subst (λ z. Stands_t (scope ds os (arg_things 0 [] z) (arity z)) Any [] c.body x.body) (sym args) r.0.2
-        in
+      in
       let good = good_args b.args 0 [] (good_none 0) (arity b.args) (omega arith) in
       let body = one_term x.body os (arg_things 0 [] b.args) (arity b.args) b.body c.body good s.0.2 rc in
       ap₂ (λ p q. p ∷ q)

@@ -94,14 +94,14 @@ module _ (ds : List HVal) where
 
   -- one value that takes all that is made, and two
   pub of_one : (v : AVal) (w : HVal) (os : Constants) (made env : List Thing) (m : ℕ) → Stands_v (scope ds os env m) v w
-    →
+      →
       takes env v ≡ made → things_posts os made ≡ posts os w
   of_one v w os made env m s at = sym (of_value v w os env m s ∙ ap (things_posts os) at)
 
   pub of_two : (v u : AVal) (x y : HVal) (os : Constants) (made env : List Thing) (m : ℕ) → Stands_v (scope ds os env m)
-    v x →
+      v x →
       Stands_v (scope ds os env m) u y → takes env v ++ takes env u ≡ made → things_posts os made ≡ posts os x ++ posts
-        os y
+      os y
   of_two v u x y os made env m s r at =
       let both = ap₂ ◌++◌ (of_value v x os env m s) (of_value u y os env m r) in
       sym (both ∙ sym (more_things os (takes env v) (takes env u)) ∙ ap (things_posts os) at)

@@ -330,7 +330,7 @@ module _ (ds : List HVal) where
 
     fill_back : (a : ATm) (h : HTm) (os : Constants) (fs : List HVal) (n : ℕ) (taken made : List Thing) (k : ℕ)
         (env : List Thing) (benv : List Shown) → Stands_t (scope ds os env k) (Filling fs n taken) made a h → NoCell_t h
-          →
+        →
         EnvOk os k env benv →
         Partly os k fs (shown_at benv 0) → back_t ds benv k a ≡ settle_t os h
     fill_back (Let (Init v i w) e) h os fs zero taken made k env benv (y, left, ev, ei, sw, at, st) c ok old =

@@ -210,7 +210,7 @@ module _ (ds : List HVal) where
         (pick c d (suc (final (vs_next ls d vs) vs)))
         (λ taken env2. (d3 : ℕ) (env3 : List Thing) → Later (pick c d (suc (final (vs_next ls d vs) vs))) env2 d3 env3 →
         Stands_v (scope ds os env3 k0) (pick c (Data (n_vs ls b vs)) (Var (d3 - suc (final (vs_next ls d vs) vs))))
-          (HTuple vs)
+        (HTuple vs)
         × (takes env3 (pick c (Data (n_vs ls b vs)) (Var (d3 - suc (final (vs_next ls d vs) vs)))) ≡ taken))
 
     tuple_comes : (vs : HVals) (b d : ℕ) (env : List Thing) →

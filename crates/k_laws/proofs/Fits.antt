@@ -341,7 +341,7 @@ mutual
         meets false e n tl g (TArrow s t) td d names
             (f.Bind (λ ta d1 fa. f.cps x ta d1 tl names (f.to_call tl fa u k)))
             (Bind tl (TArrow s t) (λ ta d1 fv m1. cps (bare x) (scope n tl g names) s ta d1 (Bind tl s (call_form r fv))
-              m1))
+            m1))
             refl h.1.1 suits (
               (λ ta. refl),
               λ ta e1 a le good. meets false x n tl g s ta e1 names (f.to_call tl a u k)
@@ -408,7 +408,7 @@ mutual
         s,
         meets false a n tl g s td d names (f.Bind (λ ta d1 x. f.cps b ta d1 tl (x ∷ names) k))
             (Bind tl s (let_form (λ ta d1 x m1. cps (bare b) (scope n tl (MoreTys s g) (x ∷ names)) t ta d1 r m1))) refl
-              h.1
+            h.1
             suits (
               (λ ta. refl),
               λ ta e1 x le good. meets tail b n tl (MoreTys s g) t ta e1 (x ∷ names) k r it h.2
@@ -429,7 +429,7 @@ mutual
         (f.Bind (λ ta d1 x. KLet (KUnpack (value x d1)) (f.cps b (suc ta) (suc d1) (ta ∷ tl) (Level d1 ∷ names) k)))
         (Bind tl (TSome u)
         (open_form (λ ta d1 m1. cps (bare b) (scope (n + 1) (ta ∷ tl) (in_open u g) (Level d1 ∷ names)) (shift 1 0 t)
-          (suc ta) (suc d1) r m1))) refl h.1 suits (
+        (suc ta) (suc d1) r m1))) refl h.1 suits (
           (λ ta. refl),
           λ ta e1 x le good. (
             value x e1,
@@ -474,7 +474,7 @@ mutual
     meets false e n tl g h.0 td d names (f.Bind (λ ta d1 a. f.cps_all es ta d1 tl names (done ++ a ∷ []) make))
         (Bind tl h.0
         (λ ta d1 x m1. cps_all (bare_all es) (scope n tl g names) h.1 ta d1 (λ tb d2 xs m2.
-          F tb d2 (MoreThings x xs) m2) m1))
+        F tb d2 (MoreThings x xs) m2) m1))
         refl h.3 suits (
           (λ ta. refl),
           λ ta e1 a le good. meets_all es n tl g h.1 ta e1 names (done ++ a ∷ [])

@@ -25,7 +25,7 @@ abbrev mutual
   Rel (VFun env body) w =
       (c : ℕ) × (kenv : KWords) × (names : List Atom) × (m : KTm) × (n : ℕ) × (tl : List ℕ) × (td : ℕ) × (g : Tys)
       × (t : Ty) × (a1 a2 : KTy) × (w ≡ WCode (KCodeAt c 0 (MoreKTys a1 (MoreKTys a2 NoKTys)) m) kenv) × RelEnv env
-        names kenv
+      names kenv
       × cps body (scope n tl g (Level (suc (size kenv)) ∷ Level (size kenv) ∷ names)) t td (suc (suc (suc (size kenv))))
       (Pass (suc (suc (size kenv)))) m
   Rel (VSus env body) w =

@@ -370,7 +370,7 @@ module _ (c : ℕ) (O : End) where
           (ready_then c O a a k (Bind tl s _) kenv kenv n (eval_by enter env x n st) _ h (λ v n1 s1 le1 h1. record {
             ready = λ b1 t1 big1 xv m1 e1 dx c1.
                 does_let c O v n1 b1 a t1 big1 s1 (λ ta d1 z m2. cps y (scope tn tl (MoreTys s g) (z ∷ names)) ty ta d1
-                  k m2)
+                k m2)
                 xv m1
                 dx (λ b2 big2 at m2 e2 dy c2.
                 sim y n1 b2 a (And v env) big2 s1 (at ∷ names) k m2 tn tl (MoreTys s g) ty t1 c2
@@ -392,7 +392,7 @@ module _ (c : ℕ) (O : End) where
             ready = λ b1 t1 big1 xv m1 e1 dx c1.
                 does_open c O v n1 b1 a t1 big1 s1
                 (λ ta d1 m2. cps y (scope (tn + 1) (ta ∷ tl) (in_open u g) (Level d1 ∷ names)) (shift 1 0 ty) (suc ta)
-                  (suc d1) k m2) xv m1 dx (λ b2 w m2 rv c2.
+                (suc d1) k m2) xv m1 dx (λ b2 w m2 rv c2.
                 (let e2 = ext_more w big1 kenv e1 in
                 sim y n1 b2 a (And v env) (MoreWords w big1) s1 (Level (size big1) ∷ names) k m2 (tn + 1) (t1 ∷ tl)
                 (in_open u g) (shift 1 0 ty) (suc t1) c2

@@ -314,7 +314,7 @@ module _ (S : Ty → Type 0) (L : ℕ) (P : KProp) (pt : (d : ℕ) (r : ℕ → 
             is = λ d. refl;
             ready = λ M d1 g1 xv m1 e1 l l' tx c1.
                 does_let L P M d1 g1 (typ tl s) (λ ta d2 a m2. cps y (scope n tl (MoreTys s ts) (a ∷ names)) t ta d2 k
-                  m2) xv m1
+                m2) xv m1
                 (omega (arith, l)) (omega (arith, l', lim))
                 (ok_later L P td d1 (typ tl s) (ext_le d1 g1 td g e1) ox.type) tx (λ g2 a m2 e2 ha c2.
                 (let e3 = ext_trans d1 g2 d1 g1 td g e2 e1 in
@@ -385,7 +385,7 @@ module _ (S : Ty → Type 0) (L : ℕ) (P : KProp) (pt : (d : ℕ) (r : ℕ → 
                       (Level (glength g1) ∷ names)
                       k c1.1
                       (subst (λ z. cps y (scope (n + 1) (d1 ∷ tl) (in_open u ts) (Level (glength g1) ∷ names))
-                        (shift 1 0 t) (suc d1) (suc z) k c1.1) (sym len) c1.4)
+                      (shift 1 0 t) (suc d1) (suc z) k c1.1) (sym len) c1.4)
                       (omega (arith, l)) top (kp.2 u hx) (bu, belows_raised ts n b) (levels_more n tl d1 f1)
                       (inl (sym len, opened u n tl d1 f1 bu), r2) good2,
                 ));
@@ -481,7 +481,7 @@ module _ (S : Ty → Type 0) (L : ℕ) (P : KProp) (pt : (d : ℕ) (r : ℕ → 
 
       typed_all : (es : Terms) (n : ℕ) (tl : List ℕ) (ts us : Tys) (N r td : ℕ) (g : List KTy) (names : List Atom)
           (form : Forms) (m : KTm) → cps_all es (scope n tl ts names) us td (glength g) form m → td + nodes_all es + r ≤
-            N →
+          N →
           N ≤ L → AllKeep S es n ts → Belows n ts → LevelsIn n tl td → TEnv ts tl td names g →
           GoodForms L P N r td form g tl us → KTypedWith P td g m
       typed_all NoTerms n tl ts us N r td g names form m (te, c) le lim kp b f rv good =

@@ -73,7 +73,7 @@ module _ (ds : List HVal) where
 
   mutual
     of_term : (a : ATm) (h : HTm) (os : Constants) (made env : List Thing) (k : ℕ) →
-        Stands_t (scope ds os env k) Any made a h → mallocs a + things_made os made ≡ made_in os h
+        Stands_t (scope ds os env k) made a Any h → mallocs a + things_made os made ≡ made_in os h
     of_term (Let (Value v) e) h os made env k (w, t, is, sv, at, st) =
         let a = ap (made_in os) is in
         let b = of_value v w os env k sv in
@@ -140,7 +140,7 @@ module _ (ds : List HVal) where
 
     -- the fields that are filled ask for as many tuples as they took
     of_filling : (a : ATm) (h : HTm) (os : Constants) (fs : List HVal) (n : ℕ) (taken made env : List Thing) (k : ℕ) →
-        Stands_t (scope ds os env k) (Filling fs n taken) made a h → all_made os (listed fs) ≡ things_made os taken →
+        Stands_t (scope ds os env k) made a (Filling fs n taken) h → all_made os (listed fs) ≡ things_made os taken →
         suc (mallocs a) + things_made os made ≡ made_in os h
     of_filling (Let (Init v i w) e) h os fs zero taken made env k (y, left, ev, ei, sw, at, st) same =
         let new = made_at env k (fs ++ y ∷ []) in
@@ -167,7 +167,7 @@ module _ (ds : List HVal) where
     of_filling (Halt v) h os fs n taken made env k s same = absurd s
 
     of_content : (a : ATm) (h : HTm) (os : Constants) (made env : List Thing) (k : ℕ) →
-        Stands_t (scope ds os env k) Content made a h → suc (mallocs a) + things_made os made ≡ made_in os h
+        Stands_t (scope ds os env k) made a Content h → suc (mallocs a) + things_made os made ≡ made_in os h
     of_content (Let (Init v i w) e) h os made env k (x, t, ev, ei, is, sw, at, st) =
         let a = ap (made_in os) is in
         let b = of_value w x os env k sw in
@@ -184,7 +184,7 @@ module _ (ds : List HVal) where
     of_content (Halt v) h os made env k s = absurd s
 
     of_unit : (a : ATm) (h : HTm) (os : Constants) (env : List Thing) (k : ℕ) →
-        Stands_t (scope ds os env k) Unit_named [] a h → mallocs a ≡ suc (made_in os h)
+        Stands_t (scope ds os env k) [] a Unit_named h → mallocs a ≡ suc (made_in os h)
     of_unit (Let (Malloc ts) e) h os env k (none, st) =
         let r = of_term e h os [] (Is k ∷ env) (suc k) st in omega (arith, r)
     of_unit (Let (Init v i w) e) h os env k s = absurd s

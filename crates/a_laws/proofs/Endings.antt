@@ -14,44 +14,44 @@ module _ (ds : List HVal) where
   abbrev pub Ends : Constants → List Thing → List Thing → ℕ → HTm → ATm → Type 0
   Ends os made env k (HLet (HName w) t) a =
       (v : AVal) × (e : ATm) × (a ≡ Let (Value v) e) × Stands_v (scope ds os env k) v w × (takes env v ≡ made)
-      × Stands_t (scope ds (constant os w ∷ os) (Is k ∷ env) (suc k)) Any [] e t
+      × Stands_t (scope ds (constant os w ∷ os) (Is k ∷ env) (suc k)) [] e Any t
   Ends os made env k (HLet (HProj i w) t) a =
       (v : AVal) × (e : ATm) × (a ≡ Let (Proj i v) e) × Stands_v (scope ds os env k) v w × (takes env v ≡ made)
-      × Stands_t (scope ds (None ∷ os) (Is k ∷ env) (suc k)) Any [] e t
+      × Stands_t (scope ds (None ∷ os) (Is k ∷ env) (suc k)) [] e Any t
   Ends os made env k (HLet (HArith op x y) t) a =
       (v : AVal) × (u : AVal) × (e : ATm) × (a ≡ Let (Arith op v u) e) × Stands_v (scope ds os env k) v x
       × Stands_v (scope ds os env k) u y × (takes env v ++ takes env u ≡ made)
-      × Stands_t (scope ds (None ∷ os) (Is k ∷ env) (suc k)) Any [] e t
+      × Stands_t (scope ds (None ∷ os) (Is k ∷ env) (suc k)) [] e Any t
   Ends os made env k (HLet (HUnpack w) t) a =
       (v : AVal) × (e : ATm) × (a ≡ Let (Unpack v) e) × Stands_v (scope ds os env k) v w × (takes env v ≡ made)
-      × Stands_t (scope ds (None ∷ os) (Is k ∷ env) (suc k)) Any [] e t
+      × Stands_t (scope ds (None ∷ os) (Is k ∷ env) (suc k)) [] e Any t
   Ends os made env k (HLet (HCell w) t) a =
       (ts : ATys) × (v : AVal) × (e : ATm) × (a ≡ Let (Malloc ts) (Let (Init (Var 0) 1 v) e)) × (arity ts ≡ 1)
       × Stands_v (scope ds os (Gone ∷ env) k) v w × (takes (Gone ∷ env) v ≡ made)
-      × Stands_t (scope ds (None ∷ os) (Is k ∷ Gone ∷ env) (suc k)) Any [] e t
+      × Stands_t (scope ds (None ∷ os) (Is k ∷ Gone ∷ env) (suc k)) [] e Any t
   Ends os made env k (HLet (HGet w) t) a =
       (v : AVal) × (e : ATm) × (a ≡ Let (Proj 1 v) e) × Stands_v (scope ds os env k) v w × (takes env v ≡ made)
-      × Stands_t (scope ds (None ∷ os) (Is k ∷ env) (suc k)) Any [] e t
+      × Stands_t (scope ds (None ∷ os) (Is k ∷ env) (suc k)) [] e Any t
   Ends os made env k (HLet (HSet x y) t) a =
       (v : AVal) × (u : AVal) × (e : ATm) × (a ≡ Let (Init v 1 u) (Let (Malloc NoATys) e)) × Stands_v
       (scope ds os env k) v x
       × Stands_v (scope ds os env k) u y × (takes env v ++ takes env u ≡ made)
-      × Stands_t (scope ds (None ∷ os) (Is k ∷ Gone ∷ env) (suc k)) Any [] e t
+      × Stands_t (scope ds (None ∷ os) (Is k ∷ Gone ∷ env) (suc k)) [] e Any t
   Ends os made env k (HCall x us xs) a =
       (v : AVal) × (vs : List AVal) × (a ≡ Call v (atypes us) vs) × Stands_v (scope ds os env k) v x
       × Stands_vs (scope ds os env k) vs xs × (takes env v ++ all_take env vs ≡ made)
   Ends os made env k (HIf x t u) a =
       (v : AVal) × (b : ATm) × (c : ATm) × (a ≡ If0 v b c) × Stands_v (scope ds os env k) v x × (takes env v ≡ made)
-      × Stands_t (scope ds os env k) Any [] b t × Stands_t (scope ds os env k) Any [] c u
+      × Stands_t (scope ds os env k) [] b Any t × Stands_t (scope ds os env k) [] c Any u
   Ends os made env k (HHalt x) a = (v : AVal) × (a ≡ Halt v) × Stands_v (scope ds os env k) v x × (takes env v ≡ made)
 
   abbrev pub Makes : Constants → List Thing → List Thing → ℕ → HTm → ATm → Type 0
   Makes os made env k h a =
       (ts : ATys) × (n : ℕ) × (e : ATm) × (a ≡ Let (Malloc ts) e) × (arity ts ≡ suc n)
-      × Stands_t (scope ds os (Gone ∷ env) k) (Filling [] n []) made e h
+      × Stands_t (scope ds os (Gone ∷ env) k) made e (Filling [] n []) h
 
   in_cell : (ts : ATys) (a : ATm) (h : HTm) (os : Constants) (made env : List Thing) (k : ℕ) → arity ts ≡ 1 →
-      Stands_t (scope ds os (Gone ∷ env) k) Content made a h → Ends os made env k h (Let (Malloc ts) a)
+      Stands_t (scope ds os (Gone ∷ env) k) made a Content h → Ends os made env k h (Let (Malloc ts) a)
   in_cell ts (Let (Init v i w) e) h os made env k one (x, t, ev, ei, is, sw, at, st) =
       subst (λ z. Ends os made env k z (Let (Malloc ts) (Let (Init v i w) e))) (sym is)
       (ts, w, e, ap₂ (λ p q. Let (Malloc ts) (Let (Init p q w) e)) ev ei, one, sw, at, st)
@@ -66,7 +66,7 @@ module _ (ds : List HVal) where
 
   assigned : (a : ATm) (v w : AVal) (i : ℕ) (x y : HVal) (t : HTm) (os : Constants) (made env : List Thing) (k : ℕ) →
       i ≡ 1 → Stands_v (scope ds os env k) v x → Stands_v (scope ds os env k) w y → takes env v ++ takes env w ≡ made →
-      Stands_t (scope ds (None ∷ os) (Gone ∷ env) k) Unit_named [] a t →
+      Stands_t (scope ds (None ∷ os) (Gone ∷ env) k) [] a Unit_named t →
       Ends os made env k (HLet (HSet x y) t) (Let (Init v i w) a)
   assigned (Let (Malloc ts) e) v w i x y t os made env k one sv sw at (none, st) =
       (v, w, e, ap₂ (λ p q. Let (Init v p w) (Let (Malloc q) e)) one none, sv, sw, at, st)
@@ -80,7 +80,7 @@ module _ (ds : List HVal) where
   assigned (Halt u) v w i x y t os made env k one sv sw at s = absurd s
 
   pub begins : (a : ATm) (h : HTm) (os : Constants) (made env : List Thing) (k : ℕ) →
-      Stands_t (scope ds os env k) Any made a h → Ends os made env k h a ⊎ Makes os made env k h a
+      Stands_t (scope ds os env k) made a Any h → Ends os made env k h a ⊎ Makes os made env k h a
   begins (Let (Value v) e) h os made env k (w, t, is, sv, at, st) =
       inl (subst (λ z. Ends os made env k z (Let (Value v) e)) (sym is) (v, e, refl, sv, at, st))
   begins (Let (Proj i v) e) h os made env k (w, t, inl is, sv, at, st) =

@@ -39,7 +39,7 @@ apart_last xs ys us vs n e =
 module _ (ds : List HVal) (os : Constants) (k : ℕ) (h : HTm) where
   -- so many fields are to come
   pub count_fields : (a : ATm) (fs : List HVal) (n : ℕ) (taken made env : List Thing)
-      (s : Stands_t (scope ds os env k) (Filling fs n taken) made a h) →
+      (s : Stands_t (scope ds os env k) made a (Filling fs n taken) h) →
       length (fields_of ds a h os fs n taken made env k s) ≡ suc n
   count_fields (Let (Init v i w) e) fs zero taken made env (y, left, ev, ei, sw, at, st) = refl
   count_fields (Let (Init v i w) e) fs (suc n) taken made env (y, ev, ei, sw, st) =
@@ -60,15 +60,15 @@ module _ (ds : List HVal) (os : Constants) (k : ℕ) (h : HTm) where
     pub one : ATm
     pub other : ATm
     pub good : Good env k
-    pub one_stands : Stands_t (scope ds os env k) Any next one h
-    pub other_stands : Stands_t (scope ds os env k) Any next other h
+    pub one_stands : Stands_t (scope ds os env k) next one Any h
+    pub other_stands : Stands_t (scope ds os env k) next other Any h
     pub moved : (rs : List HVal) → things_posts os made ++ tuple ∷ rs ≡ things_posts os next ++ rs
     pub taken_same : taken ≡ other_taken
     pub back : plain_term one ≡ plain_term other → plain_term a ≡ plain_term b
 
   pub alike : (m n : ℕ) (a b : ATm) (fs gs : List HVal) (taken other made env : List Thing) → Good env k →
-      (s : Stands_t (scope ds os env k) (Filling fs m taken) made a h) →
-      (r : Stands_t (scope ds os env k) (Filling gs n other) made b h) →
+      (s : Stands_t (scope ds os env k) made a (Filling fs m taken) h) →
+      (r : Stands_t (scope ds os env k) made b (Filling gs n other) h) →
       m ≡ n → fs ≡ gs → length taken ≡ length other →
       fields_of ds a h os fs m taken made env k s ≡ fields_of ds b h os gs n other made env k r →
       all_posts os (listed fs) ≡ things_posts os taken →
@@ -88,9 +88,9 @@ module _ (ds : List HVal) (os : Constants) (k : ℕ) (h : HTm) where
       let fields_at = ei ∙ ap (λ z. suc (length z)) same ∙ sym fi in
       let new = made_at env k (fs ++ y ∷ []) in
       let su1 =
-      subst (λ q. Stands_t (scope ds os (made_at env k q ∷ env) k) Any (right ++ made_at env k q ∷ []) f h) (sym all) su
+      subst (λ q. Stands_t (scope ds os (made_at env k q ∷ env) k) (right ++ made_at env k q ∷ []) f Any h) (sym all) su
       in
-      let su2 = subst (λ q. Stands_t (scope ds os (new ∷ env) k) Any (q ++ new ∷ []) f h) (sym parts.0) su1 in
+      let su2 = subst (λ q. Stands_t (scope ds os (new ∷ env) k) (q ++ new ∷ []) f Any h) (sym parts.0) su1 in
       let t = HTuple (listed (fs ++ y ∷ [])) in
       let more = takes env w in
       record {

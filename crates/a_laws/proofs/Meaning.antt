@@ -269,7 +269,7 @@ module _ (D : List AConsts) (ds : List HVal) (shown : Shows ds D ds) (ks : HBlks
 
     mutual
       term_rel : (a : ATm) (t : HTm) (os : Constants) (made env : List Thing) (k : ℕ) (ys : HWords) (m : List ℕ)
-          (h : A.AHeap) (st : HWords) (vars : List A.AWord) (log : List ℕ) → Stands_t (scope ds os env k) Any made a t →
+          (h : A.AHeap) (st : HWords) (vars : List A.AWord) (log : List ℕ) → Stands_t (scope ds os env k) made a Any t →
           At D m h st os env k ys vars → Same a vars h log t ys st
       term_rel (Let (Value v) e) t os made env k ys m h st vars log (w, u, is, sv, tk, se) g =
           let r = read_v m h st os env k ys vars g v w sv in
@@ -351,7 +351,7 @@ module _ (D : List AConsts) (ds : List HVal) (shown : Shows ds D ds) (ks : HBlks
       -- a tuple, the last one of the heap, some of whose fields are filled
       fill_rel : (a : ATm) (t : HTm) (os : Constants) (fs : List HVal) (n : ℕ) (taken made env : List Thing) (k : ℕ)
           (ys : HWords) (m : List ℕ) (h : A.AHeap) (st : HWords) (vars : List A.AWord) (log : List ℕ)
-          (ws : List A.AWord) → Stands_t (scope ds os (Gone ∷ env) k) (Filling fs n taken) made a t →
+          (ws : List A.AWord) → Stands_t (scope ds os (Gone ∷ env) k) made a (Filling fs n taken) t →
           At D m h st os env k ys vars → Rels m h (hvs_value (listed fs) ys) ws →
           Unstuck (hterm ks he t ys st).end →
           A.term next a (A.ZTuple (length h) ∷ vars) (h ++ (map Some ws ++ nones (suc n)) ∷ []) log
@@ -410,7 +410,7 @@ module _ (D : List AConsts) (ds : List HVal) (shown : Shows ds D ds) (ks : HBlks
       -- a cell, the last one of the heap, which is not set
       cell_rel : (a : ATm) (t : HTm) (os : Constants) (made env : List Thing) (k : ℕ) (ys : HWords) (m : List ℕ)
           (h : A.AHeap) (st : HWords) (vars : List A.AWord) (log : List ℕ) →
-          Stands_t (scope ds os (Gone ∷ env) k) Content made a t → At D m h st os env k ys vars →
+          Stands_t (scope ds os (Gone ∷ env) k) made a Content t → At D m h st os env k ys vars →
           Unstuck (hterm ks he t ys st).end →
           A.term next a (A.ZTuple (length h) ∷ vars) (h ++ (None ∷ []) ∷ []) log ≡ ends log (hterm ks he t ys st)
       cell_rel (Let (Init v i w) e) t os made env k ys m h st vars log (x, u, ev, ei, is, sw, tk, se) g =
@@ -448,7 +448,7 @@ module _ (D : List AConsts) (ds : List HVal) (shown : Shows ds D ds) (ks : HBlks
       -- the empty tuple that names an assignment
       unit_rel : (a : ATm) (t : HTm) (os : Constants) (made env : List Thing) (k : ℕ) (ys : HWords) (m : List ℕ)
           (h : A.AHeap) (st : HWords) (vars : List A.AWord) (log : List ℕ) →
-          Stands_t (scope ds (None ∷ os) env k) Unit_named made a t → At D m h st os env k ys vars →
+          Stands_t (scope ds (None ∷ os) env k) made a Unit_named t → At D m h st os env k ys vars →
           Same a vars h log t (MoreHWords (YTuple NoHWords) ys) st
       unit_rel (Let (Malloc ts) e) t os made env k ys m h st vars log (none, se) g =
           let here = A.ZTuple (length h) in
@@ -484,7 +484,7 @@ module _ (D : List AConsts) (ds : List HVal) (shown : Shows ds D ds) (ks : HBlks
     block : ABlk
     is : o ≡ Some block
     args : atypes x.args ≡ block.args
-    stands : Stands_t (scope ds (of_args x.args []) (arg_things 0 [] block.args) (arity block.args)) Any [] block.body
+    stands : Stands_t (scope ds (of_args x.args []) (arg_things 0 [] block.args) (arity block.args)) [] block.body Any
         x.body
 
   abbrev BlockOf : Option ABlk → Option HBlk → Type 0

@@ -73,9 +73,9 @@ module _ (ds : List HVal) where
         none_more t rs (cancel (things_posts os made) [] (t ∷ rs) (all ∙ sym eq))
 
     -- two terms at one place, where these tuples are to come
-    run : (rs : List HVal) (made env : List Thing) (a b : ATm) → Good env k → Stands_t (scope ds os env k) Any made a h
+    run : (rs : List HVal) (made env : List Thing) (a b : ATm) → Good env k → Stands_t (scope ds os env k) made a Any h
         →
-        Stands_t (scope ds os env k) Any made b h → things_posts os made ++ rs ≡ first_posts os h → AtEnd →
+        Stands_t (scope ds os env k) made b Any h → things_posts os made ++ rs ≡ first_posts os h → AtEnd →
         plain_term a ≡ plain_term b
     run [] made env a b good s r eq end = ⊎_elim
         (λ (x : Ends ds os made env k h a). ⊎_elim
@@ -112,7 +112,7 @@ module _ (ds : List HVal) where
         (begins ds a h os made env k s)
 
   pub one_term : (h : HTm) (os : Constants) (env : List Thing) (k : ℕ) (a b : ATm) → Good env k →
-      Stands_t (scope ds os env k) Any [] a h → Stands_t (scope ds os env k) Any [] b h → plain_term a ≡ plain_term b
+      Stands_t (scope ds os env k) [] a Any h → Stands_t (scope ds os env k) [] b Any h → plain_term a ≡ plain_term b
   one_term (HLet (HName w) t) os env k a b good s r =
       run (HLet (HName w) t) os k (first_posts os (HLet (HName w) t)) [] env a b good s r refl
       (λ made env2 c d g x y.
@@ -206,7 +206,7 @@ module _ (ds : List HVal) where
   all_one (b ∷ bs) (c ∷ cs) (x ∷ xs) s r =
       let os = of_args x.args [] in
       let args = sym s.0.1 ∙ r.0.1 in
-      let rc = subst (λ z. Stands_t (scope ds os (arg_things 0 [] z) (arity z)) Any [] c.body x.body) (sym args) r.0.2
+      let rc = subst (λ z. Stands_t (scope ds os (arg_things 0 [] z) (arity z)) [] c.body Any x.body) (sym args) r.0.2
       in
       let good = good_args b.args 0 [] (good_none 0) (arity b.args) (omega arith) in
       let body = one_term x.body os (arg_things 0 [] b.args) (arity b.args) b.body c.body good s.0.2 rc in

@@ -108,7 +108,7 @@ module _ (ds : List HVal) where
 
   -- the fields that are to come
   abbrev pub fields_of : (a : ATm) (h : HTm) (os : Constants) (fs : List HVal) (n : ℕ)
-      (taken made env : List Thing) (k : ℕ) → Stands_t (scope ds os env k) (Filling fs n taken) made a h → List HVal
+      (taken made env : List Thing) (k : ℕ) → Stands_t (scope ds os env k) made a (Filling fs n taken) h → List HVal
   fields_of (Let (Init v i w) e) h os fs zero taken made env k (y, left, ev, ei, sw, at, st) = y ∷ []
   fields_of (Let (Init v i w) e) h os fs (suc n) taken made env k (y, ev, ei, sw, st) =
       y ∷ fields_of e h os (fs ++ y ∷ []) n (taken ++ takes env w) made (Gone ∷ env) k st
@@ -150,7 +150,7 @@ module _ (ds : List HVal) where
   mutual
     -- the tuples that are made, and those to come
     pub to_come : (a : ATm) (h : HTm) (os : Constants) (made env : List Thing) (k : ℕ) →
-        Stands_t (scope ds os env k) Any made a h → (rs : List HVal) × (things_posts os made ++ rs ≡ first_posts os h)
+        Stands_t (scope ds os env k) made a Any h → (rs : List HVal) × (things_posts os made ++ rs ≡ first_posts os h)
     to_come (Let (Value v) e) h os made env k (w, t, is, sv, at, st) =
         ([], append-nil (things_posts os made) ∙ of_one ds v w os made env k sv at ∙ sym (ap (first_posts os) is))
     to_come (Let (Proj i v) e) h os made env k (w, t, inl is, sv, at, st) =
@@ -179,7 +179,7 @@ module _ (ds : List HVal) where
         ([], append-nil (things_posts os made) ∙ of_one ds v x os made env k sv at ∙ sym (ap (first_posts os) is))
 
     pub to_come_filled : (a : ATm) (h : HTm) (os : Constants) (fs : List HVal) (n : ℕ) (taken made env : List Thing)
-        (k : ℕ) (s : Stands_t (scope ds os env k) (Filling fs n taken) made a h) →
+        (k : ℕ) (s : Stands_t (scope ds os env k) made a (Filling fs n taken) h) →
         all_posts os (listed fs) ≡ things_posts os taken →
         (rs : List HVal)
         × (things_posts os made ++ HTuple (listed (fs ++ fields_of ds a h os fs n taken made env k s)) ∷ rs
@@ -208,7 +208,7 @@ module _ (ds : List HVal) where
     to_come_filled (Halt v) h os fs n taken made env k s same = absurd s
 
     in_cell : (a : ATm) (h : HTm) (os : Constants) (made env : List Thing) (k : ℕ) →
-        Stands_t (scope ds os env k) Content made a h → things_posts os made ++ [] ≡ first_posts os h
+        Stands_t (scope ds os env k) made a Content h → things_posts os made ++ [] ≡ first_posts os h
     in_cell (Let (Init v i w) e) h os made env k (x, t, ev, ei, is, sw, at, st) =
         append-nil (things_posts os made) ∙ of_one ds w x os made env k sw at ∙ sym (ap (first_posts os) is)
     in_cell (Let (Value v) e) h os made env k s = absurd s

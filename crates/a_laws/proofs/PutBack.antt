@@ -244,7 +244,7 @@ module _ (ds : List HVal) where
       ∙ sym (ap (settle_vs os) s.2)
 
   content_no : (a : ATm) (h : HTm) (os : Constants) (made : List Thing) (env : List Thing) (k : ℕ) →
-      Stands_t (scope ds os env k) Content made a h → NoCell_t h → ⊥
+      Stands_t (scope ds os env k) made a Content h → NoCell_t h → ⊥
   content_no (Let (Init v i w) e) h os made env k s c = (subst NoCell_t s.4 c).0
   content_no (Let (Value v) e) h os made env k s c = s
   content_no (Let (Proj i v) e) h os made env k s c = s
@@ -278,7 +278,7 @@ module _ (ds : List HVal) where
 
   mutual
     term_back : (a : ATm) (h : HTm) (os : Constants) (made : List Thing) (k : ℕ) (env : List Thing)
-        (benv : List Shown) → Stands_t (scope ds os env k) Any made a h → NoCell_t h → EnvOk os k env benv →
+        (benv : List Shown) → Stands_t (scope ds os env k) made a Any h → NoCell_t h → EnvOk os k env benv →
         back_t ds benv k a ≡ settle_t os h
     term_back (Let (Value v) e) h os made k env benv (w, t, is, sv, at, st) c ok =
         let n = subst NoCell_t is c in
@@ -329,7 +329,7 @@ module _ (ds : List HVal) where
         ap HHalt (value_back v x os k env benv sv n ok) ∙ sym (ap (settle_t os) is)
 
     fill_back : (a : ATm) (h : HTm) (os : Constants) (fs : List HVal) (n : ℕ) (taken made : List Thing) (k : ℕ)
-        (env : List Thing) (benv : List Shown) → Stands_t (scope ds os env k) (Filling fs n taken) made a h → NoCell_t h
+        (env : List Thing) (benv : List Shown) → Stands_t (scope ds os env k) made a (Filling fs n taken) h → NoCell_t h
         →
         EnvOk os k env benv →
         Partly os k fs (shown_at benv 0) → back_t ds benv k a ≡ settle_t os h
@@ -373,7 +373,7 @@ module _ (ds : List HVal) where
       let os = of_args x.args [] in
       let k = arg_count 0 b.args in
       let z : arity b.args ≡ k = sym (count_is b.args 0 ∙ omega arith) in
-      let st = subst (λ m. Stands_t (scope ds os (arg_things 0 [] b.args) m) Any [] b.body x.body) z s.0.2 in
+      let st = subst (λ m. Stands_t (scope ds os (arg_things 0 [] b.args) m) [] b.body Any x.body) z s.0.2 in
       let body = term_back b.body x.body os [] k (arg_things 0 [] b.args) (arg_names 0 [] b.args) st c.0.1
       (args_ok b.args 0 [] [] (λ os m i. tt) os k) in
       let args = ap drops (sym s.0.1) ∙ drops_are x.args c.0.0 in

@@ -189,7 +189,7 @@ cell_made =
 cell_is_made : alloc_main [] cell ≡ cell_made
 cell_is_made = refl
 
-cell_stands : Stands_t (scope [] [] [] 0) Any [] cell_made cell
+cell_stands : Stands_t (scope [] [] [] 0) [] cell_made Any cell
 cell_stands =
     inr (
       refl,
@@ -225,7 +225,7 @@ second_field = Let (Malloc (MoreATys AInt NoATys)) (Let (Init (Var 0) 2 (Num (po
 not_first : (i : ℕ) → i ≡ 2 → i ≡ 1 → ⊥
 not_first i two one = omega (arith, two, one)
 
-not_second : (ds : List HVal) (h : HTm) → Stands_t (scope ds [] [] 0) Any [] second_field h → ⊥
+not_second : (ds : List HVal) (h : HTm) → Stands_t (scope ds [] [] 0) [] second_field Any h → ⊥
 not_second ds h (inl (zero, many, (y, left, var, field, means, at, rest))) = not_first 2 refl field
 not_second ds h (inl (suc n, many, (y, var, field, means, rest))) = not_first 2 refl field
 not_second ds h (inr (one, (x, t, var, field, is, means, takes, rest))) = not_first 2 refl field
@@ -243,7 +243,7 @@ none_left (y ∷ xs) x e = cc
 more_than_two : (n : ℕ) → 2 ≡ suc (suc (suc n)) → ⊥
 more_than_two n e = omega (arith, e)
 
-not_idle : (ds : List HVal) (h : HTm) → Stands_t (scope ds [] [] 0) Any [] idle h → ⊥
+not_idle : (ds : List HVal) (h : HTm) → Stands_t (scope ds [] [] 0) [] idle Any h → ⊥
 not_idle ds h (inl (zero, many, (y, left, var, field, means, at, (x, z, t, set, is, vx, vz, takes, rest)))) =
     not_first 2 refl set
 not_idle ds h
@@ -274,7 +274,7 @@ shared =
 shared_halts : meaning (record { blocks = []; tuples = [] }) shared 0 ≡ Halted (pos 5) []
 shared_halts = refl
 
-not_shared : (ds : List HVal) (h : HTm) → Stands_t (scope ds [] [] 0) Any [] shared h → ⊥
+not_shared : (ds : List HVal) (h : HTm) → Stands_t (scope ds [] [] 0) [] shared Any h → ⊥
 not_shared ds h (
   x,
   y,

@@ -114,14 +114,14 @@ module _ (ds : List HVal) where
       vars : List Thing
       taken : List Thing
       shows : (made next : List Thing) → next ≡ made ++ taken → (rest : ATm) (h : HTm) →
-          Stands_t (scope ds os vars k0) Any next rest h → Stands_t (scope ds os env k0) Any made (pre rest) h
+          Stands_t (scope ds os vars k0) next rest Any h → Stands_t (scope ds os env k0) made (pre rest) Any h
       later : Later d env d2 vars
       good : Q taken vars
 
     -- nothing is made
     as_is : (made next : List Thing) → next ≡ made ++ [] → (env : List Thing) (rest : ATm) (h : HTm) →
-        Stands_t (scope ds os env k0) Any next rest h → Stands_t (scope ds os env k0) Any made rest h
-    as_is made next e env rest h x = subst (λ m. Stands_t (scope ds os env k0) Any m rest h) (e ∙ append-nil made) x
+        Stands_t (scope ds os env k0) next rest Any h → Stands_t (scope ds os env k0) made rest Any h
+    as_is made next e env rest h x = subst (λ m. Stands_t (scope ds os env k0) m rest Any h) (e ∙ append-nil made) x
 
     -- the fields after those of vs
     abbrev then_all : List HVal → HVals → List HVal
@@ -152,8 +152,8 @@ module _ (ds : List HVal) where
       shows : (made left next : List Thing) → made ≡ left ++ (done ++ taken) →
           next ≡ left ++ Made number k0 (then_all fs (MoreHVals v vs)) ∷ [] →
           (rest : ATm) (h : HTm) →
-          Stands_t (scope ds os (Made number k0 (then_all fs (MoreHVals v vs)) ∷ vars) k0) Any next rest h →
-          Stands_t (scope ds os (Gone ∷ env) k0) (Filling fs (many vs) done) made (pre rest) h
+          Stands_t (scope ds os (Made number k0 (then_all fs (MoreHVals v vs)) ∷ vars) k0) next rest Any h →
+          Stands_t (scope ds os (Gone ∷ env) k0) made (pre rest) (Filling fs (many vs) done) h
       later : Later (suc l) (Gone ∷ env) (suc (final l (MoreHVals v vs)))
           (Made number k0 (then_all fs (MoreHVals v vs)) ∷ vars)
 
@@ -176,7 +176,7 @@ module _ (ds : List HVal) where
             q,
             first.0,
             m ∙ ap (λ xs. left ++ (done ++ xs)) (sym same),
-            subst (λ z. Stands_t (scope ds os (new ∷ old) k0) Any z rest h) n x,
+            subst (λ z. Stands_t (scope ds os (new ∷ old) k0) z rest Any h) n x,
           );
           later = λ p x a. at_more (suc l) old p x new a;
         }
@@ -352,7 +352,7 @@ module _ (ds : List HVal) where
 
   module _ (ks : HBlks) where
     abbrev Standing : HTm → List ATy → List Known → Constants → ℕ → ℕ → ℕ → List Thing → Type 0
-    Standing t g ls os k b d env = Stands_t (scope ds os env k) Any [] (alloc_t ks g ls b d t) t
+    Standing t g ls os k b d env = Stands_t (scope ds os env k) [] (alloc_t ks g ls b d t) Any t
 
     stands_is : (t : HTm) (g : List ATy) (ls : List Known) (os : Constants) (k b d : ℕ) (env : List Thing) →
         Within ds b (tuples_t os t) → AgreeK ds ls os → InT k t → Agree d ls k env → Standing t g ls os k b d env
@@ -589,8 +589,9 @@ module _ (ds : List HVal) where
           (
             refl,
             refl,
-            subst (λ k. Stands_t (scope ds os (arg_things 0 [] (atypes x.args)) k) Any []
+            subst (λ k. Stands_t (scope ds os (arg_things 0 [] (atypes x.args)) k) []
                 (alloc_t ks (types_of (atypes x.args) []) (arg_levels 0 [] x.args) b (arg_depth 0 x.args) x.body)
+                Any
                 x.body) n z,
           ),
           all_stand xs b1 w1 h.1,

@@ -141,51 +141,52 @@ pub data Mode : Type 0 where
   Content : Mode
   Unit_named : Mode
 
--- the term a stands for h, where these tuples are made and not taken
-abbrev pub Stands_t : Scope → Mode → List Thing → ATm → HTm → Type 0
-Stands_t s Any made (Let (Value v) e) h =
+-- where these tuples are made and not taken, and this is to come, the term a stands for h
+abbrev pub Stands_t : Scope → List Thing → ATm → Mode → HTm → Type 0
+Stands_t s made (Let (Value v) e) Any h =
     (w : HVal) × (t : HTm) × (h ≡ HLet (HName w) t) × Stands_v s v w × (takes s.things v ≡ made)
-    × Stands_t (with_name (constant s.constants w) s) Any [] e t
-Stands_t s Any made (Let (Proj i v) e) h =
+    × Stands_t (with_name (constant s.constants w) s) [] e Any t
+Stands_t s made (Let (Proj i v) e) Any h =
     (w : HVal) × (t : HTm) × ((h ≡ HLet (HProj i w) t) ⊎ ((i ≡ 1) × (h ≡ HLet (HGet w) t)))
-    × Stands_v s v w × (takes s.things v ≡ made) × Stands_t (with_name None s) Any [] e t
-Stands_t s Any made (Let (Arith op v w) e) h =
+    × Stands_v s v w × (takes s.things v ≡ made) × Stands_t (with_name None s) [] e Any t
+Stands_t s made (Let (Arith op v w) e) Any h =
     (x : HVal) × (y : HVal) × (t : HTm) × (h ≡ HLet (HArith op x y) t) × Stands_v s v x × Stands_v s w y
-    × (takes s.things v ++ takes s.things w ≡ made) × Stands_t (with_name None s) Any [] e t
-Stands_t s Any made (Let (Unpack v) e) h =
+    × (takes s.things v ++ takes s.things w ≡ made) × Stands_t (with_name None s) [] e Any t
+Stands_t s made (Let (Unpack v) e) Any h =
     (w : HVal) × (t : HTm) × (h ≡ HLet (HUnpack w) t) × Stands_v s v w × (takes s.things v ≡ made)
-    × Stands_t (with_name None s) Any [] e t
-Stands_t s Any made (Let (Malloc ts) e) h =
-    ((n : ℕ) × (arity ts ≡ suc n) × Stands_t (with_thing Gone s) (Filling [] n []) made e h)
-    ⊎ ((arity ts ≡ 1) × Stands_t (with_thing Gone s) Content made e h)
-Stands_t s Any made (Let (Init v i w) e) h =
+    × Stands_t (with_name None s) [] e Any t
+Stands_t s made (Let (Malloc ts) e) Any h =
+    ((n : ℕ) × (arity ts ≡ suc n) × Stands_t (with_thing Gone s) made e (Filling [] n []) h)
+    ⊎ ((arity ts ≡ 1) × Stands_t (with_thing Gone s) made e Content h)
+Stands_t s made (Let (Init v i w) e) Any h =
     (x : HVal) × (y : HVal) × (t : HTm) × (i ≡ 1) × (h ≡ HLet (HSet x y) t) × Stands_v s v x × Stands_v s w y
     × (takes s.things v ++ takes s.things w ≡ made)
-    × Stands_t (scope s.tuples (None ∷ s.constants) (Gone ∷ s.things) s.names) Unit_named [] e t
-Stands_t s Any made (Call v ts vs) h =
+    × Stands_t (scope s.tuples (None ∷ s.constants) (Gone ∷ s.things) s.names) [] e Unit_named t
+Stands_t s made (Call v ts vs) Any h =
     (x : HVal) × (us : CTys) × (xs : HVals) × (h ≡ HCall x us xs) × (atypes us ≡ ts) × Stands_v s v x
     × Stands_vs s vs xs × (takes s.things v ++ all_take s.things vs ≡ made)
-Stands_t s Any made (If0 v a b) h =
+Stands_t s made (If0 v a b) Any h =
     (x : HVal) × (t : HTm) × (u : HTm) × (h ≡ HIf x t u) × Stands_v s v x × (takes s.things v ≡ made)
-    × Stands_t s Any [] a t × Stands_t s Any [] b u
-Stands_t s Any made (Halt v) h =
+    × Stands_t s [] a Any t × Stands_t s [] b Any u
+Stands_t s made (Halt v) Any h =
     (x : HVal) × (h ≡ HHalt x) × Stands_v s v x × (takes s.things v ≡ made)
 -- the last field; the tuples that the fields took are the last that were made, and the new one comes in their place
-Stands_t s (Filling fs zero taken) made (Let (Init v i w) e) h =
+Stands_t s made (Let (Init v i w) e) (Filling fs zero taken) h =
     (y : HVal) × (left : List Thing) × (v ≡ Var 0) × (i ≡ suc (length fs)) × Stands_v s w y
     × (made ≡ left ++ (taken ++ takes s.things w))
-    × Stands_t (with_thing (made_at s.things s.names (fs ++ y ∷ [])) s) Any
-    (left ++ made_at s.things s.names (fs ++ y ∷ []) ∷ []) e h
-Stands_t s (Filling fs (suc n) taken) made (Let (Init v i w) e) h =
+    × Stands_t (with_thing (made_at s.things s.names (fs ++ y ∷ [])) s) (left ++ made_at s.things s.names (fs ++ y ∷ [])
+    ∷ [])
+    e Any h
+Stands_t s made (Let (Init v i w) e) (Filling fs (suc n) taken) h =
     (y : HVal) × (v ≡ Var 0) × (i ≡ suc (length fs)) × Stands_v s w y
-    × Stands_t (with_thing Gone s) (Filling (fs ++ y ∷ []) n (taken ++ takes s.things w)) made e h
-Stands_t s Content made (Let (Init v i w) e) h =
+    × Stands_t (with_thing Gone s) made e (Filling (fs ++ y ∷ []) n (taken ++ takes s.things w)) h
+Stands_t s made (Let (Init v i w) e) Content h =
     (x : HVal) × (t : HTm) × (v ≡ Var 0) × (i ≡ 1) × (h ≡ HLet (HCell x) t) × Stands_v s w x
-    × (takes s.things w ≡ made) × Stands_t (with_name None s) Any [] e t
-Stands_t s Unit_named made (Let (Malloc ts) e) h =
+    × (takes s.things w ≡ made) × Stands_t (with_name None s) [] e Any t
+Stands_t s made (Let (Malloc ts) e) Unit_named h =
     (ts ≡ NoATys)
-    × Stands_t (scope s.tuples s.constants (Is s.names ∷ s.things) (suc s.names)) Any made e h
-Stands_t s _ made _ h = ⊥
+    × Stands_t (scope s.tuples s.constants (Is s.names ∷ s.things) (suc s.names)) made e Any h
+Stands_t s made _ _ h = ⊥
 
 -- the arguments of a block are its first variables
 abbrev pub arg_things : ℕ → List Thing → ATys → List Thing
@@ -198,7 +199,7 @@ Stands_all ds [] (x ∷ xs) = ⊥
 Stands_all ds (b ∷ bs) [] = ⊥
 Stands_all ds (b ∷ bs) (x ∷ xs) =
     ((b.owes ≡ x.owes) × (atypes x.args ≡ b.args)
-    × Stands_t (scope ds (of_args x.args []) (arg_things 0 [] b.args) (arity b.args)) Any [] b.body x.body)
+    × Stands_t (scope ds (of_args x.args []) (arg_things 0 [] b.args) (arity b.args)) [] b.body Any x.body)
     × Stands_all ds bs xs
 
 -- a program stands for a hoisted program, block by block; its data tuples, one after the other, are the tuples of
@@ -206,7 +207,7 @@ Stands_all ds (b ∷ bs) (x ∷ xs) =
 abbrev pub Stands : AProg → ATm → HBlks → HTm → Type 0
 Stands p main ks t =
     Shows (tuples_in ks t) p.tuples (tuples_in ks t) × AllHaveKinds p p.tuples
-    × Stands_all (tuples_in ks t) p.blocks ks × Stands_t (scope (tuples_in ks t) [] [] 0) Any [] main t
+    × Stands_all (tuples_in ks t) p.blocks ks × Stands_t (scope (tuples_in ks t) [] [] 0) [] main Any t
 
 -- the allocation of a typed program stands for it
 abbrev pub AllocStands : Type 0

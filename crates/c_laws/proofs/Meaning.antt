@@ -98,7 +98,8 @@ compute_rel op (WInt x) (WCode (KCodeAt b owes args body) env) c d r q =
 compute_rel op (WInt x) (WCell p) c d r q = tt
 compute_rel op (WCell p) w c d r q = tt
 compute_rel op (WTuple vs) w c d r q = subst (λ z. OptionRel None (operate op z d)) (sym r.1) tt
-compute_rel op (WCode (KCodeAt b owes args body) env) w c d r q = subst (λ z. OptionRel None (operate op z d)) (sym r.2) tt
+compute_rel op (WCode (KCodeAt b owes args body) env) w c d r q =
+    subst (λ z. OptionRel None (operate op z d)) (sym r.2) tt
 
 -- stores, place by place
 held_rel : (p : ℕ) (st : KWords) (cst : CWords) → Rels st cst → OptionRel (held p st) (held p cst)

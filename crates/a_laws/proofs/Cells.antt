@@ -6,7 +6,9 @@ use Rattle.a_laws.proofs.Rel.{Grows, Moves, Rel, Stores, Valid, fresh, holds_mov
 use Rattle.a_laws.proofs.Rel.{rel_grows, rel_moves}
 use Rattle.a_terms.specs.Meaning.{AHeap, AWord}
 use Rattle.a_terms.specs.Tree.{AConsts}
-use Rattle.h_terms.specs.Meaning.{HWord, HWords, MoreHWords, NoHWords, hheld, hhold, hone_more, hsize}
+use Rattle.calc_core.specs.Words.{held, hold, one_more}
+use Rattle.calc_core.proofs.WordLists.{held_there, held_one, held_hold, size_one, size_hold}
+use Rattle.h_terms.specs.Meaning.{HWord, HWords}
 use Rattle.idx_core.proofs.Lists.{set_same as nth_put_same, get_front as nth_more}
 
 pub none_some : {A : Type 0} (x : A) → None ≡ Some x → ⊥
@@ -35,36 +37,6 @@ nth_put_other (x ∷ xs) zero (suc j) y f = refl
 nth_put_other (x ∷ xs) (suc i) zero y f = refl
 nth_put_other (x ∷ xs) (suc i) (suc j) y f = nth_put_other xs i j y (λ e. f (ap suc e))
 
-held_there : (st : HWords) (p : ℕ) → p < hsize st → (y : HWord) × (hheld p st ≡ Some y)
-held_there NoHWords p l = absurd (omega arith)
-held_there (MoreHWords y st) zero l = (y, refl)
-held_there (MoreHWords y st) (suc p) l = held_there st p (omega arith)
-
-held_one : (st : HWords) (y z : HWord) (p : ℕ) → hheld p (hone_more st y) ≡ Some z →
-    (hheld p st ≡ Some z) ⊎ ((p ≡ hsize st) × (y ≡ z))
-held_one NoHWords y z zero e = inr (refl, cc)
-held_one NoHWords y z (suc p) e = absurd (none_some z e)
-held_one (MoreHWords x st) y z zero e = inl e
-held_one (MoreHWords x st) y z (suc p) e = ⊎_elim (λ l. inl l) (λ r. inr (ap suc r.0, r.1)) (held_one st y z p e)
-
-held_hold : (st : HWords) (p q : ℕ) (y z : HWord) → hheld q (hhold p y st) ≡ Some z →
-    ((q ≡ p) × (y ≡ z)) ⊎ ((p ≡ q → ⊥) × (hheld q st ≡ Some z))
-held_hold NoHWords p q y z e = absurd (none_some z e)
-held_hold (MoreHWords x st) zero zero y z e = inl (refl, cc)
-held_hold (MoreHWords x st) zero (suc q) y z e = inr ((λ f. cc), e)
-held_hold (MoreHWords x st) (suc p) zero y z e = inr ((λ f. cc), e)
-held_hold (MoreHWords x st) (suc p) (suc q) y z e =
-    ⊎_elim (λ r. inl (ap suc r.0, r.1)) (λ r. inr ((λ f. r.0 cc), r.1)) (held_hold st p q y z e)
-
-size_one : (st : HWords) (y : HWord) → hsize (hone_more st y) ≡ suc (hsize st)
-size_one NoHWords y = refl
-size_one (MoreHWords x st) y = ap suc (size_one st y)
-
-size_hold : (st : HWords) (p : ℕ) (y : HWord) → hsize (hhold p y st) ≡ hsize st
-size_hold NoHWords p y = refl
-size_hold (MoreHWords x st) zero y = refl
-size_hold (MoreHWords x st) (suc p) y = ap suc (size_hold st p y)
-
 pub stores_grow : (D : List AConsts) (m : List ℕ) (h h2 : AHeap) (st : HWords) → Grows h h2 → Stores D m h st →
     Stores D m h2 st
 stores_grow D m h h2 st g s = record {
@@ -76,7 +48,7 @@ stores_grow D m h h2 st g s = record {
 
 -- what a cell's address holds
 pub cell_holds : (D : List AConsts) (m : List ℕ) (h : AHeap) (st : HWords) (p a : ℕ) → Stores D m h st →
-    slice_get m p ≡ Some a → (y : HWord) × (w : AWord) × (hheld p st ≡ Some y) × (slice_get h a ≡ Some (Some w ∷ []))
+    slice_get m p ≡ Some a → (y : HWord) × (w : AWord) × (held p st ≡ Some y) × (slice_get h a ≡ Some (Some w ∷ []))
     × Rel m h y w
 cell_holds D m h st p a s e =
     let l = nth_lt m p a e in
@@ -90,7 +62,7 @@ valid_of D m h st s =
     record { cells = λ p a e. (let r = cell_holds D m h st p a s e in (Some r.1 ∷ [], r.3)); kept = s.kept }
 
 pub held_at : (D : List AConsts) (m : List ℕ) (h : AHeap) (st : HWords) (p a : ℕ) (y : HWord) → Stores D m h st →
-    slice_get m p ≡ Some a → hheld p st ≡ Some y → (w : AWord) × (slice_get h a ≡ Some (Some w ∷ [])) × Rel m h y w
+    slice_get m p ≡ Some a → held p st ≡ Some y → (w : AWord) × (slice_get h a ≡ Some (Some w ∷ [])) × Rel m h y w
 held_at D m h st p a y s e f =
     let r = s.holds p y f in
     (r.1, subst (λ b. slice_get h b ≡ Some (Some r.1 ∷ [])) (some_same (slice_get m p) r.0 a r.2 e) r.3, r.4)
@@ -105,7 +77,7 @@ moves_cell m h fs = record {
 }
 
 pub stores_cell : (D : List AConsts) (m : List ℕ) (h : AHeap) (st : HWords) (y : HWord) (w : AWord) → Stores D m h st →
-    Rel m h y w → Stores D (m ++ length h ∷ []) (h ++ (Some w ∷ []) ∷ []) (hone_more st y)
+    Rel m h y w → Stores D (m ++ length h ∷ []) (h ++ (Some w ∷ []) ∷ []) (one_more st y)
 stores_cell D m h st y w s r = record {
   long = omega (arith, s.long, length-append m (length h ∷ []), size_one st y);
   holds = λ p z e. ⊎_elim
@@ -150,7 +122,7 @@ moves_set m h p a fs e = record {
 }
 
 pub stores_set : (D : List AConsts) (m : List ℕ) (h : AHeap) (st : HWords) (p a : ℕ) (y : HWord) (w : AWord) →
-    Stores D m h st → slice_get m p ≡ Some a → Rel m h y w → Stores D m (slice_set h a (Some w ∷ [])) (hhold p y st)
+    Stores D m h st → slice_get m p ≡ Some a → Rel m h y w → Stores D m (slice_set h a (Some w ∷ [])) (hold p y st)
 stores_set D m h st p a y w s e r = record {
   long = s.long ∙ sym (size_hold st p y);
   holds = λ q z f. ⊎_elim
@@ -177,5 +149,5 @@ stores_set D m h st p a y w s e r = record {
     mv : Moves m h m (slice_set h a (Some w ∷ []))
     mv = moves_set m h p a (Some w ∷ []) e
 
-    old : (x : HWord) × (u : AWord) × (hheld p st ≡ Some x) × (slice_get h a ≡ Some (Some u ∷ [])) × Rel m h x u
+    old : (x : HWord) × (u : AWord) × (held p st ≡ Some x) × (slice_get h a ≡ Some (Some u ∷ [])) × Rel m h x u
     old = cell_holds D m h st p a s e

@@ -5,15 +5,15 @@ use Rattle.std.proofs.lemmas.Bool.{eqb-true, eq-eqb, ne_eqb, cases_eq}
 use Rattle.std.specs.Prelude.{Bool, true, false, map, slice_get, slice_set}
 use Rattle.idx_core.specs.Arith.{is_zero}
 use Rattle.idx_core.specs.declared.arith.Op.{Op}
-use Rattle.calc_core.specs.Ends.{End, Halted, Result, Spent, Stuck, enters, if_fits, pick, stops}
+use Rattle.calc_core.specs.Ends.{Result, Spent, enters, if_fits, pick, stops}
 use Rattle.c_terms.specs.C.{CTys, MoreCTys, NoCTys, ccount}
 use Rattle.h_terms.specs.Laws.{HNeverStuck}
 use Rattle.h_terms.specs.H.{HVal, HVals, HGet, HSet, HTm, HLet, HBlk}
 use Rattle.h_terms.specs.H.{HBlks, block_at}
-use Rattle.h_terms.specs.Meaning.{HEnter, HWord, HWords, MoreHWords, NoHWords, YCell, YInt, YLabel, YTuple, hat_zero}
-use Rattle.h_terms.specs.Meaning.{henter, hfield, hget, hgiven, hhalt_with, hheld, hhold, hone_more, honto, hopen}
-use Rattle.h_terms.specs.Meaning.{hoperate, hproject, hrun, hset, hsize, hterm, hv_value, hvs_value, hwith_value}
-use Rattle.h_terms.specs.Meaning.{with_block}
+use Rattle.calc_core.proofs.Ends.{Fine, fine}
+use Rattle.calc_core.specs.Words.{WInt, WTuple, WCode, WCell, NoWords, MoreWords, size, onto, field, project, operate}
+use Rattle.calc_core.specs.Words.{held, hold, one_more, given, get, set, with_value, at_zero, halt_with}
+use Rattle.h_terms.specs.Meaning.{HWord, HWords, hv_value, hvs_value, HEnter, with_block, hopen, hterm, henter, hrun}
 use Rattle.a_terms.specs.Meaning as A
 use Rattle.a_terms.specs.Tree.{ATys, NoATys, MoreATys, AVal, Var, ADecl, Value, Proj, Arith, Unpack, Malloc, Init, ATm}
 use Rattle.a_terms.specs.Tree.{Let, Call, If0, Halt, ABlk, AConsts, arity}
@@ -32,71 +32,65 @@ use Rattle.a_laws.proofs.Shown.{Agree, Known, Reads, agree_moves, agree_more, co
 use Rattle.a_laws.proofs.Shown.{values_read}
 use Rattle.idx_core.proofs.Lists.{get_front as nth_more}
 
--- a run that is not stuck
-abbrev Unstuck : End → Type 0
-Unstuck (Halted i) = Unit {0}
-Unstuck Spent = Unit {0}
-Unstuck Stuck = ⊥
-
 -- a declared value, where the store and the heap stay as they are
 abbrev OptRel : List ℕ → A.AHeap → Option HWord → A.Made → Type 0
 OptRel m h None r = Unit {0}
 OptRel m h (Some y) r = (w : A.AWord) × (r ≡ A.Gives w h) × Rel m h y w
 
 field_rel : (m : List ℕ) (h : A.AHeap) (i : ℕ) (ys : HWords) (ws : List A.AWord) → Rels m h ys ws →
-    OptRel m h (hfield i ys)
+    OptRel m h (field i ys)
     (A.at_field i (λ j. A.given (slice_get (map Some ws) j) (λ f. A.given f (λ w. A.Gives w h))))
-field_rel m h zero NoHWords ws r = tt
-field_rel m h (suc i) NoHWords ws r = tt
-field_rel m h zero (MoreHWords y ys) ws r = tt
-field_rel m h (suc zero) (MoreHWords y ys) ws r = rw r.2 (r.0, refl, r.3)
-field_rel m h (suc (suc i)) (MoreHWords y ys) ws r = rw r.2 (field_rel m h (suc i) ys r.1 r.4)
+field_rel m h zero NoWords ws r = tt
+field_rel m h (suc i) NoWords ws r = tt
+field_rel m h zero (MoreWords y ys) ws r = tt
+field_rel m h (suc zero) (MoreWords y ys) ws r = rw r.2 (r.0, refl, r.3)
+field_rel m h (suc (suc i)) (MoreWords y ys) ws r = rw r.2 (field_rel m h (suc i) ys r.1 r.4)
 
 project_rel : (m : List ℕ) (h : A.AHeap) (i : ℕ) (y : HWord) (w : A.AWord) → Rel m h y w →
-    OptRel m h (hproject i y)
+    OptRel m h (project i y)
     (A.address (Some w)
     (λ a. A.at_field i
     (λ j. A.given (slice_get h a) (λ t. A.given (slice_get t j) (λ f. A.given f (λ x. A.Gives x h))))))
-project_rel m h i (YInt n) w r = tt
-project_rel m h zero (YTuple ys) w r = rw r.2 (field_rel m h 0 ys r.1 r.5)
-project_rel m h (suc i) (YTuple ys) w r = rw (r.2, r.3) (field_rel m h (suc i) ys r.1 r.5)
-project_rel m h i (YLabel l) w r = tt
-project_rel m h i (YCell p) w r = tt
+project_rel m h i (WInt n) w r = tt
+project_rel m h zero (WTuple ys) w r = rw r.2 (field_rel m h 0 ys r.1 r.5)
+project_rel m h (suc i) (WTuple ys) w r = rw (r.2, r.3) (field_rel m h (suc i) ys r.1 r.5)
+project_rel m h i (WCode l env) w r = tt
+project_rel m h i (WCell p) w r = tt
 
 compute_rel : (m : List ℕ) (h : A.AHeap) (op : Op) (y z : HWord) (v w : A.AWord) → Rel m h y v → Rel m h z w →
-    OptRel m h (hoperate op y z)
+    OptRel m h (operate op y z)
     (A.decl (Arith op (Rattle.a_terms.specs.Tree.Var 0) (Rattle.a_terms.specs.Tree.Var 1)) (v ∷ w ∷ []) h)
-compute_rel m h op (YInt x) (YInt u) v w r q = rw (r, q) (_, refl, refl)
-compute_rel m h op (YInt x) (YTuple ws) v w r q = tt
-compute_rel m h op (YInt x) (YLabel l) v w r q = tt
-compute_rel m h op (YInt x) (YCell p) v w r q = tt
-compute_rel m h op (YTuple vs) z v w r q = tt
-compute_rel m h op (YLabel l) z v w r q = tt
-compute_rel m h op (YCell p) z v w r q = tt
+compute_rel m h op (WInt x) (WInt u) v w r q = rw (r, q) (_, refl, refl)
+compute_rel m h op (WInt x) (WTuple ws) v w r q = tt
+compute_rel m h op (WInt x) (WCode l env) v w r q = tt
+compute_rel m h op (WInt x) (WCell p) v w r q = tt
+compute_rel m h op (WTuple vs) z v w r q = tt
+compute_rel m h op (WCode l env) z v w r q = tt
+compute_rel m h op (WCell p) z v w r q = tt
 
 abbrev hgot : HWord → HWords → Option HWord
-hgot (YInt n) st = None
-hgot (YTuple ys) st = None
-hgot (YLabel l) st = None
-hgot (YCell p) st = hheld p st
+hgot (WInt n) st = None
+hgot (WTuple ys) st = None
+hgot (WCode l env) st = None
+hgot (WCell p) st = held p st
 
-got_is : (y : HWord) (st : HWords) → hget y st ≡ hgiven (hgot y st) st
-got_is (YInt n) st = refl
-got_is (YTuple ys) st = refl
-got_is (YLabel l) st = refl
-got_is (YCell p) st = refl
+got_is : (y : HWord) (st : HWords) → get y st ≡ given (hgot y st) st
+got_is (WInt n) st = refl
+got_is (WTuple ys) st = refl
+got_is (WCode l env) st = refl
+got_is (WCell p) st = refl
 
 get_rel : (D : List AConsts) (m : List ℕ) (h : A.AHeap) (st : HWords) (y : HWord) (w : A.AWord) → Stores D m h st →
     Rel m h y w →
     OptRel m h (hgot y st)
     (A.address (Some w)
     (λ a. A.given (slice_get h a) (λ t. A.given (slice_get t 0) (λ f. A.given f (λ x. A.Gives x h)))))
-get_rel D m h st (YInt n) w s r = tt
-get_rel D m h st (YTuple ys) w s r = tt
-get_rel D m h st (YLabel l) w s r = tt
-get_rel D m h st (YCell p) w s r = go (hheld p st) refl
+get_rel D m h st (WInt n) w s r = tt
+get_rel D m h st (WTuple ys) w s r = tt
+get_rel D m h st (WCode l env) w s r = tt
+get_rel D m h st (WCell p) w s r = go (held p st) refl
   where
-    go : (o : Option HWord) → hheld p st ≡ o →
+    go : (o : Option HWord) → held p st ≡ o →
         OptRel m h o
         (A.address (Some w)
         (λ a. A.given (slice_get h a) (λ t. A.given (slice_get t 0) (λ f. A.given f (λ x. A.Gives x h)))))
@@ -139,7 +133,7 @@ module _ (m : List ℕ) (h : A.AHeap) (ys : HWords) where
       Rels m h (hvs_value (listed fs) ys) ws → Rel m h (hv_value f ys) w →
       Rels m h (hvs_value (listed (fs ++ f ∷ [])) ys) (ws ++ w ∷ [])
   filled_more [] ws f w r q =
-      subst (λ z. Rels m h (MoreHWords (hv_value f ys) NoHWords) (z ++ w ∷ [])) (sym r) (w, [], refl, q, refl)
+      subst (λ z. Rels m h (MoreWords (hv_value f ys) NoWords) (z ++ w ∷ [])) (sym r) (w, [], refl, q, refl)
   filled_more (g ∷ fs) ws f w r q =
       let more = filled_more fs r.1 f w r.4 q in
       subst (λ z. Rels m h (hvs_value (listed (g ∷ (fs ++ f ∷ []))) ys) (z ++ w ∷ [])) (sym r.2)
@@ -156,8 +150,8 @@ module _ (D : List AConsts) (ds : List HVal) (shown : Shows ds D ds) (ks : HBlks
   -- one more variable on both sides
   next_at : (m : List ℕ) (h : A.AHeap) (st : HWords) (os : Constants) (env : List Thing) (k : ℕ) (ys : HWords)
       (vars : List A.AWord) → At D m h st os env k ys vars → (o : Option HVal) (y : HWord) (w : A.AWord) →
-      ((c : HVal) → o ≡ Some c → y ≡ hv_value c NoHWords) → Rel m h y w →
-      At D m h st (o ∷ os) (Is k ∷ env) (suc k) (MoreHWords y ys) (w ∷ vars)
+      ((c : HVal) → o ≡ Some c → y ≡ hv_value c NoWords) → Rel m h y w →
+      At D m h st (o ∷ os) (Is k ∷ env) (suc k) (MoreWords y ys) (w ∷ vars)
   next_at m h st os env k ys vars a o y w f r = record {
     stores = a.stores;
     agree = agree_more m h k ys y w env vars r a.agree;
@@ -189,59 +183,59 @@ module _ (D : List AConsts) (ds : List HVal) (shown : Shows ds D ds) (ks : HBlks
   read_vs m h st os env k ys vars a vs ws s =
       values_read m h D ds shown a.stores.kept os k ys a.known env vars a.agree vs ws s
 
-  none_is : (y : HWord) (c : HVal) → None ≡ Some c → y ≡ hv_value c NoHWords
+  none_is : (y : HWord) (c : HVal) → None ≡ Some c → y ≡ hv_value c NoWords
   none_is y c e = absurd (clash e)
     where
       clash : None ≡ Some c → ⊥
       clash x = cc
 
   branch_step : (m : List ℕ) (h : A.AHeap) (log : List ℕ) (y : HWord) (w : A.AWord) (a b : A.Result) (r s : Result) →
-      Rel m h y w → (Unstuck r.end → a ≡ ends log r) → (Unstuck s.end → b ≡ ends log s) →
-      Unstuck (hat_zero y r s).end → A.branch (Some w) log a b ≡ ends log (hat_zero y r s)
-  branch_step m h log (YInt n) w a b r s q e f ok = rw q (picked (is_zero n) ok)
+      Rel m h y w → (Fine r.end → a ≡ ends log r) → (Fine s.end → b ≡ ends log s) →
+      Fine (at_zero y r s).end → A.branch (Some w) log a b ≡ ends log (at_zero y r s)
+  branch_step m h log (WInt n) w a b r s q e f ok = rw q (picked (is_zero n) ok)
     where
-      picked : (z : Bool) → Unstuck (pick z r s).end → A.pick z a b ≡ ends log (pick z r s)
+      picked : (z : Bool) → Fine (pick z r s).end → A.pick z a b ≡ ends log (pick z r s)
       picked true k = e k
       picked false k = f k
-  branch_step m h log (YTuple ys) w a b r s q e f ok = absurd ok
-  branch_step m h log (YLabel l) w a b r s q e f ok = absurd ok
-  branch_step m h log (YCell p) w a b r s q e f ok = absurd ok
+  branch_step m h log (WTuple ys) w a b r s q e f ok = absurd ok
+  branch_step m h log (WCode l env) w a b r s q e f ok = absurd ok
+  branch_step m h log (WCell p) w a b r s q e f ok = absurd ok
 
   halt_step : (m : List ℕ) (h : A.AHeap) (log : List ℕ) (y : HWord) (w : A.AWord) → Rel m h y w →
-      A.halt_with (Some w) log ≡ ends log (hhalt_with y)
-  halt_step m h log (YInt n) w q = rw q refl
-  halt_step m h log (YTuple ys) w q = rw q.2 refl
-  halt_step m h log (YLabel l) w q = rw q refl
-  halt_step m h log (YCell p) w q = rw q.1 refl
+      A.halt_with (Some w) log ≡ ends log (halt_with y)
+  halt_step m h log (WInt n) w q = rw q refl
+  halt_step m h log (WTuple ys) w q = rw q.2 refl
+  halt_step m h log (WCode l env) w q = rw q refl
+  halt_step m h log (WCell p) w q = rw q.1 refl
 
   -- a call of the allocated program ends as one of the hoisted program
   abbrev Follows : HEnter → A.Next → Type 0
   Follows he next = (l : ℕ) (ys : HWords) (ws : List A.AWord) (m : List ℕ) (h : A.AHeap) (st : HWords) (log : List ℕ) →
-      Rels m h ys ws → Stores D m h st → Unstuck (hopen ks he (YLabel l) ys st).end →
-      next l ws h log ≡ ends log (hopen ks he (YLabel l) ys st)
+      Rels m h ys ws → Stores D m h st → Fine (hopen ks he (WCode l NoWords) ys st).end →
+      next l ws h log ≡ ends log (hopen ks he (WCode l NoWords) ys st)
 
   call_step : (he : HEnter) (next : A.Next) → Follows he next →
       (m : List ℕ) (h : A.AHeap) (st : HWords) (log : List ℕ) (y : HWord) (w : A.AWord) (ys : HWords)
-      (ws : List A.AWord) → Rel m h y w → Rels m h ys ws → Stores D m h st → Unstuck (hopen ks he y ys st).end →
+      (ws : List A.AWord) → Rel m h y w → Rels m h ys ws → Stores D m h st → Fine (hopen ks he y ys st).end →
       A.call_of (Some w) log (λ l. next l ws h log) ≡ ends log (hopen ks he y ys st)
-  call_step he next f m h st log (YInt n) w ys ws r q s ok = absurd ok
-  call_step he next f m h st log (YTuple zs) w ys ws r q s ok = absurd ok
-  call_step he next f m h st log (YCell p) w ys ws r q s ok = absurd ok
-  call_step he next f m h st log (YLabel l) w ys ws r q s ok = rw r (f l ys ws m h st log q s ok)
+  call_step he next f m h st log (WInt n) w ys ws r q s ok = absurd ok
+  call_step he next f m h st log (WTuple zs) w ys ws r q s ok = absurd ok
+  call_step he next f m h st log (WCell p) w ys ws r q s ok = absurd ok
+  call_step he next f m h st log (WCode l env) w ys ws r q s ok = rw r (f l ys ws m h st log q s ok)
 
   module _ (he : HEnter) (next : A.Next) (follows : Follows he next) where
     -- the two go on alike
     abbrev Same : ATm → List A.AWord → A.AHeap → List ℕ → HTm → HWords → HWords → Type 0
     Same a vars h log t ys st =
-        Unstuck (hterm ks he t ys st).end → A.term next a vars h log ≡ ends log (hterm ks he t ys st)
+        Fine (hterm ks he t ys st).end → A.term next a vars h log ≡ ends log (hterm ks he t ys st)
 
     -- a declaration that leaves heap and store as they are
     step : (m : List ℕ) (h : A.AHeap) (vars : List A.AWord) (log : List ℕ) (ys st : HWords) (t : HTm) (d : ADecl)
         (e : ATm) (o : Option HWord) → OptRel m h o (A.decl d vars h) →
-        ((y : HWord) (w : A.AWord) → Rel m h y w → Same e (w ∷ vars) h log t (MoreHWords y ys) st) →
-        Unstuck (hwith_value (hgiven o st) (λ y st2. hterm ks he t (MoreHWords y ys) st2)).end →
+        ((y : HWord) (w : A.AWord) → Rel m h y w → Same e (w ∷ vars) h log t (MoreWords y ys) st) →
+        Fine (with_value (given o st) (λ y st2. hterm ks he t (MoreWords y ys) st2)).end →
         A.term next (Let d e) vars h log
-        ≡ ends log (hwith_value (hgiven o st) (λ y st2. hterm ks he t (MoreHWords y ys) st2))
+        ≡ ends log (with_value (given o st) (λ y st2. hterm ks he t (MoreWords y ys) st2))
     step m h vars log ys st t d e None r f ok = absurd ok
     step m h vars log ys st t d e (Some y) r f ok =
         ap (λ q. A.made q log (λ w h2. A.term next e (w ∷ vars) h2 log)) r.1 ∙ f y r.0 r.2 ok
@@ -251,21 +245,21 @@ module _ (D : List AConsts) (ds : List HVal) (shown : Shows ds D ds) (ks : HBlks
         (e : ATm) (y z : HWord) (p q : A.AWord) → Stores D m h st → A.value vars v ≡ Some p →
         A.value vars w ≡ Some q → Rel m h y p → Rel m h z q →
         ((h2 : A.AHeap) (st2 : HWords) → Moves m h m h2 → Stores D m h2 st2 →
-        Unstuck (hterm ks he t (MoreHWords (YTuple NoHWords) ys) st2).end →
-        A.term next e (p ∷ vars) h2 log ≡ ends log (hterm ks he t (MoreHWords (YTuple NoHWords) ys) st2)) →
-        Unstuck (hwith_value (hset y z st) (λ x st2. hterm ks he t (MoreHWords x ys) st2)).end →
+        Fine (hterm ks he t (MoreWords (WTuple NoWords) ys) st2).end →
+        A.term next e (p ∷ vars) h2 log ≡ ends log (hterm ks he t (MoreWords (WTuple NoWords) ys) st2)) →
+        Fine (with_value (set y z st) (λ x st2. hterm ks he t (MoreWords x ys) st2)).end →
         A.term next (Let (Init v 1 w) e) vars h log
-        ≡ ends log (hwith_value (hset y z st) (λ x st2. hterm ks he t (MoreHWords x ys) st2))
-    assigns m h vars log ys st t v w e (YInt n) z p q s ev ew r u f ok = absurd ok
-    assigns m h vars log ys st t v w e (YTuple us) z p q s ev ew r u f ok = absurd ok
-    assigns m h vars log ys st t v w e (YLabel l) z p q s ev ew r u f ok = absurd ok
-    assigns m h vars log ys st t v w e (YCell c) z p q s ev ew r u f ok =
+        ≡ ends log (with_value (set y z st) (λ x st2. hterm ks he t (MoreWords x ys) st2))
+    assigns m h vars log ys st t v w e (WInt n) z p q s ev ew r u f ok = absurd ok
+    assigns m h vars log ys st t v w e (WTuple us) z p q s ev ew r u f ok = absurd ok
+    assigns m h vars log ys st t v w e (WCode l env) z p q s ev ew r u f ok = absurd ok
+    assigns m h vars log ys st t v w e (WCell c) z p q s ev ew r u f ok =
         let a = r.0 in
         let old = cell_holds D m h st c a s r.2 in
         let h2 = slice_set h a (Some q ∷ []) in
         let init : A.decl (Init v 1 w) vars h ≡ A.Gives p h2 = rw (ev, r.1, ew, old.3) refl in
         ap (λ x. A.made x log (λ y2 h3. A.term next e (y2 ∷ vars) h3 log)) init
-        ∙ f h2 (hhold c z st) (moves_set m h c a (Some q ∷ []) r.2) (stores_set D m h st c a z q s r.2 u) ok
+        ∙ f h2 (hold c z st) (moves_set m h c a (Some q ∷ []) r.2) (stores_set D m h st c a z q s r.2 u) ok
 
     mutual
       term_rel : (a : ATm) (t : HTm) (os : Constants) (made env : List Thing) (k : ℕ) (ys : HWords) (m : List ℕ)
@@ -278,35 +272,35 @@ module _ (D : List AConsts) (ds : List HVal) (shown : Shows ds D ds) (ks : HBlks
           r.2 in
           subst (λ z. Same (Let (Value v) e) vars h log z ys st) (sym is) (λ ok.
           ap (λ o. A.made (A.given o (λ x. A.Gives x h)) log (λ x h2. A.term next e (x ∷ vars) h2 log)) r.1
-          ∙ term_rel e u (constant os w ∷ os) [] (Is k ∷ env) (suc k) (MoreHWords y ys) m h st (r.0 ∷ vars) log se new
+          ∙ term_rel e u (constant os w ∷ os) [] (Is k ∷ env) (suc k) (MoreWords y ys) m h st (r.0 ∷ vars) log se new
           ok)
       term_rel (Let (Proj i v) e) t os made env k ys m h st vars log (w, u, inl is, sv, tk, se) g =
           let r = read_v m h st os env k ys vars g v w sv in
           subst (λ z. Same (Let (Proj i v) e) vars h log z ys st) (sym is)
-          (step m h vars log ys st u (Proj i v) e (hproject i (hv_value w ys))
+          (step m h vars log ys st u (Proj i v) e (project i (hv_value w ys))
           (rw r.1 (project_rel m h i (hv_value w ys) r.0 r.2))
-          (λ y x q. term_rel e u (None ∷ os) [] (Is k ∷ env) (suc k) (MoreHWords y ys) m h st (x ∷ vars) log se
+          (λ y x q. term_rel e u (None ∷ os) [] (Is k ∷ env) (suc k) (MoreWords y ys) m h st (x ∷ vars) log se
           (next_at m h st os env k ys vars g None y x (none_is y) q)))
       term_rel (Let (Proj i v) e) t os made env k ys m h st vars log (w, u, inr get, sv, tk, se) g =
           let r = read_v m h st os env k ys vars g v w sv in
           let y = hv_value w ys in
-          let on : HWord → HWords → Result = λ x st2. hterm ks he u (MoreHWords x ys) st2 in
+          let on : HWord → HWords → Result = λ x st2. hterm ks he u (MoreWords x ys) st2 in
           let got : OptRel m h (hgot y st) (A.decl (Proj 1 v) vars h) =
           rw r.1 (get_rel D m h st y r.0 g.stores r.2) in
           subst (λ z. Same (Let (Proj i v) e) vars h log z ys st) (sym get.1)
           (subst (λ j. Same (Let (Proj j v) e) vars h log (HLet (HGet w) u) ys st) (sym get.0)
-          (subst (λ z. Unstuck (hwith_value z on).end →
-          A.term next (Let (Proj 1 v) e) vars h log ≡ ends log (hwith_value z on)) (sym (got_is y st))
+          (subst (λ z. Fine (with_value z on).end →
+          A.term next (Let (Proj 1 v) e) vars h log ≡ ends log (with_value z on)) (sym (got_is y st))
           (step m h vars log ys st u (Proj 1 v) e (hgot y st) got
-          (λ z x q. term_rel e u (None ∷ os) [] (Is k ∷ env) (suc k) (MoreHWords z ys) m h st (x ∷ vars) log se
+          (λ z x q. term_rel e u (None ∷ os) [] (Is k ∷ env) (suc k) (MoreWords z ys) m h st (x ∷ vars) log se
           (next_at m h st os env k ys vars g None z x (none_is z) q)))))
       term_rel (Let (Arith op v w) e) t os made env k ys m h st vars log (x, y, u, is, sv, sw, tk, se) g =
           let r = read_v m h st os env k ys vars g v x sv in
           let q = read_v m h st os env k ys vars g w y sw in
           subst (λ z. Same (Let (Arith op v w) e) vars h log z ys st) (sym is)
-          (step m h vars log ys st u (Arith op v w) e (hoperate op (hv_value x ys) (hv_value y ys))
+          (step m h vars log ys st u (Arith op v w) e (operate op (hv_value x ys) (hv_value y ys))
           (rw (r.1, q.1) (compute_rel m h op (hv_value x ys) (hv_value y ys) r.0 q.0 r.2 q.2))
-          (λ z p rel. term_rel e u (None ∷ os) [] (Is k ∷ env) (suc k) (MoreHWords z ys) m h st (p ∷ vars) log se
+          (λ z p rel. term_rel e u (None ∷ os) [] (Is k ∷ env) (suc k) (MoreWords z ys) m h st (p ∷ vars) log se
           (next_at m h st os env k ys vars g None z p (none_is z) rel)))
       term_rel (Let (Unpack v) e) t os made env k ys m h st vars log (w, u, is, sv, tk, se) g =
           let r = read_v m h st os env k ys vars g v w sv in
@@ -314,7 +308,7 @@ module _ (D : List AConsts) (ds : List HVal) (shown : Shows ds D ds) (ks : HBlks
           let new = next_at m h st os env k ys vars g None y r.0 (none_is y) r.2 in
           subst (λ z. Same (Let (Unpack v) e) vars h log z ys st) (sym is) (λ ok.
           ap (λ o. A.made (A.given o (λ x. A.Gives x h)) log (λ x h2. A.term next e (x ∷ vars) h2 log)) r.1
-          ∙ term_rel e u (None ∷ os) [] (Is k ∷ env) (suc k) (MoreHWords y ys) m h st (r.0 ∷ vars) log se new ok)
+          ∙ term_rel e u (None ∷ os) [] (Is k ∷ env) (suc k) (MoreWords y ys) m h st (r.0 ∷ vars) log se new ok)
       term_rel (Let (Malloc ts) e) t os made env k ys m h st vars log (inl (n, many, se)) g = λ ok.
           ap (λ q. A.term next e (A.ZTuple (length h) ∷ vars) (h ++ q ∷ []) log) (empties_are ts ∙ ap nones many)
           ∙ fill_rel e t os [] n [] made env k ys m h st vars log [] se g refl ok
@@ -353,7 +347,7 @@ module _ (D : List AConsts) (ds : List HVal) (shown : Shows ds D ds) (ks : HBlks
           (ys : HWords) (m : List ℕ) (h : A.AHeap) (st : HWords) (vars : List A.AWord) (log : List ℕ)
           (ws : List A.AWord) → Stands_t (scope ds os (Gone ∷ env) k) made a (Filling fs n taken) t →
           At D m h st os env k ys vars → Rels m h (hvs_value (listed fs) ys) ws →
-          Unstuck (hterm ks he t ys st).end →
+          Fine (hterm ks he t ys st).end →
           A.term next a (A.ZTuple (length h) ∷ vars) (h ++ (map Some ws ++ nones (suc n)) ∷ []) log
           ≡ ends log (hterm ks he t ys st)
       fill_rel (Let (Init v i w) e) t os fs zero taken made env k ys m h st vars log ws
@@ -374,7 +368,7 @@ module _ (D : List AConsts) (ds : List HVal) (shown : Shows ds D ds) (ks : HBlks
           (filled_more m h ys fs ws y r.0 fields r.2) in
           let apart = fresh D m h (valid_of D m h st g.stores) in
           let at_it = nth_seam h [] full (length h) refl in
-          let made_rel : Rel m h2 (YTuple (hvs_value (listed (fs ++ y ∷ [])) ys)) here =
+          let made_rel : Rel m h2 (WTuple (hvs_value (listed (fs ++ y ∷ [])) ys)) here =
           (length h, ws ++ r.0 ∷ [], refl, at_it, apart, rels) in
           let small : k < suc k = omega arith in
           let g3 : At D m h2 st os (made_at (Gone ∷ env) k (fs ++ y ∷ []) ∷ Gone ∷ env) k ys (here ∷ old) =
@@ -411,7 +405,7 @@ module _ (D : List AConsts) (ds : List HVal) (shown : Shows ds D ds) (ks : HBlks
       cell_rel : (a : ATm) (t : HTm) (os : Constants) (made env : List Thing) (k : ℕ) (ys : HWords) (m : List ℕ)
           (h : A.AHeap) (st : HWords) (vars : List A.AWord) (log : List ℕ) →
           Stands_t (scope ds os (Gone ∷ env) k) made a Content t → At D m h st os env k ys vars →
-          Unstuck (hterm ks he t ys st).end →
+          Fine (hterm ks he t ys st).end →
           A.term next a (A.ZTuple (length h) ∷ vars) (h ++ (None ∷ []) ∷ []) log ≡ ends log (hterm ks he t ys st)
       cell_rel (Let (Init v i w) e) t os made env k ys m h st vars log (x, u, ev, ei, is, sw, tk, se) g =
           let here = A.ZTuple (length h) in
@@ -421,20 +415,20 @@ module _ (D : List AConsts) (ds : List HVal) (shown : Shows ds D ds) (ks : HBlks
           let y = hv_value x ys in
           let h2 = h ++ (Some r.0 ∷ []) ∷ [] in
           let m2 = m ++ length h ∷ [] in
-          let st2 = hone_more st y in
+          let st2 = one_more st y in
           let set = init_step h (length h) 0 vars [] [] w r.0 refl refl r.1 in
           let g2 = moved_at m m2 h h2 st st2 os (Gone ∷ env) k ys old g1 (moves_cell m h (Some r.0 ∷ []))
           (stores_cell D m h st y r.0 g.stores r.2) in
-          let new : Rel m2 h2 (YCell (hsize st)) here =
-          (length h, refl, nth_seam m [] (length h) (hsize st) (sym g.stores.long)) in
-          let g3 = next_at m2 h2 st2 os (Gone ∷ env) k ys old g2 None (YCell (hsize st)) here
-          (none_is (YCell (hsize st))) new in
-          subst (λ z. Unstuck (hterm ks he z ys st).end →
+          let new : Rel m2 h2 (WCell (size st)) here =
+          (length h, refl, nth_seam m [] (length h) (size st) (sym g.stores.long)) in
+          let g3 = next_at m2 h2 st2 os (Gone ∷ env) k ys old g2 None (WCell (size st)) here
+          (none_is (WCell (size st))) new in
+          subst (λ z. Fine (hterm ks he z ys st).end →
           A.term next (Let (Init v i w) e) old (h ++ (None ∷ []) ∷ []) log ≡ ends log (hterm ks he z ys st)) (sym is)
           (λ ok.
           ap₂ (λ p j. A.term next (Let (Init p j w) e) old (h ++ (None ∷ []) ∷ []) log) ev ei
           ∙ ap (λ q. A.made q log (λ z h3. A.term next e (z ∷ old) h3 log)) set
-          ∙ term_rel e u (None ∷ os) [] (Is k ∷ Gone ∷ env) (suc k) (MoreHWords (YCell (hsize st)) ys) m2 h2 st2
+          ∙ term_rel e u (None ∷ os) [] (Is k ∷ Gone ∷ env) (suc k) (MoreWords (WCell (size st)) ys) m2 h2 st2
           (here ∷ old) log se g3 ok)
       cell_rel (Let (Value v) e) t os made env k ys m h st vars log s g = absurd s
       cell_rel (Let (Proj i v) e) t os made env k ys m h st vars log s g = absurd s
@@ -449,18 +443,18 @@ module _ (D : List AConsts) (ds : List HVal) (shown : Shows ds D ds) (ks : HBlks
       unit_rel : (a : ATm) (t : HTm) (os : Constants) (made env : List Thing) (k : ℕ) (ys : HWords) (m : List ℕ)
           (h : A.AHeap) (st : HWords) (vars : List A.AWord) (log : List ℕ) →
           Stands_t (scope ds (None ∷ os) env k) made a Unit_named t → At D m h st os env k ys vars →
-          Same a vars h log t (MoreHWords (YTuple NoHWords) ys) st
+          Same a vars h log t (MoreWords (WTuple NoWords) ys) st
       unit_rel (Let (Malloc ts) e) t os made env k ys m h st vars log (none, se) g =
           let here = A.ZTuple (length h) in
           let h2 = h ++ [] ∷ [] in
           let more : Grows h h2 = λ b q f. nth_more h ([] ∷ []) b q f in
           let g1 = moved_at m m h h2 st st os env k ys vars g (moves_grow m h h2 more)
           (stores_grow D m h h2 st more g.stores) in
-          let new : Rel m h2 (YTuple NoHWords) here =
+          let new : Rel m h2 (WTuple NoWords) here =
           (length h, [], refl, nth_seam h [] [] (length h) refl, fresh D m h (valid_of D m h st g.stores), refl) in
-          let g2 = next_at m h2 st os env k ys vars g1 None (YTuple NoHWords) here (none_is (YTuple NoHWords)) new in
+          let g2 = next_at m h2 st os env k ys vars g1 None (WTuple NoWords) here (none_is (WTuple NoWords)) new in
           λ ok. ap (λ q. A.term next e (here ∷ vars) (h ++ A.empties q ∷ []) log) none
-          ∙ term_rel e t (None ∷ os) made (Is k ∷ env) (suc k) (MoreHWords (YTuple NoHWords) ys) m h2 st (here ∷ vars)
+          ∙ term_rel e t (None ∷ os) made (Is k ∷ env) (suc k) (MoreWords (WTuple NoWords) ys) m h2 st (here ∷ vars)
           log se g2 ok
       unit_rel (Let (Value v) e) t os made env k ys m h st vars log s g = absurd s
       unit_rel (Let (Proj i v) e) t os made env k ys m h st vars log s g = absurd s
@@ -471,9 +465,9 @@ module _ (D : List AConsts) (ds : List HVal) (shown : Shows ds D ds) (ks : HBlks
       unit_rel (Halt v) t os made env k ys m h st vars log s g = absurd s
       unit_rel (Let (Init v i w) e) t os made env k ys m h st vars log s g = absurd s
 
-  sizes : (ys : HWords) (ws : List A.AWord) (m : List ℕ) (h : A.AHeap) → Rels m h ys ws → length ws ≡ hsize ys
-  sizes NoHWords ws m h r = ap length r
-  sizes (MoreHWords y ys) ws m h r = ap length r.2 ∙ ap suc (sizes ys r.1 m h r.4)
+  sizes : (ys : HWords) (ws : List A.AWord) (m : List ℕ) (h : A.AHeap) → Rels m h ys ws → length ws ≡ size ys
+  sizes NoWords ws m h r = ap length r
+  sizes (MoreWords y ys) ws m h r = ap length r.2 ∙ ap suc (sizes ys r.1 m h r.4)
 
   arity_is : (ts : CTys) → arity (atypes ts) ≡ ccount ts
   arity_is NoCTys = refl
@@ -499,18 +493,18 @@ module _ (D : List AConsts) (ds : List HVal) (shown : Shows ds D ds) (ks : HBlks
   block_is (b ∷ bs) (x ∷ xs) (suc l) s = block_is bs xs l s.1
 
   agree_args : (ts : ATys) (vs ys : HWords) (ws : List A.AWord) (env : List Thing) (vars : List A.AWord) (m : List ℕ)
-      (h : A.AHeap) (k n : ℕ) → n ≡ k + arity ts → hsize vs ≡ arity ts → Rels m h vs ws → Agree m h k ys env vars →
-      Agree m h n (honto vs ys) (arg_things k env ts) (A.push_all ws vars)
-  agree_args NoATys NoHWords ys ws env vars m h k n e f r a =
+      (h : A.AHeap) (k n : ℕ) → n ≡ k + arity ts → size vs ≡ arity ts → Rels m h vs ws → Agree m h k ys env vars →
+      Agree m h n (onto vs ys) (arg_things k env ts) (A.push_all ws vars)
+  agree_args NoATys NoWords ys ws env vars m h k n e f r a =
       let same : n ≡ k = omega (arith, e) in
       subst (λ z. Agree m h n ys env (A.push_all z vars)) (sym r) (subst (λ z. Agree m h z ys env vars) (sym same) a)
-  agree_args NoATys (MoreHWords v vs) ys ws env vars m h k n e f r a = absurd (omega (arith, f))
-  agree_args (MoreATys t ts) NoHWords ys ws env vars m h k n e f r a = absurd (omega (arith, f))
-  agree_args (MoreATys t ts) (MoreHWords v vs) ys ws env vars m h k n e f r a =
+  agree_args NoATys (MoreWords v vs) ys ws env vars m h k n e f r a = absurd (omega (arith, f))
+  agree_args (MoreATys t ts) NoWords ys ws env vars m h k n e f r a = absurd (omega (arith, f))
+  agree_args (MoreATys t ts) (MoreWords v vs) ys ws env vars m h k n e f r a =
       let more = agree_more m h k ys v r.0 env vars r.3 a in
-      subst (λ z. Agree m h n (honto vs (MoreHWords v ys)) (arg_things (suc k) (Is k ∷ env) ts) (A.push_all z vars))
+      subst (λ z. Agree m h n (onto vs (MoreWords v ys)) (arg_things (suc k) (Is k ∷ env) ts) (A.push_all z vars))
       (sym r.2)
-      (agree_args ts vs (MoreHWords v ys) r.1 (Is k ∷ env) (r.0 ∷ vars) m h (suc k) n (omega (arith, e))
+      (agree_args ts vs (MoreWords v ys) r.1 (Is k ∷ env) (r.0 ∷ vars) m h (suc k) n (omega (arith, e))
       (omega (arith, f)) r.4 more)
 
   -- no argument names a constant
@@ -539,25 +533,25 @@ module _ (D : List AConsts) (ds : List HVal) (shown : Shows ds D ds) (ks : HBlks
       ⊎_elim (λ e. eq-eqb m n e ∙ sym (eq-eqb n m (sym e))) (λ ne. ne_eqb m n ne ∙ sym (ne_eqb n m (λ e. ne (sym e))))
       (cases_eq m n)
 
-  pick_step : (b : Bool) (log : List ℕ) (x : A.Result) (r : Result) → (b ≡ true → Unstuck r.end → x ≡ ends log r) →
-      Unstuck (if_fits b r).end → A.pick b x (A.Wrong log) ≡ ends log (if_fits b r)
+  pick_step : (b : Bool) (log : List ℕ) (x : A.Result) (r : Result) → (b ≡ true → Fine r.end → x ≡ ends log r) →
+      Fine (if_fits b r).end → A.pick b x (A.Wrong log) ≡ ends log (if_fits b r)
   pick_step true log x r f ok = f refl ok
   pick_step false log x r f ok = refl
 
   enter_step : (log : List ℕ) (p : Option ABlk) (o : Option HBlk) (ys : HWords) (n : ℕ) (go : ABlk → A.Result)
-      (on : HBlk → Result) → BlockOf p o → n ≡ hsize ys →
-      ((x : HBlk) (b : Block p x) → hsize ys ≡ ccount x.args → Unstuck (on x).end → go b.block ≡ ends log (on x)) →
-      Unstuck (with_block o (λ x. if_fits (nat_eq (hsize ys) (ccount x.args)) (on x))).end →
-      A.enter p n log go ≡ ends log (with_block o (λ x. if_fits (nat_eq (hsize ys) (ccount x.args)) (on x)))
+      (on : HBlk → Result) → BlockOf p o → n ≡ size ys →
+      ((x : HBlk) (b : Block p x) → size ys ≡ ccount x.args → Fine (on x).end → go b.block ≡ ends log (on x)) →
+      Fine (with_block o (λ x. if_fits (nat_eq (size ys) (ccount x.args)) (on x))).end →
+      A.enter p n log go ≡ ends log (with_block o (λ x. if_fits (nat_eq (size ys) (ccount x.args)) (on x)))
   enter_step log p None ys n go on b e f ok = ap (λ q. A.enter q n log go) b
   enter_step log p (Some x) ys n go on b e f ok =
       let z = go b.block in
       ap (λ q. A.enter q n log go) b.is
       ∙ ap (λ q. A.pick (q == n) z (A.Wrong log)) (ap arity (sym b.args) ∙ arity_is x.args)
       ∙ ap (λ q. A.pick (ccount x.args == q) z (A.Wrong log)) e
-      ∙ ap (λ c. A.pick c z (A.Wrong log)) (eq_swap (ccount x.args) (hsize ys))
-      ∙ pick_step (nat_eq (hsize ys) (ccount x.args)) log z (on x)
-      (λ c. f x b (eqb-true (hsize ys) (ccount x.args) c)) ok
+      ∙ ap (λ c. A.pick c z (A.Wrong log)) (eq_swap (ccount x.args) (size ys))
+      ∙ pick_step (nat_eq (size ys) (ccount x.args)) log z (on x)
+      (λ c. f x b (eqb-true (size ys) (ccount x.args) c)) ok
 
   module _ (bs : List ABlk) (all : Stands_all ds bs ks) where
     follows_n : (n : ℕ) → Follows (henter ks n) (A.calls bs n)
@@ -566,19 +560,19 @@ module _ (D : List AConsts) (ds : List HVal) (shown : Shows ds D ds) (ks : HBlks
         (block_is bs ks l all) (sizes ys ws m h r) (λ x b e q. refl) ok
     follows_n (suc n) l ys ws m h st log r s ok =
         let go : ABlk → A.Result = λ b. A.term (A.calls bs n) b.body (A.push_all ws []) h (l ∷ log) in
-        let on : HBlk → Result = λ x. enters l (hterm ks (henter ks n) x.body (honto ys NoHWords) st) in
+        let on : HBlk → Result = λ x. enters l (hterm ks (henter ks n) x.body (onto ys NoWords) st) in
         enter_step log (slice_get bs l) (block_at ks l) ys (length ws) go on (block_is bs ks l all) (sizes ys ws m h r)
         (λ x b e q. term_rel (henter ks n) (A.calls bs n) (follows_n n) b.block.body x.body (of_args x.args []) []
-        (arg_things 0 [] b.block.args) (arity b.block.args) (honto ys NoHWords) m h st (A.push_all ws []) (l ∷ log)
+        (arg_things 0 [] b.block.args) (arity b.block.args) (onto ys NoWords) m h st (A.push_all ws []) (l ∷ log)
         b.stands (at_block x b.block ys ws m h st b.args e r s) q) ok
       where
         at_block : (x : HBlk) (b : ABlk) (ys : HWords) (ws : List A.AWord) (m : List ℕ) (h : A.AHeap) (st : HWords) →
-            atypes x.args ≡ b.args → hsize ys ≡ ccount x.args → Rels m h ys ws → Stores D m h st →
-            At D m h st (of_args x.args []) (arg_things 0 [] b.args) (arity b.args) (honto ys NoHWords)
+            atypes x.args ≡ b.args → size ys ≡ ccount x.args → Rels m h ys ws → Stores D m h st →
+            At D m h st (of_args x.args []) (arg_things 0 [] b.args) (arity b.args) (onto ys NoWords)
             (A.push_all ws [])
         at_block x b ys ws m h st args e r s = record {
           stores = s;
-          agree = agree_args b.args ys NoHWords ws [] [] m h 0 (arity b.args) (omega arith)
+          agree = agree_args b.args ys NoWords ws [] [] m h 0 (arity b.args) (omega arith)
               (e ∙ sym (arity_is x.args) ∙ ap arity args) r tt;
           known = λ i c f. absurd (empty_args x.args [] empty i c f);
         }
@@ -593,7 +587,7 @@ module _ (D : List AConsts) (ds : List HVal) (shown : Shows ds D ds) (ks : HBlks
   datum_first (y ∷ xs) zero x e = let z : y ≡ x = cc in ap (λ q. Some (A.datum q)) z
   datum_first (y ∷ xs) (suc n) x e = datum_first xs n x e
 
-  no_cells : Stores D [] (A.start_heap D) NoHWords
+  no_cells : Stores D [] (A.start_heap D) NoWords
   no_cells = record {
     long = refl;
     holds = λ p y e. absurd (none p y e);
@@ -607,21 +601,16 @@ module _ (D : List AConsts) (ds : List HVal) (shown : Shows ds D ds) (ks : HBlks
       gone : (p a : ℕ) → None ≡ Some a → ⊥
       gone p a e = cc
 
-unstuck : (e : End) → (e ≡ Stuck → ⊥) → Unstuck e
-unstuck (Halted i) f = tt
-unstuck Spent f = tt
-unstuck Stuck f = f refl
-
 pub standing_means : HNeverStuck → StandingMeansTheSame
 standing_means never p main ks t good s n =
     let ds = tuples_in ks t in
     let follows = follows_n p.tuples ds s.0 ks p.blocks s.2 n in
-    term_rel p.tuples ds s.0 ks (henter ks n) (A.calls p.blocks n) follows main t [] [] [] 0 NoHWords []
-    (A.start_heap p.tuples) NoHWords [] [] s.3 (record {
+    term_rel p.tuples ds s.0 ks (henter ks n) (A.calls p.blocks n) follows main t [] [] [] 0 NoWords []
+    (A.start_heap p.tuples) NoWords [] [] s.3 (record {
       stores = no_cells p.tuples ds s.0 ks;
       agree = tt;
       known = λ i c f. absurd (empty p.tuples ds s.0 ks i c f);
-    }) (unstuck (hrun n ks t).end (never ks t good n))
+    }) (fine (hrun n ks t).end (never ks t good n))
 
 -- so does the allocation
 pub alloc_kept : HNeverStuck → AllocStands → AllocKept

@@ -4,7 +4,8 @@ use Rattle.std.proofs.Common.{◌∙◌, arith}
 use Rattle.std.specs.Prelude.{map, slice_get, slice_set}
 use Rattle.a_terms.specs.Meaning.{AHeap, AWord, ZInt, ZLabel, ZTuple, datum}
 use Rattle.a_terms.specs.Tree.{AConsts}
-use Rattle.h_terms.specs.Meaning.{HWord, HWords, MoreHWords, NoHWords, YCell, YInt, YLabel, YTuple, hheld, hsize}
+use Rattle.calc_core.specs.Words.{WInt, WTuple, WCode, WCell, NoWords, MoreWords, size, held}
+use Rattle.h_terms.specs.Meaning.{HWord, HWords}
 
 -- no cell has this address; m: the address of each cell, by place
 abbrev pub Apart : List ℕ → ℕ → Type 0
@@ -12,15 +13,15 @@ Apart m a = (p : ℕ) → slice_get m p ≡ Some a → ⊥
 
 abbrev mutual
   pub Rel : List ℕ → AHeap → HWord → AWord → Type 0
-  Rel m h (YInt n) w = w ≡ ZInt n
-  Rel m h (YTuple ys) w =
+  Rel m h (WInt n) w = w ≡ ZInt n
+  Rel m h (WTuple ys) w =
       (a : ℕ) × (ws : List AWord) × (w ≡ ZTuple a) × (slice_get h a ≡ Some (map Some ws)) × Apart m a × Rels m h ys ws
-  Rel m h (YLabel l) w = w ≡ ZLabel l
-  Rel m h (YCell p) w = (a : ℕ) × (w ≡ ZTuple a) × (slice_get m p ≡ Some a)
+  Rel m h (WCode l env) w = w ≡ ZLabel l
+  Rel m h (WCell p) w = (a : ℕ) × (w ≡ ZTuple a) × (slice_get m p ≡ Some a)
 
   pub Rels : List ℕ → AHeap → HWords → List AWord → Type 0
-  Rels m h NoHWords ws = ws ≡ []
-  Rels m h (MoreHWords y ys) ws = (x : AWord) × (xs : List AWord) × (ws ≡ x ∷ xs) × Rel m h y x × Rels m h ys xs
+  Rels m h NoWords ws = ws ≡ []
+  Rels m h (MoreWords y ys) ws = (x : AWord) × (xs : List AWord) × (ws ≡ x ∷ xs) × Rel m h y x × Rels m h ys xs
 
 -- the heap grows, and nothing in it changes
 abbrev pub Grows : AHeap → AHeap → Type 0
@@ -34,8 +35,8 @@ pub record Moves (m : List ℕ) (h : AHeap) (m2 : List ℕ) (h2 : AHeap) : Type 
 
 mutual
   pub rel_moves : (y : HWord) (w : AWord) (m m2 : List ℕ) (h h2 : AHeap) → Moves m h m2 h2 → Rel m h y w → Rel m2 h2 y w
-  rel_moves (YInt n) w m m2 h h2 g r = r
-  rel_moves (YTuple ys) w m m2 h h2 g r = (
+  rel_moves (WInt n) w m m2 h h2 g r = r
+  rel_moves (WTuple ys) w m m2 h h2 g r = (
     r.0,
     r.1,
     r.2,
@@ -43,13 +44,13 @@ mutual
     g.apart r.0 (map Some r.1) r.3 r.4,
     rels_move ys r.1 m m2 h h2 g r.5,
   )
-  rel_moves (YLabel l) w m m2 h h2 g r = r
-  rel_moves (YCell p) w m m2 h h2 g r = (r.0, r.1, g.cells p r.0 r.2)
+  rel_moves (WCode l env) w m m2 h h2 g r = r
+  rel_moves (WCell p) w m m2 h h2 g r = (r.0, r.1, g.cells p r.0 r.2)
 
   pub rels_move : (ys : HWords) (ws : List AWord) (m m2 : List ℕ) (h h2 : AHeap) → Moves m h m2 h2 → Rels m h ys ws →
       Rels m2 h2 ys ws
-  rels_move NoHWords ws m m2 h h2 g r = r
-  rels_move (MoreHWords y ys) ws m m2 h h2 g r =
+  rels_move NoWords ws m m2 h h2 g r = r
+  rels_move (MoreWords y ys) ws m m2 h h2 g r =
       (r.0, r.1, r.2, rel_moves y r.0 m m2 h h2 g r.3, rels_move ys r.1 m m2 h h2 g r.4)
 
 pub moves_grow : (m : List ℕ) (h h2 : AHeap) → Grows h h2 → Moves m h m h2
@@ -91,8 +92,8 @@ fresh D m h k p e = let r = k.cells p (length h) e in nth_end h r.0 r.1
 
 -- the store: cell p holds what stands for place p's value
 pub record Stores (D : List AConsts) (m : List ℕ) (h : AHeap) (st : HWords) : Type 0 where
-  pub long : length m ≡ hsize st
-  pub holds : (p : ℕ) (y : HWord) → hheld p st ≡ Some y → (a : ℕ) × (w : AWord) × (slice_get m p ≡ Some a)
+  pub long : length m ≡ size st
+  pub holds : (p : ℕ) (y : HWord) → held p st ≡ Some y → (a : ℕ) × (w : AWord) × (slice_get m p ≡ Some a)
       × (slice_get h a ≡ Some (Some w ∷ [])) × Rel m h y w
   pub kept : Holds D m h
   pub once : (p q a : ℕ) → slice_get m p ≡ Some a → slice_get m q ≡ Some a → p ≡ q

@@ -4,7 +4,8 @@ use Rattle.std.proofs.Common.{subst, arith}
 use Rattle.std.specs.Prelude.{map, option_map, slice_get, Bool, true, false, ◌&&◌, not}
 use Rattle.c_terms.specs.C.{CTy, CTys}
 use Rattle.h_terms.specs.H.{HVal, HVar, HInt, HLabel, HTuple, HApply, HPack, HVals, NoHVals, MoreHVals}
-use Rattle.h_terms.specs.Meaning.{HWord, HWords, MoreHWords, NoHWords, YTuple, hword_at, hv_value, hvs_value}
+use Rattle.calc_core.specs.Words.{WTuple, NoWords, MoreWords, at}
+use Rattle.h_terms.specs.Meaning.{HWord, HWords, hv_value, hvs_value}
 use Rattle.a_terms.specs.Meaning.{AHeap, AWord, ZInt, ZLabel, ZTuple, datum, pick, value, values, with_first}
 use Rattle.a_terms.specs.Meaning.{with_more}
 use Rattle.a_terms.specs.Tree.{AConsts, AVal, Var, Num, Lab, Data, Apply, Pack}
@@ -37,14 +38,14 @@ shows_at ds (x ∷ xs) us (suc n) c s e = shows_at ds xs s.1 n c s.4 (sym (ap (�
 
 -- the constants that variables name are their values
 abbrev pub Known : Constants → HWords → Type 0
-Known os ys = (i : ℕ) (c : HVal) → constant_at os i ≡ Some c → hword_at ys i ≡ hv_value c NoHWords
+Known os ys = (i : ℕ) (c : HVal) → constant_at os i ≡ Some c → at ys i ≡ hv_value c NoWords
 
 pub known_more : (os : Constants) (ys : HWords) (o : Option HVal) (y : HWord) → Known os ys →
-    ((c : HVal) → o ≡ Some c → y ≡ hv_value c NoHWords) → Known (o ∷ os) (MoreHWords y ys)
+    ((c : HVal) → o ≡ Some c → y ≡ hv_value c NoWords) → Known (o ∷ os) (MoreWords y ys)
 known_more os ys o y k f zero c e = f c e
 known_more os ys o y k f (suc i) c e = k i c e
 
-label_value : (v : HVal) (ys : HWords) → is_label v ≡ true → hv_value v ys ≡ hv_value v NoHWords
+label_value : (v : HVal) (ys : HWords) → is_label v ≡ true → hv_value v ys ≡ hv_value v NoWords
 label_value (HVar i) ys e = cc
 label_value (HInt n) ys e = refl
 label_value (HLabel l) ys e = refl
@@ -54,60 +55,60 @@ label_value (HPack h v s) ys e = cc
 
 module _ (os : Constants) (ys : HWords) where
   of_tuple : (vs : HVals) (c : HVal) (o : Option HVals) → constants os vs ≡ o → option_map HTuple o ≡ Some c →
-      ((cs : HVals) → constants os vs ≡ Some cs → hvs_value vs ys ≡ hvs_value cs NoHWords) →
-      hv_value (HTuple vs) ys ≡ hv_value c NoHWords
+      ((cs : HVals) → constants os vs ≡ Some cs → hvs_value vs ys ≡ hvs_value cs NoWords) →
+      hv_value (HTuple vs) ys ≡ hv_value c NoWords
   of_tuple vs c None q e f = absurd (none_some c e)
-  of_tuple vs c (Some cs) q e f = ap YTuple (f cs q) ∙ ap (λ z. hv_value z NoHWords) (some_is e)
+  of_tuple vs c (Some cs) q e f = ap WTuple (f cs q) ∙ ap (λ z. hv_value z NoWords) (some_is e)
 
   of_apply : (v : HVal) (ts : CTys) (c : HVal) (b : Bool) → is_label v && all_closed 0 (atypes ts) ≡ b →
-      pick b (Some (HApply v ts)) None ≡ Some c → hv_value v ys ≡ hv_value c NoHWords
+      pick b (Some (HApply v ts)) None ≡ Some c → hv_value v ys ≡ hv_value c NoWords
   of_apply v ts c true q e =
       label_value v ys (both_true (is_label v) (all_closed 0 (atypes ts)) q).0
-      ∙ ap (λ z. hv_value z NoHWords) (some_is e)
+      ∙ ap (λ z. hv_value z NoWords) (some_is e)
   of_apply v ts c false q e = absurd (none_some c e)
 
   of_picked : (h : CTy) (d : HVal) (s : CTy) (c : HVal) (b : Bool) → pick b (Some (HPack h d s)) None ≡ Some c →
-      hv_value d NoHWords ≡ hv_value c NoHWords
-  of_picked h d s c true e = ap (λ z. hv_value z NoHWords) (some_is e)
+      hv_value d NoWords ≡ hv_value c NoWords
+  of_picked h d s c true e = ap (λ z. hv_value z NoWords) (some_is e)
   of_picked h d s c false e = absurd (none_some c e)
 
   of_pack : (h : CTy) (v : HVal) (s : CTy) (c : HVal) (o : Option HVal) → constant os v ≡ o → packed h s o ≡ Some c →
-      ((d : HVal) → constant os v ≡ Some d → hv_value v ys ≡ hv_value d NoHWords) →
-      hv_value v ys ≡ hv_value c NoHWords
+      ((d : HVal) → constant os v ≡ Some d → hv_value v ys ≡ hv_value d NoWords) →
+      hv_value v ys ≡ hv_value c NoWords
   of_pack h v s c None q e f = absurd (none_some c e)
   of_pack h v s c (Some d) q e f =
       f d q ∙ of_picked h d s c (not (is_package d) && (closed 0 (atype h) && closed 0 (atype s))) e
 
   of_both : (v : HVal) (vs cs : HVals) (o : Option HVal) (p : Option HVals) → constant os v ≡ o →
       constants os vs ≡ p → two o p ≡ Some cs →
-      ((d : HVal) → constant os v ≡ Some d → hv_value v ys ≡ hv_value d NoHWords) →
-      ((ds : HVals) → constants os vs ≡ Some ds → hvs_value vs ys ≡ hvs_value ds NoHWords) →
-      hvs_value (MoreHVals v vs) ys ≡ hvs_value cs NoHWords
+      ((d : HVal) → constant os v ≡ Some d → hv_value v ys ≡ hv_value d NoWords) →
+      ((ds : HVals) → constants os vs ≡ Some ds → hvs_value vs ys ≡ hvs_value ds NoWords) →
+      hvs_value (MoreHVals v vs) ys ≡ hvs_value cs NoWords
   of_both v vs cs None p q r e f g = absurd (none_some cs e)
   of_both v vs cs (Some d) None q r e f g = absurd (none_some cs e)
   of_both v vs cs (Some d) (Some ds) q r e f g =
-      ap₂ MoreHWords (f d q) (g ds r) ∙ ap (λ z. hvs_value z NoHWords) (some_is e)
+      ap₂ MoreWords (f d q) (g ds r) ∙ ap (λ z. hvs_value z NoWords) (some_is e)
 
   module _ (known : Known os ys) where
     mutual
-      pub constant_is : (v c : HVal) → constant os v ≡ Some c → hv_value v ys ≡ hv_value c NoHWords
+      pub constant_is : (v c : HVal) → constant os v ≡ Some c → hv_value v ys ≡ hv_value c NoWords
       constant_is (HVar i) c e = known i c e
-      constant_is (HInt n) c e = ap (λ z. hv_value z NoHWords) (some_is e)
-      constant_is (HLabel l) c e = ap (λ z. hv_value z NoHWords) (some_is e)
+      constant_is (HInt n) c e = ap (λ z. hv_value z NoWords) (some_is e)
+      constant_is (HLabel l) c e = ap (λ z. hv_value z NoWords) (some_is e)
       constant_is (HTuple vs) c e = of_tuple vs c (constants os vs) refl e (λ cs q. constants_are vs cs q)
       constant_is (HApply v ts) c e = of_apply v ts c (is_label v && all_closed 0 (atypes ts)) refl e
       constant_is (HPack h v s) c e = of_pack h v s c (constant os v) refl e (λ d q. constant_is v d q)
 
-      pub constants_are : (vs cs : HVals) → constants os vs ≡ Some cs → hvs_value vs ys ≡ hvs_value cs NoHWords
-      constants_are NoHVals cs e = ap (λ z. hvs_value z NoHWords) (some_is e)
+      pub constants_are : (vs cs : HVals) → constants os vs ≡ Some cs → hvs_value vs ys ≡ hvs_value cs NoWords
+      constants_are NoHVals cs e = ap (λ z. hvs_value z NoWords) (some_is e)
       constants_are (MoreHVals v vs) cs e =
           of_both v vs cs (constant os v) (constants os vs) refl refl e (λ d q. constant_is v d q)
           (λ ds q. constants_are vs ds q)
 
 -- a word of what a variable stands for, where k variables of the hoisted term have the values ys
 abbrev pub Fits : List ℕ → AHeap → ℕ → HWords → Thing → AWord → Type 0
-Fits m h k ys (Is l) w = (l < k) × Rel m h (hword_at ys (k - suc l)) w
-Fits m h k ys (Made l j fs) w = (j < suc k) × (j ≡ k → Rel m h (YTuple (hvs_value (listed fs) ys)) w)
+Fits m h k ys (Is l) w = (l < k) × Rel m h (at ys (k - suc l)) w
+Fits m h k ys (Made l j fs) w = (j < suc k) × (j ≡ k → Rel m h (WTuple (hvs_value (listed fs) ys)) w)
 Fits m h k ys Gone w = Unit {0}
 
 abbrev pub Agree : List ℕ → AHeap → ℕ → HWords → List Thing → List AWord → Type 0
@@ -118,9 +119,9 @@ Agree m h k ys (x ∷ env) (w ∷ vars) = Fits m h k ys x w × Agree m h k ys en
 
 fits_move : (m m2 : List ℕ) (h h2 : AHeap) (k : ℕ) (ys : HWords) (x : Thing) (w : AWord) → Moves m h m2 h2 →
     Fits m h k ys x w → Fits m2 h2 k ys x w
-fits_move m m2 h h2 k ys (Is l) w g a = (a.0, rel_moves (hword_at ys (k - suc l)) w m m2 h h2 g a.1)
+fits_move m m2 h h2 k ys (Is l) w g a = (a.0, rel_moves (at ys (k - suc l)) w m m2 h h2 g a.1)
 fits_move m m2 h h2 k ys (Made l j fs) w g a =
-    (a.0, λ e. rel_moves (YTuple (hvs_value (listed fs) ys)) w m m2 h h2 g (a.1 e))
+    (a.0, λ e. rel_moves (WTuple (hvs_value (listed fs) ys)) w m m2 h h2 g (a.1 e))
 fits_move m m2 h h2 k ys Gone w g a = tt
 
 pub agree_moves : (m m2 : List ℕ) (h h2 : AHeap) (k : ℕ) (ys : HWords) (env : List Thing) (vars : List AWord) →
@@ -133,18 +134,18 @@ agree_moves m m2 h h2 k ys (x ∷ env) (w ∷ vars) g a =
 
 module _ (m : List ℕ) (h : AHeap) where
   fits_later : (k : ℕ) (ys : HWords) (y : HWord) (x : Thing) (w : AWord) → Fits m h k ys x w →
-      Fits m h (suc k) (MoreHWords y ys) x w
+      Fits m h (suc k) (MoreWords y ys) x w
   fits_later k ys y (Is l) w a =
       let e : suc k - suc l ≡ suc (k - suc l) = omega (arith, a.0) in
       let b : l < suc k = omega (arith, a.0) in
-      (b, subst (λ n. Rel m h (hword_at (MoreHWords y ys) n) w) (sym e) a.1)
+      (b, subst (λ n. Rel m h (at (MoreWords y ys) n) w) (sym e) a.1)
   fits_later k ys y (Made l j fs) w a =
       let b : j < suc (suc k) = omega (arith, a.0) in
       (b, λ e. absurd (omega (arith, a.0, e)))
   fits_later k ys y Gone w a = tt
 
   agree_later : (k : ℕ) (ys : HWords) (y : HWord) (env : List Thing) (vars : List AWord) → Agree m h k ys env vars →
-      Agree m h (suc k) (MoreHWords y ys) env vars
+      Agree m h (suc k) (MoreWords y ys) env vars
   agree_later k ys y [] [] a = tt
   agree_later k ys y [] (w ∷ vars) a = absurd a
   agree_later k ys y (x ∷ env) [] a = absurd a
@@ -152,11 +153,11 @@ module _ (m : List ℕ) (h : AHeap) where
 
   -- one more variable on both sides
   pub agree_more : (k : ℕ) (ys : HWords) (y : HWord) (w : AWord) (env : List Thing) (vars : List AWord) → Rel m h y w →
-      Agree m h k ys env vars → Agree m h (suc k) (MoreHWords y ys) (Is k ∷ env) (w ∷ vars)
+      Agree m h k ys env vars → Agree m h (suc k) (MoreWords y ys) (Is k ∷ env) (w ∷ vars)
   agree_more k ys y w env vars r a =
       let e : suc k - suc k ≡ 0 = omega arith in
       let b : k < suc k = omega arith in
-      ((b, subst (λ n. Rel m h (hword_at (MoreHWords y ys) n) w) (sym e) r), agree_later k ys y env vars a)
+      ((b, subst (λ n. Rel m h (at (MoreWords y ys) n) w) (sym e) r), agree_later k ys y env vars a)
 
   -- a value and its word
   abbrev pub Reads : List AWord → AVal → HWord → Type 0
@@ -164,10 +165,10 @@ module _ (m : List ℕ) (h : AHeap) where
 
   module _ (D : List AConsts) (ds : List HVal) (shown : Shows ds D ds) (holds : Holds D m h) where
     mutual
-      show_v : (w : HVal) (v : AVal) → Shows_v ds v w → Reads [] v (hv_value w NoHWords)
+      show_v : (w : HVal) (v : AVal) → Shows_v ds v w → Reads [] v (hv_value w NoWords)
       show_v w (Var i) s = absurd s
-      show_v w (Num n) s = (ZInt n, refl, subst (λ z. Rel m h (hv_value z NoHWords) (ZInt n)) (sym s) refl)
-      show_v w (Lab l) s = (ZLabel l, refl, subst (λ z. Rel m h (hv_value z NoHWords) (ZLabel l)) (sym s) refl)
+      show_v w (Num n) s = (ZInt n, refl, subst (λ z. Rel m h (hv_value z NoWords) (ZInt n)) (sym s) refl)
+      show_v w (Lab l) s = (ZLabel l, refl, subst (λ z. Rel m h (hv_value z NoWords) (ZLabel l)) (sym s) refl)
       show_v (HTuple vs) (Data n) s =
           let x = shows_at ds D ds n (HTuple vs) shown s in
           let there = holds n x.0 x.2 in
@@ -197,7 +198,7 @@ module _ (m : List ℕ) (h : AHeap) where
       show_v (HApply u ts) (Pack c v d) s = absurd (other _ _ s.3 (λ e. omega (arith, e)))
 
       show_vs : (vs : HVals) (cs : AConsts) → Shows_fields ds cs vs →
-          (ws : List AWord) × (datum cs ≡ map Some ws) × Rels m h (hvs_value vs NoHWords) ws
+          (ws : List AWord) × (datum cs ≡ map Some ws) × Rels m h (hvs_value vs NoWords) ws
       show_vs NoHVals [] s = ([], refl, refl)
       show_vs NoHVals (c ∷ cs) s = absurd (no_values s.2)
       show_vs (MoreHVals v vs) [] s = absurd (no_values (sym s))

@@ -7,7 +7,7 @@ use Rattle.std.proofs.Math.ListN.{drop_of_length-le}
 use Rattle.calc_core.specs.Ends.{lift}
 use Rattle.a_terms.specs.Arity.{AArity, ARow, a_kids}
 use Rattle.a_terms.specs.NodeTrees.{a_build, a_decl, a_let, a_onto, a_tree, a_values, is_decl, no_term, no_value}
-use Rattle.a_terms.specs.Row.{IsOne, IsSome, IsTwo, others, top}
+use Rattle.calc_core.specs.Row.{IsOne, IsSome, IsTwo, others, top}
 use Rattle.a_terms.specs.Tree as t
 use Rattle.a_terms.specs.Tree.{ADecl, AProg, ATm, ATy, AVal, ashift}
 use Rattle.a_terms.specs.Typing.{declared, more_vars, or_int}

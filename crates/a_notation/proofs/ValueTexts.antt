@@ -11,7 +11,7 @@ use Rattle.a_terms.specs.declared.nodes.AValue.{AValue}
 use Rattle.a_terms.specs.Tree.{AVal}
 use Rattle.a_terms.specs.NodeTrees.{a_consts, a_value, a_values, base, no_value, wrap, wrapped}
 use Rattle.a_terms.specs.ReadLaws.{took}
-use Rattle.a_terms.specs.Row.{others, top}
+use Rattle.calc_core.specs.Row.{others, top}
 use Rattle.a_notation.specs.Notation.{consts_text, value_text, values_text}
 use Rattle.a_notation.specs.Wraps.{after_text, before_text, closing, opening}
 

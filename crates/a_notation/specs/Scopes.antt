@@ -3,7 +3,7 @@ use Rattle.std.specs.Prelude.{◌≡◌, ◌≤◌, ℕ, ◌+◌, ◌-◌, Bool,
 use Rattle.std.specs.Prelude.{reverse}
 use Rattle.a_terms.specs.Tree.{AVal, AProg, ATm, ATy}
 use Rattle.a_terms.specs.Read.{atrees}
-use Rattle.a_terms.specs.Row.{others, top}
+use Rattle.calc_core.specs.Row.{others, top}
 use Rattle.a_terms.specs.NodeTrees.{a_decl, no_term, no_value}
 use Rattle.a_terms.specs.declared.nodes.AForm.{AForm}
 use Rattle.a_terms.specs.declared.nodes.AForm.TheVariants.{Value, Proj, Arith, Unpack, Malloc, Init, Call, If0, Halt}

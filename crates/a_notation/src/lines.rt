@@ -2,7 +2,7 @@
 ghost use Rattle.std.specs.Prelude.{◌≡◌, ◌≤◌, ◌++◌, [], length, OnOk};
 ghost use Rattle.a_terms.specs.NodeTrees.{a_values, no_value};
 ghost use Rattle.a_terms.specs.Read.{atrees};
-ghost use Rattle.a_terms.specs.Row.{others, top};
+ghost use Rattle.calc_core.specs.Row.{others, top};
 ghost use Rattle.a_terms.specs.declared.nodes.AForm.TheVariants.{Arith, Halt, If0, Init, Proj, Unpack, Value};
 ghost use Rattle.a_notation.specs.Notation.{call_text, let_text, malloc_text};
 ghost use Rattle.a_notation.specs.Scopes.{form_text, least};

@@ -2,7 +2,7 @@
 ghost use Rattle.std.specs.Prelude.{◌≡◌, ◌∷◌, ◌++◌, ◌<◌, ℕ, decimal, length, OnOk};
 ghost use Rattle.a_terms.specs.NodeTrees.{a_consts, a_value, a_values, no_value};
 ghost use Rattle.a_terms.specs.NodeTrees.{base as base_of};
-ghost use Rattle.a_terms.specs.Row.{others, top};
+ghost use Rattle.calc_core.specs.Row.{others, top};
 ghost use Rattle.a_notation.specs.Notation.{consts_text, value_text, values_text};
 ghost use Rattle.a_notation.specs.Wraps.{after_text, before_text, closing, opening};
 

@@ -4,7 +4,7 @@ use Rattle.std.proofs.lemmas.List.{append-nil}
 use Rattle.a_terms.specs.Tree as a
 use Rattle.a_terms.specs.NodeTrees.{a_build, a_values, a_onto}
 use Rattle.calc_core.specs.Ends.{lift}
-use Rattle.a_terms.specs.Row as r
+use Rattle.calc_core.specs.Row as r
 use Rattle.a_terms.specs.Arity.{ARow, AArity, a_kids}
 use Rattle.a_terms.specs.declared.nodes.AForm.TheVariants as A
 use Rattle.a_terms.specs.declared.nodes.ANode.{ANode}

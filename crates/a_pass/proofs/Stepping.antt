@@ -14,9 +14,9 @@ use Rattle.c_terms.specs.Read.{ctys}
 use Rattle.a_terms.specs.Read.{atrees}
 use Rattle.a_terms.specs.Tree.{ashift}
 use Rattle.a_terms.specs.Typing.{field_of, body_of}
-use Rattle.a_terms.specs.Row as r
+use Rattle.calc_core.specs.Row as r
 use Rattle.idx_core.specs.declared.arith.Op.{Op}
-use Rattle.h_terms.specs.Row.{top, others}
+use Rattle.calc_core.specs.Row.{top, others}
 use Rattle.h_terms.specs.Nodes.{no_term, tied, h_build, h_kids, reads}
 use Rattle.h_terms.specs.declared.node.HPart.{HPart}
 use Rattle.a_terms.specs.NodeTrees.{a_build, a_data, a_value, a_values, a_onto, a_let}

@@ -9,7 +9,7 @@ use Rattle.h_terms.specs.H.{HVal, HDecl, HTm, HLet, HIf, HBlks}
 use Rattle.a_terms.specs.Tree as a
 use Rattle.a_laws.specs.Allocate.{Known, alloc_t, data_d, data_t, data_v, known_of, n_d, n_t, n_v, pre_d, pre_v, dcl}
 use Rattle.a_laws.specs.Allocate.{d_const, d_types, d_next, val, v_next}
-use Rattle.h_terms.specs.Row.{top, others}
+use Rattle.calc_core.specs.Row.{top, others}
 use Rattle.h_terms.specs.Nodes.{no_term}
 use Rattle.a_terms.specs.NodeTrees.{a_build, a_value, a_values, a_onto, a_let}
 use Rattle.a_terms.specs.Arity.{a_kids, AArity, ARow}

@@ -11,7 +11,7 @@ use Rattle.a_terms.specs.Tree as a
 use Rattle.a_laws.specs.Allocate.{Known, alloc_t, arg_levels, arg_depth, atype, atypes, data_t, plain}
 use Rattle.calc_core.specs.declared.types.CoreType.{CoreType as CType}
 use Rattle.c_terms.specs.Read.{ctree, ctys}
-use Rattle.h_terms.specs.Row.{top}
+use Rattle.calc_core.specs.Row.{top}
 use Rattle.h_terms.specs.Nodes.{HRow, HArity, h_terms, h_tree, h_build, h_kids, values}
 use Rattle.a_terms.specs.NodeTrees.{a_data, a_onto, a_tree, a_value}
 use Rattle.a_terms.specs.Arity.{ARow}

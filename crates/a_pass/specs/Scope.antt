@@ -2,7 +2,7 @@
 use Rattle.std.specs.Prelude.{◌≡◌, ℕ, suc, ◌-◌, ◌≤◌, List, [], ◌∷◌, slice_get, take, option_map}
 use Rattle.std.specs.Prelude.{Option, Some, None, Bool, true, false, not, ◌&&◌, ◌++◌}
 use Rattle.h_terms.specs.H.{HTm, HBlks, HVal}
-use Rattle.h_terms.specs.Row.{top, others}
+use Rattle.calc_core.specs.Row.{top, others}
 use Rattle.h_terms.specs.Nodes.{h_block, no_term}
 use Rattle.c_terms.specs.Read.{ctree}
 use Rattle.a_terms.specs.Tree as a

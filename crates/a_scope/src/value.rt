@@ -5,7 +5,7 @@ ghost use Rattle.a_terms.specs.Typing.{type_of, code_type, data_fields, data_typ
 ghost use Rattle.a_terms.specs.Read.{atree, maybe};
 ghost use Rattle.a_terms.specs.NodeTrees.{base as base_tree, a_value, a_values, a_blocks, a_consts, a_data, no_value};
 ghost use Rattle.a_terms.specs.Program.{program_in};
-ghost use Rattle.a_terms.specs.Row.{top, others};
+ghost use Rattle.calc_core.specs.Row.{top, others};
 ghost use Rattle.a_scope.specs.Scope.{scope, wrap_type};
 
 use crate::scope::{Entry, show};

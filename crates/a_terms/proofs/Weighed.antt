@@ -10,7 +10,7 @@ use Rattle.a_terms.specs.Weights.{form_size, node_size, nodes_size, wrap_weight,
 use Rattle.a_terms.specs.Weights.{blocks_size, fields_size, data_size}
 use Rattle.a_terms.specs.Read.{atree, atrees, afields}
 use Rattle.a_terms.specs.ReadLaws.{took, is_code}
-use Rattle.a_terms.specs.Row.{top, others}
+use Rattle.calc_core.specs.Row.{top, others}
 use Rattle.a_terms.specs.NodeTrees.{a_build, a_consts, a_data, a_value, a_values, a_onto, a_tree, a_blocks, a_prog}
 use Rattle.a_terms.specs.NodeTrees.{no_term, no_value, base, wrap, wrapped}
 use Rattle.a_terms.specs.declared.types.AType.{AType}

@@ -3,7 +3,7 @@ use Rattle.std.specs.Prelude.{◌≡◌, ℕ, zero, suc, List, [], ◌∷◌}
 use Rattle.std.proofs.Props.{props}
 use Rattle.calc_core.specs.Ends.{lift}
 use Rattle.a_terms.specs.Tree as a
-use Rattle.a_terms.specs.Row.{IsOne, IsTwo, IsSome, IsNone}
+use Rattle.calc_core.specs.Row.{IsOne, IsTwo, IsSome, IsNone, one_prop, two_prop, some_prop, none_prop}
 use Rattle.a_terms.specs.NodeTrees.{a_values}
 use Rattle.a_terms.specs.declared.nodes.AForm.{AForm}
 use Rattle.a_terms.specs.declared.nodes.AForm.TheVariants.{Value, Proj, Arith, Unpack, Malloc, Init, Call, If0, Halt}
@@ -46,23 +46,6 @@ ARows [] = Unit {0}
 ARows (k ∷ ks) = ARow k.body.items 1 × ARows ks
 
 -- there is one proof of it at most
-one_prop : {T : Type 0} (vs : List T) → IsProp (IsOne vs)
-one_prop [] = hlevel
-one_prop (v ∷ []) = hlevel
-one_prop (v ∷ w ∷ vs) = hlevel
-
-two_prop : {T : Type 0} (vs : List T) → IsProp (IsTwo vs)
-two_prop [] = hlevel
-two_prop (v ∷ vs) = one_prop vs
-
-some_prop : {T : Type 0} (vs : List T) → IsProp (IsSome vs)
-some_prop [] = hlevel
-some_prop (v ∷ vs) = hlevel
-
-none_prop : {T : Type 0} (vs : List T) → IsProp (IsNone vs)
-none_prop [] = hlevel
-none_prop (v ∷ vs) = hlevel
-
 a_arity_prop : (f : AForm) (vs : List a.AVal) → IsProp (AArity f vs)
 a_arity_prop Value vs = one_prop vs
 a_arity_prop (Proj i) vs = one_prop vs

@@ -7,7 +7,6 @@ pub mod NodeTrees
 pub mod Program
 pub mod Read
 pub mod ReadLaws
-pub mod Row
 pub mod SizeLaws
 pub mod Sizes
 pub mod Tree

@@ -13,7 +13,7 @@ use Rattle.a_terms.specs.declared.nodes.ANode.{ANode}
 use Rattle.a_terms.specs.declared.nodes.ABlock.{ABlock}
 use Rattle.a_terms.specs.declared.nodes.AData.{AData}
 use Rattle.a_terms.specs.declared.types.AType.{AType}
-use Rattle.a_terms.specs.Row.{top, others}
+use Rattle.calc_core.specs.Row.{top, others}
 
 abbrev pub base : ABase → a.AVal
 base (Var i) = a.Var i

@@ -1,15 +1,15 @@
 -- Environments and places.
-use Rattle.std.proofs.Common.{pos, ◌≡◌, ℕ, zero, suc, ◌+◌, Bool, true, false, ◌||◌, [], ◌∷◌, Option, Some, None, refl}
-use Rattle.std.proofs.Common.{sym, ap, ◌∙◌, subst, arith}
+use Rattle.std.proofs.Common.{pos, ◌≡◌, ℕ, zero, suc, Bool, true, false, ◌||◌, [], ◌∷◌, Option, Some, None, refl}
+use Rattle.std.proofs.Common.{sym, ap, ◌∙◌, subst}
 use Rattle.c_rules.specs.Places.{Places, further, place, from_on, kept_places, kept_count, keep_one}
 use Rattle.calc_core.specs.Ends.{after_one, lift}
-use Rattle.k_terms.specs.Meaning.{KWord, KWords, NoWords, MoreWords, at, size, onto}
-use Rattle.c_terms.specs.Meaning.{CWord, XInt, CWords, NoCWords, MoreCWords, cword_at, csize, conto, cfield, cv_value}
-use Rattle.c_terms.specs.Meaning.{cvs_value}
+use Rattle.calc_core.specs.Words.{WInt, NoWords, MoreWords, at, size, onto}
+use Rattle.k_terms.specs.Meaning.{KWord, KWords}
+use Rattle.c_terms.specs.Meaning.{CWord, CWords, cv_value, cvs_value}
 use Rattle.c_terms.specs.C.{CVals}
 use Rattle.c_rules.specs.Close.{var_value, pick_one, picked}
 use Rattle.c_laws.proofs.Rel.{Spans, KeptHead, Rel, Rels, RelKept, at_place, Agree}
-use Rattle.calc_core.proofs.Lifts.{lift_suc}
+use Rattle.calc_core.proofs.WordLists.{join, without_first, without_one_more}
 
 pub or_left : (a b : Bool) → a ≡ true → a || b ≡ true
 or_left true b e = refl
@@ -28,7 +28,7 @@ agree_at live (p ∷ ps) (MoreWords v env) cenv zero h e = h.0 e
 agree_at live (p ∷ ps) (MoreWords v env) cenv (suc i) h e = agree_at (λ j. live (suc j)) ps env cenv i h.1 e
 
 pub agree_further : (live : ℕ → Bool) (ps : Places) (env : KWords) (c : CWord) (cenv : CWords) →
-    Agree live ps env cenv → Agree live (further ps) env (MoreCWords c cenv)
+    Agree live ps env cenv → Agree live (further ps) env (MoreWords c cenv)
 agree_further live [] NoWords c cenv h = tt
 agree_further live [] (MoreWords v env) c cenv h = absurd h
 agree_further live (p ∷ ps) NoWords c cenv h = absurd h
@@ -56,17 +56,17 @@ var_value_at b (Some j) cenv = refl
 -- the kept values, and the tuple of the kept variables
 abbrev pub Picks : (ℕ → Bool) → Places → KWords → CWords → Type 0
 Picks keep ps env cenv = (xs : CWords) × RelKept env keep xs
-    × ((b : ℕ) (acc : CVals) → cvs_value b (picked keep ps acc) cenv ≡ conto xs (cvs_value b acc cenv))
+    × ((b : ℕ) (acc : CVals) → cvs_value b (picked keep ps acc) cenv ≡ onto xs (cvs_value b acc cenv))
 
 pick_step : (k : Bool) (p : Option ℕ) (v : KWord) (keep : ℕ → Bool) (ps : Places) (env : KWords) (cenv : CWords) →
     (k ≡ true → Rel v (at_place p cenv)) → Picks keep ps env cenv →
     (xs : CWords) × KeptHead k (λ y. Rel v y) (λ ys. RelKept env keep ys) xs
-    × ((b : ℕ) (acc : CVals) → cvs_value b (picked keep ps (pick_one k p acc)) cenv ≡ conto xs (cvs_value b acc cenv))
+    × ((b : ℕ) (acc : CVals) → cvs_value b (picked keep ps (pick_one k p acc)) cenv ≡ onto xs (cvs_value b acc cenv))
 pick_step true None v keep ps env cenv h r =
-    (MoreCWords (XInt (pos 0)) r.0, (XInt (pos 0), r.0, refl, h refl, r.1), λ b acc. r.2 b (pick_one true None acc))
+    (MoreWords (WInt (pos 0)) r.0, (WInt (pos 0), r.0, refl, h refl, r.1), λ b acc. r.2 b (pick_one true None acc))
 pick_step true (Some j) v keep ps env cenv h r = (
-  MoreCWords (cword_at cenv j) r.0,
-  (cword_at cenv j, r.0, refl, h refl, r.1),
+  MoreWords (at cenv j) r.0,
+  (at cenv j, r.0, refl, h refl, r.1),
   λ b acc.
       r.2 b (pick_one true (Some j) acc),
 )
@@ -74,85 +74,31 @@ pick_step false p v keep ps env cenv h r = (r.0, r.1, r.2)
 
 pub picks : (keep : ℕ → Bool) (ps : Places) (env : KWords) (cenv : CWords) → Agree keep ps env cenv →
     Picks keep ps env cenv
-picks keep [] NoWords cenv h = (NoCWords, refl, λ b acc. refl)
+picks keep [] NoWords cenv h = (NoWords, refl, λ b acc. refl)
 picks keep [] (MoreWords v env) cenv h = absurd h
 picks keep (p ∷ ps) NoWords cenv h = absurd h
 picks keep (p ∷ ps) (MoreWords v env) cenv h =
     pick_step (keep 0) p v (λ i. keep (suc i)) ps env cenv h.0 (picks (λ i. keep (suc i)) ps env cenv h.1)
 
-abbrev pub join : KWords → KWords → KWords
-join NoWords vs = vs
-join (MoreWords v us) vs = MoreWords v (join us vs)
+pub rels_size : (vs : KWords) (ws : CWords) → Rels vs ws → size ws ≡ size vs
+rels_size NoWords ws r = ap size r
+rels_size (MoreWords v vs) ws r = ap size r.2 ∙ ap suc (rels_size vs r.1 r.4)
 
-abbrev pub cjoin : CWords → CWords → CWords
-cjoin NoCWords vs = vs
-cjoin (MoreCWords v us) vs = MoreCWords v (cjoin us vs)
-
-abbrev pub cdrop : ℕ → CWords → CWords
-cdrop zero vs = vs
-cdrop (suc n) NoCWords = NoCWords
-cdrop (suc n) (MoreCWords v vs) = cdrop n vs
-
-pub onto_join : (us vs ws : KWords) → onto us (join vs ws) ≡ join (onto us vs) ws
-onto_join NoWords vs ws = refl
-onto_join (MoreWords u us) vs ws = onto_join us (MoreWords u vs) ws
-
-pub conto_join : (us vs ws : CWords) → conto us (cjoin vs ws) ≡ cjoin (conto us vs) ws
-conto_join NoCWords vs ws = refl
-conto_join (MoreCWords u us) vs ws = conto_join us (MoreCWords u vs) ws
-
-pub conto_conto : (xs acc base : CWords) → conto (conto xs acc) base ≡ conto acc (cjoin xs base)
-conto_conto NoCWords acc base = refl
-conto_conto (MoreCWords x xs) acc base = conto_conto xs (MoreCWords x acc) base
-
-pub csize_conto : (xs acc : CWords) → csize (conto xs acc) ≡ csize xs + csize acc
-csize_conto NoCWords acc = omega arith
-csize_conto (MoreCWords x xs) acc = omega (arith, csize_conto xs (MoreCWords x acc))
-
-pub size_onto : (xs acc : KWords) → size (onto xs acc) ≡ size xs + size acc
-size_onto NoWords acc = omega arith
-size_onto (MoreWords x xs) acc = omega (arith, size_onto xs (MoreWords x acc))
-
-pub cat_conto : (ws base : CWords) (i : ℕ) → cword_at (conto ws base) (lift (csize ws) i) ≡ cword_at base i
-cat_conto NoCWords base i = refl
-cat_conto (MoreCWords w ws) base i =
-    ap (cword_at (conto ws (MoreCWords w base))) (sym (lift_suc (csize ws) i)) ∙ cat_conto ws (MoreCWords w base)
-    (suc i)
-
-pub cat_cjoin : (xs base : CWords) (i : ℕ) → cword_at (cjoin xs base) (lift (csize xs) i) ≡ cword_at base i
-cat_cjoin NoCWords base i = refl
-cat_cjoin (MoreCWords x xs) base i = cat_cjoin xs base i
-
-pub drop_step : (j : ℕ) (fs : CWords) (x : CWord) (rest : CWords) → cdrop j fs ≡ MoreCWords x rest →
-    (cfield (suc j) fs ≡ Some x) × (cword_at fs j ≡ x) × (cdrop (suc j) fs ≡ rest)
-drop_step zero NoCWords x rest e = absurd cc
-drop_step zero (MoreCWords f fs) x rest e = (cc, cc, cc)
-drop_step (suc j) NoCWords x rest e = absurd cc
-drop_step (suc j) (MoreCWords f fs) x rest e = drop_step j fs x rest e
-
-pub drop_cjoin : (xs base : CWords) → cdrop (csize xs) (cjoin xs base) ≡ base
-drop_cjoin NoCWords base = refl
-drop_cjoin (MoreCWords x xs) base = drop_cjoin xs base
-
-pub rels_size : (vs : KWords) (ws : CWords) → Rels vs ws → csize ws ≡ size vs
-rels_size NoWords ws r = ap csize r
-rels_size (MoreWords v vs) ws r = ap csize r.2 ∙ ap suc (rels_size vs r.1 r.4)
-
-pub rels_onto : (us vs : KWords) (xs ys : CWords) → Rels us xs → Rels vs ys → Rels (onto us vs) (conto xs ys)
-rels_onto NoWords vs xs ys r q = subst (λ z. Rels vs (conto z ys)) (sym r) q
+pub rels_onto : (us vs : KWords) (xs ys : CWords) → Rels us xs → Rels vs ys → Rels (onto us vs) (onto xs ys)
+rels_onto NoWords vs xs ys r q = subst (λ z. Rels vs (onto z ys)) (sym r) q
 rels_onto (MoreWords u us) vs xs ys r q =
-    subst (λ z. Rels (onto us (MoreWords u vs)) (conto z ys)) (sym r.2)
-    (rels_onto us (MoreWords u vs) r.1 (MoreCWords r.0 ys) r.4 (r.0, ys, refl, r.3, q))
+    subst (λ z. Rels (onto us (MoreWords u vs)) (onto z ys)) (sym r.2)
+    (rels_onto us (MoreWords u vs) r.1 (MoreWords r.0 ys) r.4 (r.0, ys, refl, r.3, q))
 
 kept_step : (k : Bool) (v : KWord) (env : KWords) (keep : ℕ → Bool) (ps : Places) (xs : CWords) →
-    ((ys : CWords) → RelKept env keep ys → kept_count keep ps ≡ csize ys) →
-    KeptHead k (λ y. Rel v y) (λ ys. RelKept env keep ys) xs → after_one k (kept_count keep ps) ≡ csize xs
-kept_step true v env keep ps xs f r = ap suc (f r.1 r.4) ∙ sym (ap csize r.2)
+    ((ys : CWords) → RelKept env keep ys → kept_count keep ps ≡ size ys) →
+    KeptHead k (λ y. Rel v y) (λ ys. RelKept env keep ys) xs → after_one k (kept_count keep ps) ≡ size xs
+kept_step true v env keep ps xs f r = ap suc (f r.1 r.4) ∙ sym (ap size r.2)
 kept_step false v env keep ps xs f r = f xs r
 
 pub kept_size : (keep : ℕ → Bool) (ps : Places) (env : KWords) (xs : CWords) → Spans ps env → RelKept env keep xs →
-    kept_count keep ps ≡ csize xs
-kept_size keep [] NoWords xs h r = sym (ap csize r)
+    kept_count keep ps ≡ size xs
+kept_size keep [] NoWords xs h r = sym (ap size r)
 kept_size keep [] (MoreWords v env) xs h r = absurd h
 kept_size keep (p ∷ ps) NoWords xs h r = absurd h
 kept_size keep (p ∷ ps) (MoreWords v env) xs h r =
@@ -160,17 +106,17 @@ kept_size keep (p ∷ ps) (MoreWords v env) xs h r =
 
 -- the places of the kept variables
 place_step : (k : Bool) (v : KWord) (env : KWords) (keep : ℕ → Bool) (ps : Places) (xs rest cenv : CWords) (o : ℕ) →
-    ((ys : CWords) (j : ℕ) → RelKept env keep ys → cdrop j cenv ≡ cjoin ys rest →
+    ((ys : CWords) (j : ℕ) → RelKept env keep ys → without_first j cenv ≡ join ys rest →
     Agree keep (kept_places j keep ps) env cenv) → KeptHead k (λ y. Rel v y) (λ ys. RelKept env keep ys) xs →
-    cdrop o cenv ≡ cjoin xs rest → (k ≡ true → Rel v (at_place (keep_one k o) cenv))
+    without_first o cenv ≡ join xs rest → (k ≡ true → Rel v (at_place (keep_one k o) cenv))
     × Agree keep (kept_places (after_one k o) keep ps) env cenv
 place_step true v env keep ps xs rest cenv o f r e =
-    let d = drop_step o cenv r.0 (cjoin r.1 rest) (e ∙ ap (λ z. cjoin z rest) r.2) in
+    let d = without_one_more o cenv r.0 (join r.1 rest) (e ∙ ap (λ z. join z rest) r.2) in
     (λ _. subst (Rel v) (sym d.1) r.3, f r.1 (suc o) r.4 d.2)
 place_step false v env keep ps xs rest cenv o f r e = (λ q. absurd cc, f xs o r e)
 
 pub kept_agree : (keep : ℕ → Bool) (ps : Places) (env : KWords) (xs rest cenv : CWords) (o : ℕ) → Spans ps env →
-    RelKept env keep xs → cdrop o cenv ≡ cjoin xs rest → Agree keep (kept_places o keep ps) env cenv
+    RelKept env keep xs → without_first o cenv ≡ join xs rest → Agree keep (kept_places o keep ps) env cenv
 kept_agree keep [] NoWords xs rest cenv o h r e = tt
 kept_agree keep [] (MoreWords v env) xs rest cenv o h r e = absurd h
 kept_agree keep (p ∷ ps) NoWords xs rest cenv o h r e = absurd h
@@ -180,19 +126,19 @@ kept_agree keep (p ∷ ps) (MoreWords v env) xs rest cenv o h r e =
 
 -- the places of the arguments
 pub args_agree : (live : ℕ → Bool) (vs env : KWords) (ws base cenv : CWords) (o : ℕ) (ps : Places) → Rels vs ws →
-    cdrop o cenv ≡ cjoin ws base → Agree (λ i. live (lift (size vs) i)) ps env cenv →
+    without_first o cenv ≡ join ws base → Agree (λ i. live (lift (size vs) i)) ps env cenv →
     Agree live (from_on o (size vs) ps) (join vs env) cenv
 args_agree live NoWords env ws base cenv o ps r e h = h
 args_agree live (MoreWords v vs) env ws base cenv o ps r e h =
-    let d = drop_step o cenv r.0 (cjoin r.1 base) (e ∙ ap (λ z. cjoin z base) r.2) in
+    let d = without_one_more o cenv r.0 (join r.1 base) (e ∙ ap (λ z. join z base) r.2) in
     (λ _. subst (Rel v) (sym d.1) r.3, args_agree (λ i. live (suc i)) vs env r.1 base cenv (suc o) ps r.4 d.2 h)
 
 -- one more value, where it is kept
 abbrev pub cadd : Bool → CWord → CWords → CWords
-cadd true x xs = MoreCWords x xs
+cadd true x xs = MoreWords x xs
 cadd false x xs = xs
 
-pub cadd_size : (k : Bool) (x : CWord) (xs : CWords) (n : ℕ) → n ≡ csize xs → after_one k n ≡ csize (cadd k x xs)
+pub cadd_size : (k : Bool) (x : CWord) (xs : CWords) (n : ℕ) → n ≡ size xs → after_one k n ≡ size (cadd k x xs)
 cadd_size true x xs n e = ap suc e
 cadd_size false x xs n e = e
 

@@ -48,11 +48,10 @@ CEnter = ℕ → CTm → CWords → CWords → Result
 
 -- a code sees its arguments and itself, and nothing else
 abbrev pub copen : CEnter → CWord → CWords → CWords → Result
-copen enter (WInt n) vs st = stops Stuck
-copen enter (WTuple ws) vs st = stops Stuck
 copen enter (WCode (CCodeAt b args body) env) vs st =
-    if_fits (nat_eq (size vs) (ccount args)) (enter b body (onto vs (MoreWords (WCode (CCodeAt b args body) NoWords) NoWords)) st)
-copen enter (WCell p) vs st = stops Stuck
+    if_fits (nat_eq (size vs) (ccount args))
+    (enter b body (onto vs (MoreWords (WCode (CCodeAt b args body) NoWords) NoWords)) st)
+copen enter _ vs st = stops Stuck
 
 -- what a term does from the values in scope and a store
 abbrev pub cterm : CEnter → ℕ → CTm → CWords → CWords → Result

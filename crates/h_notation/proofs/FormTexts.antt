@@ -3,7 +3,7 @@ use Rattle.std.proofs.Common.{◌≡◌, ◌≤◌, ◌<◌, ℕ, suc, List, [],
 use Rattle.std.proofs.Common.{Vec, Global, ◌∙◌, ap, append_assoc, codes, arith}
 use Rattle.h_terms.specs.H.{HVal}
 use Rattle.h_terms.specs.Nodes.{tied}
-use Rattle.h_terms.specs.Row.{others, top}
+use Rattle.calc_core.specs.Row.{others, top}
 use Rattle.h_terms.specs.declared.node.HForm.{HForm}
 use Rattle.h_terms.specs.declared.node.HForm.TheVariants as H
 use Rattle.page_core.specs.Names.{margin, separator}

@@ -10,7 +10,7 @@ use Rattle.c_terms.specs.Typing.{crens_scope}
 use Rattle.h_terms.specs.H.{HArith, HBlks, HCall, HCell, HDecl, HGet, HHalt, HIf, HLet, HName, HProj, HSet, HTm}
 use Rattle.h_terms.specs.H.{HUnpack, HVal}
 use Rattle.h_terms.specs.Nodes.{h_build, h_kids, h_terms, h_tree, no_term, no_value, values, HArity, HRow}
-use Rattle.h_terms.specs.Row.{IsOne, IsSome, IsTwo, others, top}
+use Rattle.calc_core.specs.Row.{IsOne, IsSome, IsTwo, others, top}
 use Rattle.h_terms.specs.declared.node.HForm.{HForm}
 use Rattle.h_terms.specs.declared.node.HForm.TheVariants as H
 use Rattle.h_terms.specs.declared.node.HNode.{HNode}

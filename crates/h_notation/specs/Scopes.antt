@@ -5,7 +5,7 @@ use Rattle.c_terms.specs.C.{CTy}
 use Rattle.c_terms.specs.Read.{ctys}
 use Rattle.h_terms.specs.H.{HBlks, HDecl, HLet, HTm, HVal}
 use Rattle.h_terms.specs.Nodes.{no_term, no_value, tied}
-use Rattle.h_terms.specs.Row.{others, top}
+use Rattle.calc_core.specs.Row.{others, top}
 use Rattle.h_terms.specs.declared.node.HForm.{HForm}
 use Rattle.h_terms.specs.declared.node.HForm.TheVariants as H
 use Rattle.let_types.specs.Hoisted.{decl_of}

@@ -7,7 +7,7 @@ use Rattle.c_terms.specs.C.{CTys}
 use Rattle.c_terms.specs.Read.{ctys}
 use Rattle.c_notation.specs.Types.{types_text}
 use Rattle.h_terms.specs.H.{HVal}
-use Rattle.h_terms.specs.Row.{others, top}
+use Rattle.calc_core.specs.Row.{others, top}
 use Rattle.h_terms.specs.declared.node.HForm.{HForm}
 use Rattle.h_terms.specs.declared.node.HForm.TheVariants as H
 use Rattle.page_core.specs.Names.{op_sign, separator, type_name, value_name}

@@ -1,6 +1,6 @@
 // What a node says on its line, by the texts of its values.
 ghost use Rattle.std.specs.Prelude.{◌≡◌, ◌≤◌, ◌<◌, [], ◌++◌, codes, length, OnOk};
-ghost use Rattle.h_terms.specs.Row.{others, top};
+ghost use Rattle.calc_core.specs.Row.{others, top};
 ghost use Rattle.h_terms.specs.declared.node.HForm.TheVariants.{Arith, Proj, Set, Unpack};
 ghost use Rattle.h_notation.specs.Notation.{let_text};
 ghost use Rattle.h_notation.specs.Values.{call_line, form_line, joined_text, texts_of};

@@ -14,7 +14,7 @@ use Rattle.c_terms.specs.Stream.{clin_t}
 use Rattle.h_terms.specs.Bound.{HBound}
 use Rattle.h_terms.specs.H.{HBlks, HTm}
 use Rattle.h_terms.specs.Nodes.{h_blocks, h_tree, no_term}
-use Rattle.h_terms.specs.Row.{top}
+use Rattle.calc_core.specs.Row.{top}
 use Rattle.h_pass.proofs.Stepping.{Whole, at_end}
 use Rattle.h_pass.specs.Hoist.{blocks_of, main_of}
 use Rattle.h_pass.specs.Stream.{Found, IsFine, hoisted, whole}

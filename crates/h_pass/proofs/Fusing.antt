@@ -17,7 +17,7 @@ use Rattle.c_terms.specs.Stream.{MPack, MProj, MSet, MTuple, MUnpack, MVar, clin
 use Rattle.h_terms.specs.H.{HApply, HArith, HBlks, HCall, HCell, HDecl, HGet, HIf, HLabel, HLet, HName, HPack, HProj}
 use Rattle.h_terms.specs.H.{HSet, HTm, HTuple, HUnpack, HVal, HVals, HVar, MoreHVals, NoHVals}
 use Rattle.h_terms.specs.Nodes.{no_term, tied, tupled}
-use Rattle.h_terms.specs.Row.{others, top}
+use Rattle.calc_core.specs.Row.{others, top}
 use Rattle.h_pass.proofs.Spots.{deep, deep_suc, first_or, near, self}
 use Rattle.h_pass.specs.Hoist.{Code, Nobody, Own, blocks_d, blocks_t, blocks_v, blocks_vs, hoist_d, hoist_t, hoist_v}
 use Rattle.h_pass.specs.Hoist.{hoist_vs, spot, spot_value}

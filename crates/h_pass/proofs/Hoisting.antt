@@ -7,15 +7,13 @@ use Rattle.calc_core.specs.Ends.{enters, if_fits, lift}
 use Rattle.c_terms.specs.C.{CApply, CArith, CCall, CCell, CCode, CDecl, CGet, CHalt, CIf, CInt, CLet, CName, CPack}
 use Rattle.c_terms.specs.C.{CProj, CSet, CTm, CTuple, CTys, CUnpack, CVal, CVals, CVar, MoreCVals, NoCVals, ccount}
 use Rattle.c_terms.specs.C.{cd_next, ct_next, cv_next, cvs_next}
-use Rattle.c_terms.specs.Meaning.{CEnter, CWord, CWords, MoreCWords, NoCWords, XCell, XCode}
-use Rattle.c_terms.specs.Meaning.{XInt, XTuple, cword_at, cd_value, center}
-use Rattle.c_terms.specs.Meaning.{conto, copen, crun, csize, cterm}
-use Rattle.c_terms.specs.Meaning.{cv_value, cvs_value}
+use Rattle.calc_core.specs.Words.{WInt, WTuple, WCode, WCell, NoWords, MoreWords, at, size, onto}
+use Rattle.c_terms.specs.Meaning.{CNumbered, CCodeAt, CWord, CWords, cv_value, cvs_value, cd_value, CEnter, copen}
+use Rattle.c_terms.specs.Meaning.{cterm, center}
+use Rattle.c_terms.specs.Meaning.{crun}
 use Rattle.h_terms.specs.H.{HBlk, HBlks, block_at}
-use Rattle.h_terms.specs.Meaning.{HEnter, HWord, HWords, MoreHWords, NoHWords, YCell, YInt}
-use Rattle.h_terms.specs.Meaning.{YLabel, hd_value, henter}
-use Rattle.h_terms.specs.Meaning.{honto, hopen, hrun, hsize, hterm}
-use Rattle.h_terms.specs.Meaning.{hv_value, hvs_value, with_block}
+use Rattle.h_terms.specs.Meaning.{HWord, HWords, hv_value, hvs_value, hd_value, HEnter, with_block, hopen, hterm}
+use Rattle.h_terms.specs.Meaning.{henter, hrun}
 use Rattle.h_pass.proofs.Words.{MadeStands, StandAll, Stands, all_size, compute_stands, get_stands, given_stands}
 use Rattle.h_pass.proofs.Words.{halt_stands, more_stands, project_stands, set_stands, value_stands, zero_stands}
 use Rattle.h_pass.specs.Hoist.{Code, Lost, Near, Nobody, Own, Self, Spot, block_of, blocks_d, blocks_of, blocks_t}
@@ -170,42 +168,42 @@ mutual
   holds_t (CHalt v) ks b h = holds_v v ks b h
 
 -- the block of a code
-abbrev IsBlock : HBlks → ℕ → CTys → CTm → ℕ → Type 0
-IsBlock ks b args body l =
+abbrev IsBlock : HBlks → CNumbered → ℕ → Type 0
+IsBlock ks (CCodeAt b args body) l =
     (l ≡ b) × (owes : ℕ) × (block_at ks b ≡ Some (block_of b owes args body)) × HoldsT ks (suc b) body
 
 -- an environment under d variables
 abbrev EnvOwn : HBlks → Own → CWords → Type 0
-EnvOwn ks Nobody NoCWords = Unit {0}
-EnvOwn ks Nobody (MoreCWords w ws) = ⊥
-EnvOwn ks (Code l) NoCWords = ⊥
-EnvOwn ks (Code l) (MoreCWords w ws) = Stands (IsBlock ks) w (YLabel l) × (ws ≡ NoCWords)
+EnvOwn ks Nobody NoWords = Unit {0}
+EnvOwn ks Nobody (MoreWords w ws) = ⊥
+EnvOwn ks (Code l) NoWords = ⊥
+EnvOwn ks (Code l) (MoreWords w ws) = Stands (IsBlock ks) w (WCode l NoWords) × (ws ≡ NoWords)
 
 abbrev EnvOk : HBlks → Own → ℕ → CWords → HWords → Type 0
 EnvOk ks own zero ws ys = EnvOwn ks own ws
-EnvOk ks own (suc d) NoCWords ys = ⊥
-EnvOk ks own (suc d) (MoreCWords w ws) NoHWords = ⊥
-EnvOk ks own (suc d) (MoreCWords w ws) (MoreHWords y ys) = Stands (IsBlock ks) w y × EnvOk ks own d ws ys
+EnvOk ks own (suc d) NoWords ys = ⊥
+EnvOk ks own (suc d) (MoreWords w ws) NoWords = ⊥
+EnvOk ks own (suc d) (MoreWords w ws) (MoreWords y ys) = Stands (IsBlock ks) w y × EnvOk ks own d ws ys
 
-deeper_value : (s : Spot) (y : HWord) (ys : HWords) → hv_value (spot_value (deeper s)) (MoreHWords y ys)
+deeper_value : (s : Spot) (y : HWord) (ys : HWords) → hv_value (spot_value (deeper s)) (MoreWords y ys)
     ≡ hv_value (spot_value s) ys
 deeper_value (Near i) y ys = refl
 deeper_value (Self l) y ys = refl
 deeper_value Lost y ys = refl
 
 var_stands : (ks : HBlks) (own : Own) (d i : ℕ) (ws : CWords) (ys : HWords) → EnvOk ks own d ws ys →
-    Stands (IsBlock ks) (cword_at ws i) (hv_value (spot_value (spot own d i)) ys)
-var_stands ks Nobody zero i NoCWords ys h = refl
-var_stands ks Nobody zero i (MoreCWords w ws) ys h = absurd h
-var_stands ks (Code l) zero i NoCWords ys h = absurd h
-var_stands ks (Code l) zero zero (MoreCWords w ws) ys h = h.0
-var_stands ks (Code l) zero (suc i) (MoreCWords w ws) ys h =
-    subst (λ z. Stands (IsBlock ks) (cword_at z i) (YInt (pos 0))) (sym h.1) refl
-var_stands ks own (suc d) i NoCWords ys h = absurd h
-var_stands ks own (suc d) i (MoreCWords w ws) NoHWords h = absurd h
-var_stands ks own (suc d) zero (MoreCWords w ws) (MoreHWords y ys) h = h.0
-var_stands ks own (suc d) (suc i) (MoreCWords w ws) (MoreHWords y ys) h =
-    subst (Stands (IsBlock ks) (cword_at ws i)) (sym (deeper_value (spot own d i) y ys))
+    Stands (IsBlock ks) (at ws i) (hv_value (spot_value (spot own d i)) ys)
+var_stands ks Nobody zero i NoWords ys h = refl
+var_stands ks Nobody zero i (MoreWords w ws) ys h = absurd h
+var_stands ks (Code l) zero i NoWords ys h = absurd h
+var_stands ks (Code l) zero zero (MoreWords w ws) ys h = h.0
+var_stands ks (Code l) zero (suc i) (MoreWords w ws) ys h =
+    subst (λ z. Stands (IsBlock ks) (at z i) (WInt (pos 0))) (sym h.1) refl
+var_stands ks own (suc d) i NoWords ys h = absurd h
+var_stands ks own (suc d) i (MoreWords w ws) NoWords h = absurd h
+var_stands ks own (suc d) zero (MoreWords w ws) (MoreWords y ys) h = h.0
+var_stands ks own (suc d) (suc i) (MoreWords w ws) (MoreWords y ys) h =
+    subst (Stands (IsBlock ks) (at ws i)) (sym (deeper_value (spot own d i) y ys))
     (var_stands ks own d i ws ys h.1)
 
 mutual
@@ -237,7 +235,7 @@ stands_d (CArith op v w) ks own d b ws ys st hst k h r =
     r
 stands_d (CUnpack v) ks own d b ws ys st hst k h r = (stands_v v ks own d b ws ys k h, r)
 stands_d (CCell v) ks own d b ws ys st hst k h r =
-    (ap YCell (all_size (IsBlock ks) st hst r), more_stands (IsBlock ks) st hst _ _ r (stands_v v ks own d b ws ys k h))
+    (ap WCell (all_size (IsBlock ks) st hst r), more_stands (IsBlock ks) st hst _ _ r (stands_v v ks own d b ws ys k h))
 stands_d (CGet v) ks own d b ws ys st hst k h r = get_stands (IsBlock ks) _ _ st hst (stands_v v ks own d b ws ys k h) r
 stands_d (CSet v w) ks own d b ws ys st hst k h r =
     set_stands (IsBlock ks) _ _ _ _ st hst (stands_v v ks own d b ws ys k.0 h)
@@ -248,24 +246,24 @@ abbrev HFollows : HBlks → CEnter → HEnter → Type 0
 HFollows ks ce he =
     (b : ℕ) (owes : ℕ) (args : CTys) (body : CTm) (vs : CWords) (ys : HWords) (st : CWords) (hst : HWords) →
     block_at ks b ≡ Some (block_of b owes args body) → HoldsT ks (suc b) body → StandAll (IsBlock ks) vs ys →
-    StandAll (IsBlock ks) st hst → csize vs ≡ ccount args →
-    he b (hoist_t (Code b) (ccount args) (suc b) body) (honto ys NoHWords) hst
-    ≡ ce b body (conto vs (MoreCWords (XCode b args body) NoCWords)) st
+    StandAll (IsBlock ks) st hst → size vs ≡ ccount args →
+    he b (hoist_t (Code b) (ccount args) (suc b) body) (onto ys NoWords) hst
+    ≡ ce b body (onto vs (MoreWords (WCode (CCodeAt b args body) NoWords) NoWords)) st
 
 call_stands : (ks : HBlks) (ce : CEnter) (he : HEnter) → HFollows ks ce he →
     (v : CWord) (y : HWord) (vs : CWords) (ys : HWords) (st : CWords) (hst : HWords) → Stands (IsBlock ks) v y →
     StandAll (IsBlock ks) vs ys → StandAll (IsBlock ks) st hst → hopen ks he y ys hst ≡ copen ce v vs st
-call_stands ks ce he f (XInt n) y vs ys st hst r q w = ap (λ z. hopen ks he z ys hst) r
-call_stands ks ce he f (XTuple ws) y vs ys st hst r q w = ap (λ z. hopen ks he z ys hst) r.1
-call_stands ks ce he f (XCell p) y vs ys st hst r q w = ap (λ z. hopen ks he z ys hst) r
-call_stands ks ce he f (XCode b args body) y vs ys st hst r q w =
-    ap (λ z. hopen ks he z ys hst) (r.1 ∙ ap YLabel r.2.0)
-    ∙ ap (λ o. with_block o (λ k. if_fits (nat_eq (hsize ys) (ccount k.args)) (he b k.body (honto ys NoHWords) hst)))
+call_stands ks ce he f (WInt n) y vs ys st hst r q w = ap (λ z. hopen ks he z ys hst) r
+call_stands ks ce he f (WTuple ws) y vs ys st hst r q w = ap (λ z. hopen ks he z ys hst) r.1
+call_stands ks ce he f (WCell p) y vs ys st hst r q w = ap (λ z. hopen ks he z ys hst) r
+call_stands ks ce he f (WCode (CCodeAt b args body) env) y vs ys st hst r q w =
+    ap (λ z. hopen ks he z ys hst) (r.1 ∙ ap (λ l. WCode l NoWords) r.2.0)
+    ∙ ap (λ o. with_block o (λ k. if_fits (nat_eq (size ys) (ccount k.args)) (he b k.body (onto ys NoWords) hst)))
     r.2.2
     ∙ ap (λ n. if_fits (nat_eq n (ccount args))
-    (he b (hoist_t (Code b) (ccount args) (suc b) body) (honto ys NoHWords) hst)) (all_size (IsBlock ks) vs ys q)
-    ∙ fits_step (nat_eq (csize vs) (ccount args)) _ _
-    (λ e. f b r.2.1 args body vs ys st hst r.2.2 r.2.3 q w (eqb-true (csize vs) (ccount args) e))
+    (he b (hoist_t (Code b) (ccount args) (suc b) body) (onto ys NoWords) hst)) (all_size (IsBlock ks) vs ys q)
+    ∙ fits_step (nat_eq (size vs) (ccount args)) _ _
+    (λ e. f b r.2.1 args body vs ys st hst r.2.2 r.2.3 q w (eqb-true (size vs) (ccount args) e))
 
 stands_t : (ks : HBlks) (ce : CEnter) (he : HEnter) → HFollows ks ce he →
     (t : CTm) (own : Own) (d b : ℕ) (ws : CWords) (ys : HWords) (st : CWords) (hst : HWords) → HoldsT ks b t →
@@ -273,7 +271,7 @@ stands_t : (ks : HBlks) (ce : CEnter) (he : HEnter) → HFollows ks ce he →
 stands_t ks ce he f (CLet e t) own d b ws ys st hst k h w =
     value_stands (IsBlock ks) (λ r. r) (cd_value b e ws st) (hd_value (hoist_d own d b e) ys hst) _ _
     (stands_d e ks own d b ws ys st hst k.0 h w)
-    (λ v y st2 hst2 r w2. stands_t ks ce he f t own (suc d) (cd_next b e) (MoreCWords v ws) (MoreHWords y ys) st2 hst2
+    (λ v y st2 hst2 r w2. stands_t ks ce he f t own (suc d) (cd_next b e) (MoreWords v ws) (MoreWords y ys) st2 hst2
     k.1 (r, h) w2)
 stands_t ks ce he f (CCall g ts vs) own d b ws ys st hst k h w =
     call_stands ks ce he f _ _ _ _ st hst (stands_v g ks own d b ws ys k.0 h)
@@ -286,25 +284,26 @@ stands_t ks ce he f (CHalt v) own d b ws ys st hst k h w =
     halt_stands (IsBlock ks) (λ r. r) _ _ (stands_v v ks own d b ws ys k h)
 
 env_onto : (ks : HBlks) (own : Own) (d : ℕ) (vs ws : CWords) (ys zs : HWords) → StandAll (IsBlock ks) vs ys →
-    EnvOk ks own d ws zs → EnvOk ks own (lift (csize vs) d) (conto vs ws) (honto ys zs)
-env_onto ks own d NoCWords ws ys zs r h = subst (λ y. EnvOk ks own d ws (honto y zs)) (sym r) h
-env_onto ks own d (MoreCWords v vs) ws ys zs r h =
-    subst₂ (λ y n. EnvOk ks own n (conto vs (MoreCWords v ws)) (honto y zs)) (sym r.2) (lift_suc (csize vs) d)
-    (env_onto ks own (suc d) vs (MoreCWords v ws) r.1 (MoreHWords r.0 zs) r.4 (r.3, h))
+    EnvOk ks own d ws zs → EnvOk ks own (lift (size vs) d) (onto vs ws) (onto ys zs)
+env_onto ks own d NoWords ws ys zs r h = subst (λ y. EnvOk ks own d ws (onto y zs)) (sym r) h
+env_onto ks own d (MoreWords v vs) ws ys zs r h =
+    subst₂ (λ y n. EnvOk ks own n (onto vs (MoreWords v ws)) (onto y zs)) (sym r.2) (lift_suc (size vs) d)
+    (env_onto ks own (suc d) vs (MoreWords v ws) r.1 (MoreWords r.0 zs) r.4 (r.3, h))
 
 hfollows : (ks : HBlks) (n : ℕ) → HFollows ks (center n) (henter ks n)
 hfollows ks zero b owes args body vs ys st hst at holds r w e = refl
 hfollows ks (suc n) b owes args body vs ys st hst at holds r w e =
     ap (enters b)
-    (stands_t ks (center n) (henter ks n) (hfollows ks n) body (Code b) (ccount args) (suc b)
-    (conto vs (MoreCWords (XCode b args body) NoCWords)) (honto ys NoHWords) st hst holds
-    (subst (λ k. EnvOk ks (Code b) k (conto vs (MoreCWords (XCode b args body) NoCWords)) (honto ys NoHWords))
-    (lift_zero (csize vs) ∙ e)
-    (env_onto ks (Code b) 0 vs (MoreCWords (XCode b args body) NoCWords) ys NoHWords r
-    ((b, refl, (refl, owes, at, holds)), refl))) w)
+    (stands_t ks (center n) (henter ks n) (hfollows ks n) body (Code b) (ccount args) (suc b) (onto vs self)
+    (onto ys NoWords) st hst holds
+    (subst (λ k. EnvOk ks (Code b) k (onto vs self) (onto ys NoWords)) (lift_zero (size vs) ∙ e)
+    (env_onto ks (Code b) 0 vs self ys NoWords r ((b, refl, (refl, owes, at, holds)), refl))) w)
+  where
+    self : CWords
+    self = MoreWords (WCode (CCodeAt b args body) NoWords) NoWords
 
 pub hoist_kept : (t : CTm) (n : ℕ) → hrun n (blocks_of t) (main_of t) ≡ crun n t
 hoist_kept t n =
     let ks = blocks_of t in
-    stands_t ks (center n) (henter ks n) (hfollows ks n) t Nobody 0 0 NoCWords NoHWords NoCWords NoHWords
+    stands_t ks (center n) (henter ks n) (hfollows ks n) t Nobody 0 0 NoWords NoWords NoWords NoWords
     (holds_t t ks 0 (has_all [] (blocks_t 0 t))) tt refl

@@ -22,7 +22,7 @@ use Rattle.calc_core.specs.Walks.{put}
 use Rattle.h_terms.specs.H.{HBlk, HBlks, HLabel, HTm, HVal}
 use Rattle.h_terms.specs.Nodes.{HArity, HRow, HRows, h_block, h_blocks, h_build, h_kids, h_terms, h_tree}
 use Rattle.h_terms.specs.Nodes.{no_term, reads, values}
-use Rattle.h_terms.specs.Row.{IsOne, IsSome, IsTwo, others, top}
+use Rattle.calc_core.specs.Row.{IsOne, IsSome, IsTwo, others, top}
 use Rattle.h_pass.proofs.Fusing.{call_ends}
 use Rattle.h_pass.proofs.Spots.{deep}
 use Rattle.h_pass.specs.Hoist.{Code, Nobody, Own}

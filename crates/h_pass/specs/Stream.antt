@@ -8,7 +8,7 @@ use Rattle.c_terms.specs.Stream.{MPack, MProj, MSet, MTuple, MUnpack, MVar}
 use Rattle.h_terms.specs.H.{HApply, HArith, HBlks, HCall, HCell, HDecl, HGet, HHalt, HIf, HInt, HLabel, HLet, HName}
 use Rattle.h_terms.specs.H.{HPack, HProj, HSet, HTm, HUnpack, HVal, HVar}
 use Rattle.h_terms.specs.Nodes.{at_last, no_term, no_value, tied, tupled}
-use Rattle.h_terms.specs.Row.{others, top}
+use Rattle.calc_core.specs.Row.{others, top}
 use Rattle.h_pass.specs.Hoist.{Code, Nobody, Own, blocks_of, main_of}
 
 -- a code around the current one: the names in scope of each of its terms to come, its values so far, and the call

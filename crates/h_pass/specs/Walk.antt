@@ -14,7 +14,7 @@ use Rattle.c_terms.specs.C.{CTys}
 use Rattle.c_terms.specs.Read.{ctys}
 use Rattle.h_terms.specs.H.{HBlks, HTm, HVal}
 use Rattle.h_terms.specs.Nodes.{HRow, HRows, h_blocks, h_build, h_kids, more, no_term, reads, values}
-use Rattle.h_terms.specs.Row.{others, top}
+use Rattle.calc_core.specs.Row.{others, top}
 use Rattle.h_pass.specs.Hoist.{Code, Nobody, Own}
 use Rattle.h_pass.specs.Stream.{Around, Found, both, found_in, has_room, hoisted, is_one, is_some, is_two}
 

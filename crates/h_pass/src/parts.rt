@@ -1,7 +1,7 @@
 // Parts, nodes, names and blocks.
 ghost use Rattle.std.specs.Prelude.{◌≡◌, ◌<◌, ◌-◌, ℕ, suc, List, [], ◌∷◌, ◌++◌, IfOk, OnOk, length};
 ghost use Rattle.h_terms.specs.H.{HVal, HVar};
-ghost use Rattle.h_terms.specs.Row.{top, others};
+ghost use Rattle.calc_core.specs.Row.{top, others};
 ghost use Rattle.h_terms.specs.Nodes.{more, reads, h_blocks, h_tree, HRow, HRows};
 ghost use Rattle.h_pass.specs.Stream.{name_at};
 ghost use Rattle.h_pass.specs.Walk.{own_of, filled, fill_own};

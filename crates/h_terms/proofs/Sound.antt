@@ -104,7 +104,8 @@ module _ (ks : HBlks) where
         (h.0, g, refl, sound_v v n env S s g h.0 h.1 e, e) w
     sound_t he f (HLet (HProj i v) t) n env st S s g h e w =
         W.value_fine IsLabel (given (project i (hv_value v env)) st) _ S (csub s h.1)
-        (W.given_has IsLabel _ st S _ (W.project_sound IsLabel i _ S s h.0 h.1 (sound_v v n env S s g (TCTuple h.0) h.2 e) h.3) w)
+        (W.given_has IsLabel _ st S _
+        (W.project_sound IsLabel i _ S s h.0 h.1 (sound_v v n env S s g (TCTuple h.0) h.2 e) h.3) w)
         (λ y st2 Z m k w2. sound_t he f t n (MoreWords y env) st2 Z s (h.1 ∷ g) h.4
         (h.1, g, refl, k, W.env_more IsLabel env S Z s g m e) w2)
     sound_t he f (HLet (HArith op v u) t) n env st S s g h e w =
@@ -131,17 +132,18 @@ module _ (ks : HBlks) where
         (h.0, g, refl, k, W.env_more IsLabel env S Z s g m e) w2)
     sound_t he f (HLet (HSet v u) t) n env st S s g h e w =
         W.value_fine IsLabel (set (hv_value v env) (hv_value u env) st) _ S (TCTuple NoCTys)
-        (W.set_sound IsLabel (hv_value v env) (hv_value u env) st S (csub s h.0) (sound_v v n env S s g (TCRef h.0) h.1 e)
-        (sound_v u n env S s g h.0 h.2 e) w)
+        (W.set_sound IsLabel (hv_value v env) (hv_value u env) st S (csub s h.0)
+        (sound_v v n env S s g (TCRef h.0) h.1 e) (sound_v u n env S s g h.0 h.2 e) w)
         (λ y st2 Z m k w2. sound_t he f t n (MoreWords y env) st2 Z s (TCTuple NoCTys ∷ g) h.3
         (TCTuple NoCTys, g, refl, k, W.env_more IsLabel env S Z s g m e) w2)
     sound_t he f (HCall c ts vs) n env st S s g h e w =
         call_sound he f (hv_value c env) (hvs_value vs env) st S s ts h.0 (sound_v c n env S s g _ h.1 e)
         (sound_vs vs n env S s g _ h.3 e) w
     sound_t he f (HIf v t u) n env st S s g h e w =
-        W.zero_fine IsLabel (hv_value v env) S _ _ (sound_v v n env S s g TCInt h.0 e) (sound_t he f t n env st S s g h.1 e w)
-        (sound_t he f u n env st S s g h.2 e w)
-    sound_t he f (HHalt v) n env st S s g h e w = W.halt_fine IsLabel (hv_value v env) S (sound_v v n env S s g TCInt h e)
+        W.zero_fine IsLabel (hv_value v env) S _ _ (sound_v v n env S s g TCInt h.0 e)
+        (sound_t he f t n env st S s g h.1 e w) (sound_t he f u n env st S s g h.2 e w)
+    sound_t he f (HHalt v) n env st S s g h e w =
+        W.halt_fine IsLabel (hv_value v env) S (sound_v v n env S s g TCInt h e)
 
     safe : (n : ℕ) → SafeEnter (henter ks n)
     safe zero l body m env st S s g h e w = tt

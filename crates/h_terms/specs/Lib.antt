@@ -4,7 +4,6 @@ pub mod Typing
 pub mod Each
 pub mod Size
 pub mod Bound
-pub mod Row
 pub mod Nodes
 pub mod Props
 pub mod Program

@@ -50,12 +50,10 @@ with_block (Some k) go = go k
 
 -- a call: of a label, with as many values as its block takes
 abbrev pub hopen : HBlks → HEnter → HWord → HWords → HWords → Result
-hopen ks enter (WInt n) vs st = stops Stuck
-hopen ks enter (WTuple ws) vs st = stops Stuck
 hopen ks enter (WCode l env) vs st =
     with_block (block_at ks l)
     (λ k. if_fits (nat_eq (size vs) (ccount k.args)) (enter l k.body (onto vs NoWords) st))
-hopen ks enter (WCell p) vs st = stops Stuck
+hopen ks enter _ vs st = stops Stuck
 
 -- what a term does
 abbrev pub hterm : HBlks → HEnter → HTm → HWords → HWords → Result

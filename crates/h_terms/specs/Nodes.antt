@@ -11,7 +11,7 @@ use Rattle.calc_core.specs.Ends.{lift}
 use Rattle.c_terms.specs.Read.{ctree, ctys}
 use Rattle.h_terms.specs.H.{HApply, HArith, HBlk, HCall, HCell, HGet, HHalt, HIf, HInt, HLabel, HLet, HName, HPack}
 use Rattle.h_terms.specs.H.{HProj, HSet, HTm, HTuple, HUnpack, HVal, HVals, HVar, MoreHVals, NoHVals}
-use Rattle.h_terms.specs.Row.{IsOne, IsSome, IsTwo, others, top}
+use Rattle.calc_core.specs.Row.{IsOne, IsSome, IsTwo, others, top}
 
 -- values in a row
 abbrev pub tied : List HVal → HVals

@@ -8,20 +8,7 @@ use Rattle.h_terms.specs.declared.node.HBlock.{HBlock}
 use Rattle.calc_core.specs.Ends.{lift}
 use Rattle.h_terms.specs.H.{HVal}
 use Rattle.h_terms.specs.Nodes.{HArity, HRow, HRows, h_kids, values}
-use Rattle.h_terms.specs.Row.{IsOne, IsSome, IsTwo}
-
-one_prop : {T : Type 0} (vs : List T) → IsProp (IsOne vs)
-one_prop [] = hlevel
-one_prop (v ∷ []) = hlevel
-one_prop (v ∷ w ∷ vs) = hlevel
-
-two_prop : {T : Type 0} (vs : List T) → IsProp (IsTwo vs)
-two_prop [] = hlevel
-two_prop (v ∷ vs) = one_prop vs
-
-some_prop : {T : Type 0} (vs : List T) → IsProp (IsSome vs)
-some_prop [] = hlevel
-some_prop (v ∷ vs) = hlevel
+use Rattle.calc_core.specs.Row.{one_prop, two_prop, some_prop}
 
 h_arity_prop : (f : HForm) (vs : List HVal) → IsProp (HArity f vs)
 h_arity_prop H.Name vs = one_prop vs

@@ -24,8 +24,8 @@ abbrev mutual
   Rel (VTup vs) w = (ws : KWords) × (w ≡ WTuple ws) × RelAll vs ws
   Rel (VFun env body) w =
       (c : ℕ) × (kenv : KWords) × (names : List Atom) × (m : KTm) × (n : ℕ) × (tl : List ℕ) × (td : ℕ) × (g : Tys)
-      × (t : Ty) × (a1 a2 : KTy) × (w ≡ WCode (KCodeAt c 0 (MoreKTys a1 (MoreKTys a2 NoKTys)) m) kenv) × RelEnv env
-      names kenv
+      × (t : Ty) × (a1 a2 : KTy) × (w ≡ WCode (KCodeAt c 0 (MoreKTys a1 (MoreKTys a2 NoKTys)) m) kenv)
+      × RelEnv env names kenv
       × cps body (scope n tl g (Level (suc (size kenv)) ∷ Level (size kenv) ∷ names)) t td (suc (suc (suc (size kenv))))
       (Pass (suc (suc (size kenv)))) m
   Rel (VSus env body) w =

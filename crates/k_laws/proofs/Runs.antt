@@ -18,8 +18,8 @@ run m b env t st = kterm (kenter m) b t env st
 -- more calls
 module _ (Q : Result → Result → Type 0) (same : (r : Result) → Q r r) (none : (r : Result) → Q (stops Spent) r)
     (entering : (c : ℕ) (r r' : Result) → Q r r' → Q (enters c r) (enters c r')) where
-  at_value : (o : Made KNumbered) (go go' : KWord → KWords → Result) → ((w : KWord) (st : KWords) → Q (go w st) (go' w st)) →
-      Q (with_value o go) (with_value o go')
+  at_value : (o : Made KNumbered) (go go' : KWord → KWords → Result) →
+      ((w : KWord) (st : KWords) → Q (go w st) (go' w st)) → Q (with_value o go) (with_value o go')
   at_value Fails go go' h = same _
   at_value (Makes w st) go go' h = h w st
 

@@ -59,12 +59,14 @@ sound_d : (d : KDecl) (b n : ℕ) (env st : KWords) (S : List KTy) (s : ℕ → 
     KGives n g d t → EnvHas IsCode S env s g → Stored IsCode S st S → DeclHas S d env (kd_value b d env st) g t
 sound_d (KName v) b n env st S s g t h e k = (s, e, (S, (λ i u a. a), sound_v v b n env S s g t h e, k))
 sound_d (KProj i v) b n env st S s g t h e k =
-    (s, e, W.given_has IsCode _ st S _ (W.project_sound IsCode i _ S s h.0 t (sound_v v b n env S s g (TKTuple h.0) h.1 e) h.2) k)
+    let field = W.project_sound IsCode i _ S s h.0 t (sound_v v b n env S s g (TKTuple h.0) h.1 e) h.2 in
+    (s, e, W.given_has IsCode _ st S _ field k)
 sound_d (KArith op v w) b n env st S s g t h e k = (
   s,
   e,
   W.given_has IsCode _ st S _
-      (subst (λ x. OptionHas IsCode S (operate op (kv_value b v env) (kv_value (kv_next b v) w env)) (ksub s x)) (sym h.0)
+      (subst (λ x. OptionHas IsCode S (operate op (kv_value b v env) (kv_value (kv_next b v) w env)) (ksub s x))
+      (sym h.0)
       (W.compute_sound IsCode op _ _ S (sound_v v b n env S s g TKInt h.1 e)
       (sound_v w (kv_next b v) n env S s g TKInt h.2 e))) k,
 )
@@ -75,7 +77,8 @@ sound_d (KPack hid v shape) b n env st S s g t h e k = (
     S,
     (λ i q a. a),
     subst (λ z. Has IsCode S (kv_value b v env) (ksub s z)) (sym (h.2 ∙ h.1))
-        (W.pack_sound IsCode (kv_value b v env) S s h.0 hid (sound_v v b n env S s g (ksub (kscons hid TKVar) h.0) h.5 e)),
+        (W.pack_sound IsCode (kv_value b v env) S s h.0 hid
+        (sound_v v b n env S s g (ksub (kscons hid TKVar) h.0) h.5 e)),
     k,
   ),
 )
@@ -142,7 +145,8 @@ call_code ke f (KCodeAt b owes args body) env vs st S s r ts us g h e k w =
 
     self_has : Has IsCode S self (ksub s2 (kren (lift owes) (TKCode owes args)))
     self_has =
-        (owes, ksubs (kup owes r) args, r, g, (0, sub_ren (TKCode owes args) s2 (lift owes) r past), (h.0, refl, h.2), e)
+        let q = sub_ren (TKCode owes args) s2 (lift owes) r past in
+        (owes, ksubs (kup owes r) args, r, g, (0, q), (h.0, refl, h.2), e)
 
     sizes : size vs ≡ kcount args
     sizes = W.have_size IsCode vs S _ k ∙ ap kcount same_types ∙ subs_count s2 args
@@ -167,7 +171,8 @@ sound_t ke f (KIf v t u) b n env st S s g h e w =
     W.zero_fine IsCode (kv_value b v env) S _ _ (sound_v v b n env S s g TKInt h.0 e)
     (sound_t ke f t (kv_next b v) n env st S s g h.1 e w)
     (sound_t ke f u (kt_next (kv_next b v) t) n env st S s g h.2 e w)
-sound_t ke f (KHalt v) b n env st S s g h e w = W.halt_fine IsCode (kv_value b v env) S (sound_v v b n env S s g TKInt h e)
+sound_t ke f (KHalt v) b n env st S s g h e w =
+    W.halt_fine IsCode (kv_value b v env) S (sound_v v b n env S s g TKInt h e)
 
 safe : (n : ℕ) → SafeEnter (kenter n)
 safe zero b body m env st S s g h e w = tt

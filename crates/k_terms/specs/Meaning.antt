@@ -47,12 +47,10 @@ KEnter = ℕ → KTm → KWords → KWords → Result
 
 -- a call gives as many types and values as the code takes
 abbrev pub kopen : KEnter → ℕ → KWord → KWords → KWords → Result
-kopen enter m (WInt n) vs st = stops Stuck
-kopen enter m (WTuple ws) vs st = stops Stuck
 kopen enter m (WCode (KCodeAt b owes args body) env) vs st =
     if_fits (nat_eq m owes && nat_eq (size vs) (kcount args))
     (enter b body (onto vs (MoreWords (WCode (KCodeAt b owes args body) env) env)) st)
-kopen enter m (WCell p) vs st = stops Stuck
+kopen enter m _ vs st = stops Stuck
 
 -- what a term does from the values in scope and a store; its codes are numbered from b on
 abbrev pub kterm : KEnter → ℕ → KTm → KWords → KWords → Result

@@ -7,7 +7,7 @@ use Rattle.calc_core.specs.declared.types.CoreType.{CoreType as CType}
 use Rattle.h_terms.specs.H.{HApply, HArith, HBlk, HBlks, HCell, HDecl, HGet, HInt, HLabel, HName, HPack, HProj, HSet}
 use Rattle.h_terms.specs.H.{HTuple, HUnpack, HVal, HVals, HVar, MoreHVals, NoHVals, block_at}
 use Rattle.h_terms.specs.Nodes.{no_value}
-use Rattle.h_terms.specs.Row.{others, top}
+use Rattle.calc_core.specs.Row.{others, top}
 use Rattle.h_terms.specs.declared.node.HForm.{HForm}
 use Rattle.h_terms.specs.declared.node.HForm.TheVariants as H
 use Rattle.let_types.specs.Parts.{applied_type, field_type, held_type, opened_type, type_at}

@@ -9,7 +9,7 @@ use Rattle.t_gen_rules.specs.Gen.{place, small, unnest, instead, free, owner, re
 use Rattle.t_gen_rules.specs.Gen.{call_code, constant}
 use Rattle.a_terms.specs.Tree as a
 use Rattle.a_terms.specs.NodeTrees.{wrap, wrapped, a_value, a_values}
-use Rattle.a_terms.specs.Row.{others}
+use Rattle.calc_core.specs.Row.{others}
 use Rattle.a_terms.specs.declared.nodes.AValue.{AValue}
 use Rattle.a_terms.specs.declared.nodes.AWrap.{AWrap}
 use Rattle.a_terms.specs.declared.nodes.AWrap.TheVariants.{Apply, Pack}

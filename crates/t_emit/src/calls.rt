@@ -9,7 +9,7 @@ ghost use Rattle.t_gen_rules.specs.Gen.{tys};
 ghost use Rattle.a_terms.specs.Tree.{AVal};
 ghost use Rattle.a_terms.specs.Read.{atrees};
 ghost use Rattle.a_terms.specs.NodeTrees.{a_value, a_values, no_value};
-ghost use Rattle.a_terms.specs.Row.{top, others, IsSome};
+ghost use Rattle.calc_core.specs.Row.{top, others, IsSome};
 ghost use Rattle.a_scope.specs.Scope.{homes};
 
 use crate::code::{emit_move, plain, put};

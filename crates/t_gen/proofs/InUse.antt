@@ -14,7 +14,7 @@ use Rattle.t_gen_laws.proofs.Free.{busy_place, busy_found}
 use Rattle.t_gen_laws.proofs.Own.{own_fewer, own_next, top_is}
 use Rattle.t_emit.specs.Code.{kept}
 use Rattle.t_gen.specs.Registers.{Holds, Greatest}
-use Rattle.a_terms.specs.Row.{top as top_of, others}
+use Rattle.calc_core.specs.Row.{top as top_of, others}
 use Rattle.a_terms.specs.NodeTrees.{no_term}
 use Rattle.t_gen.specs.Pending.{Parting}
 use Rattle.t_gen.specs.Keeps.{Keeps, among, each, stores}

@@ -8,7 +8,7 @@ use Rattle.t_gen_rules.specs.Gen.{used, code, extras}
 use Rattle.a_terms.specs.Bound.{thirds}
 use Rattle.t_emit.specs.Code.{fill}
 use Rattle.a_terms.specs.Tree as a
-use Rattle.a_terms.specs.Row.{top, others}
+use Rattle.calc_core.specs.Row.{top, others}
 use Rattle.a_terms.specs.NodeTrees.{no_term}
 use Rattle.a_scope.specs.Scope.{scope, homes, Under}
 use Rattle.a_scope.specs.declared.scope.Entry.{Entry}

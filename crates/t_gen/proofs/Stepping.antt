@@ -14,7 +14,7 @@ use Rattle.t_gen.proofs.Filled.{let_step, if0_step, fill_length}
 use Rattle.t_gen_rules.specs.Gen.{used, over, target, decl_code, test_code, code, header}
 use Rattle.a_terms.specs.Tree as a
 use Rattle.a_terms.specs.Typing.{declared, more_vars}
-use Rattle.a_terms.specs.Row.{top, others}
+use Rattle.calc_core.specs.Row.{top, others}
 use Rattle.a_terms.specs.NodeTrees.{no_term, a_values, a_let, a_decl, a_build, is_decl}
 use Rattle.a_terms.specs.Arity.{a_kids}
 use Rattle.a_terms.specs.declared.nodes.AValue.{AValue}

@@ -5,7 +5,7 @@ use Rattle.std.specs.Prelude.{Bool, true, false, ◌||◌, ◌&&◌, not}
 use Rattle.std.proofs.lemmas.List.{drop_more}
 use Rattle.a_terms.specs.Tree as a
 use Rattle.a_terms.specs.NodeTrees.{a_values, a_decl, a_build, a_onto, is_decl, no_value, no_term, wrap, wrapped}
-use Rattle.a_terms.specs.Row.{top, others, IsOne, IsSome}
+use Rattle.calc_core.specs.Row.{top, others, IsOne, IsSome}
 use Rattle.a_terms.specs.Arity.{AArity, ARow, a_kids}
 use Rattle.calc_core.specs.Ends.{lift}
 use Rattle.calc_core.proofs.Lifts.{lift_add}

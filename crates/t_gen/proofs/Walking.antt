@@ -13,7 +13,7 @@ use Rattle.t_emit.specs.Code.{onto}
 use Rattle.t_gen.specs.Filling.{finish}
 use Rattle.a_terms.specs.Tree as a
 use Rattle.a_terms.specs.NodeTrees.{a_values, a_build, a_onto, a_tree, no_term}
-use Rattle.a_terms.specs.Row.{top}
+use Rattle.calc_core.specs.Row.{top}
 use Rattle.a_terms.specs.Arity.{a_kids, AArity, ARow}
 use Rattle.a_terms.specs.declared.nodes.ANode.{ANode}
 use Rattle.a_scope.specs.Scope.{scope, homes, Under}

@@ -8,7 +8,7 @@ use Rattle.t_terms.specs.declared.instr.Instr.{Instr}
 use Rattle.t_emit.specs.Code.{onto}
 use Rattle.t_gen.specs.Filling.{Job, finish_from}
 use Rattle.a_terms.specs.Tree as a
-use Rattle.a_terms.specs.Row.{top, others}
+use Rattle.calc_core.specs.Row.{top, others}
 use Rattle.a_terms.specs.NodeTrees.{no_term, a_tree}
 use Rattle.calc_core.specs.Ends.{lift}
 use Rattle.a_terms.specs.declared.nodes.ANode.{ANode}

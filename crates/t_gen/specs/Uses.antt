@@ -6,7 +6,7 @@ use Rattle.std.specs.BTreeMap.{get}
 use Rattle.std.specs.Ordering.{nat_cmp}
 use Rattle.a_terms.specs.Tree as a
 use Rattle.a_terms.specs.NodeTrees.{a_values, a_decl, a_onto, no_term, no_value}
-use Rattle.a_terms.specs.Row.{top, others}
+use Rattle.calc_core.specs.Row.{top, others}
 use Rattle.a_terms.specs.declared.nodes.AForm.{AForm}
 use Rattle.a_terms.specs.declared.nodes.AForm.TheVariants.{Value, Proj, Arith, Unpack, Malloc, Init, Call, If0, Halt}
 use Rattle.a_terms.specs.declared.nodes.ANode.{ANode}

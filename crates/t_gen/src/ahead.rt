@@ -5,7 +5,7 @@ ghost use Rattle.a_terms.specs.NodeTrees.{a_value, a_values, a_decl, a_let, a_bu
 ghost use Rattle.a_terms.specs.NodeTrees.{no_value, no_term};
 ghost use Rattle.a_terms.specs.Tree.{Call, If0, Halt};
 ghost use Rattle.a_terms.specs.Arity.{AArity, ARow, a_kids};
-ghost use Rattle.a_terms.specs.Row.{IsOne, IsSome, top, others};
+ghost use Rattle.calc_core.specs.Row.{IsOne, IsSome, top, others};
 ghost use Rattle.t_gen_rules.specs.Gen.{used, uses, uses_any};
 ghost use Rattle.t_gen.specs.Uses.{has, mem, Ending, both_used, both_names, newest, AllHold, Holds, Leads, Listed};
 ghost use Rattle.t_gen.specs.Uses.{Tells};

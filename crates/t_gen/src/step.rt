@@ -6,7 +6,7 @@ ghost use Rattle.a_terms.specs.Tree.{ATm, Call, If0, Halt, AProg};
 ghost use Rattle.a_terms.specs.Read.{atrees};
 ghost use Rattle.a_terms.specs.NodeTrees.{a_values, a_build, a_decl, a_let, is_decl, no_value, no_term};
 ghost use Rattle.a_terms.specs.Arity.{a_kids, AArity};
-ghost use Rattle.a_terms.specs.Row.{IsOne, IsSome, top, others};
+ghost use Rattle.calc_core.specs.Row.{IsOne, IsSome, top, others};
 ghost use Rattle.a_terms.specs.Program.{program_in};
 ghost use Rattle.a_scope.specs.Scope.{homes};
 ghost use Rattle.t_gen.specs.Uses.{Ending, Tells};

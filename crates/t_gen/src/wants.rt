@@ -4,7 +4,7 @@ ghost use Rattle.std.specs.Ordering.{nat_cmp};
 ghost use Rattle.std.specs.BTreeMap.{get};
 ghost use Rattle.a_terms.specs.Tree.{ATm, ADecl, ATys, Let, Call, Halt};
 ghost use Rattle.a_terms.specs.NodeTrees.{a_value, a_values, no_value};
-ghost use Rattle.a_terms.specs.Row.{IsSome, top, others};
+ghost use Rattle.calc_core.specs.Row.{IsSome, top, others};
 ghost use Rattle.t_gen_rules.specs.Gen.{names};
 ghost use Rattle.t_gen.specs.Uses.{or_zero, place_of, Leads};
 

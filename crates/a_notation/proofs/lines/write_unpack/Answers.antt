@@ -1,7 +1,7 @@
 use Rattle.std.proofs.Common.{◌≡◌, ℕ, List, ◌++◌, codes, append_assoc}
 use Rattle.page_core.specs.Names.{type_name, value_name}
 use Rattle.a_terms.specs.NodeTrees.{a_values, no_value}
-use Rattle.a_terms.specs.Row.{top}
+use Rattle.calc_core.specs.Row.{top}
 use Rattle.a_notation.specs.Notation.{value_text}
 use Rattle.a_notation.proofs.lines.write_unpack.Goals as goal
 

@@ -1,6 +1,6 @@
 use Rattle.std.proofs.Common.{◌≡◌, ℕ, List, [], ◌++◌, codes, append_assoc}
 use Rattle.page_core.specs.Names.{type_name, value_name}
-use Rattle.h_terms.specs.Row.{top}
+use Rattle.calc_core.specs.Row.{top}
 use Rattle.h_notation.specs.Values.{texts_of}
 use Rattle.h_notation.proofs.lines.write_unpack.Goals as goal
 

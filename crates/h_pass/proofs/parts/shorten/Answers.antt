@@ -1,5 +1,5 @@
 use Rattle.std.proofs.Common.{◌≡◌, ℕ, List, [], ◌∷◌, drop, refl, ◌∙◌}
-use Rattle.h_terms.specs.Row.{others}
+use Rattle.calc_core.specs.Row.{others}
 use Rattle.h_pass.proofs.parts.shorten.Goals as goal
 
 dropped : (xs : List ℕ) → drop 1 xs ≡ others xs

@@ -5,7 +5,7 @@ use Rattle.a_scope.specs.Scope.{homes}
 use Rattle.a_terms.specs.Tree.{AVal}
 use Rattle.a_terms.specs.Read.{atrees}
 use Rattle.a_terms.specs.NodeTrees.{a_value, a_values, no_value}
-use Rattle.a_terms.specs.Row.{top}
+use Rattle.calc_core.specs.Row.{top}
 use Rattle.t_emit.proofs.Emitted.{call_first, call_end}
 use Rattle.t_emit.proofs.calls.emit_call.Goals as goal
 

@@ -4,7 +4,7 @@ use Rattle.t_emit.specs.Code.{onto, places}
 use Rattle.t_gen_rules.specs.Gen.{call_code}
 use Rattle.a_scope.specs.Scope.{homes}
 use Rattle.a_terms.specs.NodeTrees.{a_values, no_value}
-use Rattle.a_terms.specs.Row.{top, others}
+use Rattle.calc_core.specs.Row.{top, others}
 use Rattle.t_emit.proofs.calls.emit_call.Given as goal
 
 abbrev pub invariant-loop-i : goal.invariant-loop-i

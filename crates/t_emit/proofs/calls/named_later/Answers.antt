@@ -3,7 +3,7 @@ use Rattle.std.specs.Prelude.{◌||◌}
 use Rattle.t_gen_rules.specs.Gen.{reads, later}
 use Rattle.t_emit.specs.Code.{places}
 use Rattle.a_terms.specs.NodeTrees.{a_values, no_value}
-use Rattle.a_terms.specs.Row.{top}
+use Rattle.calc_core.specs.Row.{top}
 use Rattle.t_emit.proofs.Emitted.{later_next, later_end}
 use Rattle.t_emit.proofs.calls.named_later.Goals as goal
 

@@ -2,7 +2,7 @@ use Rattle.std.proofs.Common.{◌≡◌, drop}
 use Rattle.t_gen_rules.specs.Gen.{later}
 use Rattle.t_emit.specs.Code.{places}
 use Rattle.a_terms.specs.NodeTrees.{a_values, no_value}
-use Rattle.a_terms.specs.Row.{top}
+use Rattle.calc_core.specs.Row.{top}
 use Rattle.t_emit.proofs.calls.named_later.Given as goal
 
 abbrev pub invariant-loop-i : goal.invariant-loop-i

@@ -3,7 +3,7 @@ use Rattle.a_terms.specs.Tree as a
 use Rattle.a_terms.specs.Read.{atrees}
 use Rattle.a_terms.specs.Arity.{AArity}
 use Rattle.a_terms.specs.NodeTrees.{a_values, a_build, no_value}
-use Rattle.a_terms.specs.Row.{top, others}
+use Rattle.calc_core.specs.Row.{top, others}
 use Rattle.a_terms.specs.declared.nodes.AForm.{AForm}
 use Rattle.a_terms.specs.declared.nodes.AValue.{AValue}
 use Rattle.t_gen_rules.specs.Gen.{uses_any}

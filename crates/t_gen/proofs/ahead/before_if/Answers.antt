@@ -1,7 +1,7 @@
 use Rattle.std.proofs.Common.{sym, subst, ◌∙◌, ap}
 use Rattle.std.specs.Prelude.{◌||◌, ◌&&◌, not}
 use Rattle.a_terms.specs.NodeTrees.{a_values, no_term, no_value}
-use Rattle.a_terms.specs.Row.{top, others}
+use Rattle.calc_core.specs.Row.{top, others}
 use Rattle.a_terms.specs.Tree as a
 use Rattle.t_gen_rules.specs.Gen.{used, uses_any}
 use Rattle.t_gen.specs.Uses.{has, mem, Listed}

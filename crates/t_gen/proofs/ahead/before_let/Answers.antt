@@ -2,7 +2,7 @@ use Rattle.std.proofs.Common.{◌∙◌, ap}
 use Rattle.std.specs.Prelude.{◌||◌, ◌&&◌, not}
 use Rattle.t_gen_rules.specs.Gen.{uses_any}
 use Rattle.a_terms.specs.NodeTrees.{a_values, a_decl, no_term}
-use Rattle.a_terms.specs.Row.{top, others}
+use Rattle.calc_core.specs.Row.{top, others}
 use Rattle.a_terms.specs.Tree as a
 use Rattle.t_gen.specs.Uses.{has, mem}
 use Rattle.t_gen.proofs.Telling.{popped, pushed, let_holds, let_gone}

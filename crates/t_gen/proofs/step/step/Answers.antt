@@ -6,7 +6,7 @@ use Rattle.a_terms.specs.Read.{atrees}
 use Rattle.a_terms.specs.Program.{program_in}
 use Rattle.a_terms.specs.NodeTrees.{a_values, a_build, a_let, a_decl, no_value, no_term}
 use Rattle.a_terms.specs.Arity.{a_kids, AArity}
-use Rattle.a_terms.specs.Row.{IsOne, IsSome, top, others}
+use Rattle.calc_core.specs.Row.{IsOne, IsSome, top, others}
 use Rattle.a_terms.specs.declared.nodes.AForm.{AForm}
 use Rattle.t_gen.specs.Uses.{Tells, Ending}
 use Rattle.t_gen.proofs.Stepping.{build_decl, stepped_as, keeps_as, told_ending}

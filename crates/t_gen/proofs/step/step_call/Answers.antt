@@ -6,7 +6,7 @@ use Rattle.t_gen_rules.specs.Gen.{used, top as greatest, above, tys, call_code}
 use Rattle.a_terms.specs.Tree as a
 use Rattle.a_terms.specs.Read.{atrees}
 use Rattle.a_terms.specs.NodeTrees.{a_values, no_value}
-use Rattle.a_terms.specs.Row.{top, others}
+use Rattle.calc_core.specs.Row.{top, others}
 use Rattle.a_scope.specs.Scope.{homes}
 use Rattle.a_scope.specs.declared.scope.Entry.{Entry}
 use Rattle.t_gen.proofs.Stepping.{end_stepped, keeps_first, length_arguments}

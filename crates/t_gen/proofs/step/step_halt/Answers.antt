@@ -7,7 +7,7 @@ use Rattle.t_gen.proofs.Filled.{halt_step}
 use Rattle.t_gen_rules.specs.Gen.{used, uses, over, small, unnest, move}
 use Rattle.a_terms.specs.Tree as a
 use Rattle.a_terms.specs.NodeTrees.{a_values, no_value}
-use Rattle.a_terms.specs.Row.{top}
+use Rattle.calc_core.specs.Row.{top}
 use Rattle.a_scope.specs.Scope.{homes}
 use Rattle.a_scope.specs.declared.scope.Entry.{Entry}
 use Rattle.t_gen.proofs.Stepping.{end_stepped, keeps_first}

@@ -5,7 +5,7 @@ use Rattle.t_emit.specs.Code.{Listed, onto, reserved}
 use Rattle.t_gen_rules.specs.Gen.{used, over, busy, test_code, header}
 use Rattle.a_terms.specs.Tree as a
 use Rattle.a_terms.specs.NodeTrees.{a_values, a_value, no_value, no_term}
-use Rattle.a_terms.specs.Row.{top, others}
+use Rattle.calc_core.specs.Row.{top, others}
 use Rattle.a_scope.specs.Scope.{scope, homes}
 use Rattle.a_scope.specs.declared.scope.Entry.{Entry}
 use Rattle.t_gen.proofs.InUse.{second_keeps, third_keeps}

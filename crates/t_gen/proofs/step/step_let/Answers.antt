@@ -3,7 +3,7 @@ use Rattle.t_emit.specs.Code.{onto}
 use Rattle.t_gen_rules.specs.Gen.{used, over, decl_code, target}
 use Rattle.a_scope.specs.declared.scope.Entry.{Entry}
 use Rattle.a_terms.specs.Tree as a
-use Rattle.a_terms.specs.Row.{top, others}
+use Rattle.calc_core.specs.Row.{top, others}
 use Rattle.a_terms.specs.Program.{program_in}
 use Rattle.a_terms.specs.NodeTrees.{a_values, a_decl, no_term}
 use Rattle.a_scope.specs.Scope.{homes, Under}

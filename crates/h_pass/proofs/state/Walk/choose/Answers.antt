@@ -3,7 +3,7 @@ use Rattle.h_terms.specs.declared.node.HForm.TheVariants as F
 use Rattle.c_terms.specs.Stream as S
 use Rattle.h_pass.specs.declared.state.Open.{Open}
 use Rattle.h_pass.proofs.state.Walk.choose.Goals as goal
-use Rattle.h_terms.specs.Row.{top}
+use Rattle.calc_core.specs.Row.{top}
 use Rattle.h_pass.proofs.Stepping.{due, emits, some_long}
 use Rattle.h_pass.specs.Stream.{is_some}
 use Rattle.h_pass.specs.Walk.{Walked}

@@ -1,6 +1,6 @@
 use Rattle.std.proofs.Common.{◌<◌, ap, ◌∙◌, sym, subst}
 use Rattle.h_pass.specs.declared.state.Open.{Open}
-use Rattle.h_terms.specs.Row.{top}
+use Rattle.calc_core.specs.Row.{top}
 use Rattle.h_pass.proofs.state.Walk.declare.Goals as goal
 use Rattle.h_pass.proofs.Stepping.{declared, emits, room_due, room_of}
 use Rattle.h_pass.specs.Stream.{has_room}

@@ -1,6 +1,6 @@
 use Rattle.std.proofs.Common.{◌≡◌, Some, None, rules, ap, ◌∙◌, sym, subst}
 use Rattle.h_pass.specs.declared.state.Open.{Open}
-use Rattle.h_terms.specs.Row.{others}
+use Rattle.calc_core.specs.Row.{others}
 use Rattle.h_pass.proofs.state.Walk.finish_call.Goals as goal
 use Rattle.h_pass.proofs.Stepping.{calls}
 use Rattle.h_pass.specs.Walk.{Walked}

@@ -34,7 +34,8 @@ gather_some (s ∷ ss) n i c vs text e =
     gather_some ss (suc n) i c (s ∷ vs) text a ∙ ap (λ j. gathered n j vs (s ++ (separator (i + length ss)
     ++ before i ss text))) (sym b)
 
-pub past_some : (ss : List (List ℕ)) (n c : ℕ) (vs : List (List ℕ)) → c ≡ n + length ss → past c (stack ss vs) ≡ past n vs
+pub past_some : (ss : List (List ℕ)) (n c : ℕ) (vs : List (List ℕ)) → c ≡ n + length ss →
+    past c (stack ss vs) ≡ past n vs
 past_some [] n c vs e = let a : c ≡ n = omega (arith, e) in ap (λ j. past j vs) a
 past_some (s ∷ ss) n c vs e = let a : c ≡ suc n + length ss = omega (arith, e) in past_some ss (suc n) c (s ∷ vs) a
 
@@ -46,7 +47,8 @@ stack_length (s ∷ ss) vs = let h = stack_length ss (s ∷ vs) in omega (arith,
 abbrev pub sheet : List ℕ → ℕ → ℕ → List Scope → List Lines → Sheet
 sheet text n k branches around = record { body = lines text (scope_of n k) branches; around = around }
 
-pub turn_is : (q : Sheet) (s : Scope) (ss : List Scope) (text : List ℕ) → q.body.branches ≡ s ∷ ss → shut q.body ≡ text →
+pub turn_is : (q : Sheet) (s : Scope) (ss : List Scope) (text : List ℕ) → q.body.branches ≡ s ∷ ss →
+    shut q.body ≡ text →
     turn q q.body.branches ≡ sheet (text ++ (margin s.indent ++ codes "else\n")) s.types (s.indent + 1) ss q.around
 turn_is q s ss text e f =
     ap (λ bs. turn q bs) e ∙ ap (λ (t : List ℕ). sheet (t ++ (margin s.indent

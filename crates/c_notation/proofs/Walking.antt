@@ -1,5 +1,5 @@
 -- The nodes of a term make its text.
-use Rattle.std.proofs.Common.{◌≡◌, ℕ, zero, suc, ◌+◌, ◌-◌, List, [], ◌∷◌, ◌++◌, length, refl, sym}
+use Rattle.std.proofs.Common.{◌≡◌, ℕ, zero, suc, ◌+◌, List, [], ◌∷◌, ◌++◌, length, refl, sym}
 use Rattle.std.proofs.Common.{ap, ap₂, ◌∙◌, arith, append_assoc, codes, decimal}
 use Rattle.std.proofs.lemmas.List.{append-nil}
 use Rattle.calc_core.specs.Ends.{lift}
@@ -12,7 +12,7 @@ use Rattle.c_notation.specs.declared.page.Scope.{Scope}
 use Rattle.c_notation.specs.Types.{type_text, types_text}
 use Rattle.c_notation.specs.Notation.{head_text, bound_text, types_behind, value_text, values_after, declared_text}
 use Rattle.c_notation.specs.Notation.{term_text, c_text}
-use Rattle.c_notation.specs.Walk.{Lines, Sheet, scope_of, lines, with_text, with_values, push, gathered, past, shut}
+use Rattle.c_notation.specs.Walk.{Lines, Sheet, scope_of, with_text, with_values, push, gathered, shut}
 use Rattle.c_notation.specs.Walk.{step, walk, blank}
 use Rattle.c_notation.proofs.Sheets.{before, gather_some, level_is, past_some, sheet, stack, stack_length, turn_is}
 

@@ -1,7 +1,8 @@
 -- Stores and heaps: a new cell, and an assignment.
-use Rattle.std.proofs.Common.{◌≡◌, ◌<◌, ◌⊎◌, inl, inr, ⊎_elim, ℕ, zero, suc, List, [], ◌∷◌, ◌++◌, length, Option, Some}
+use Rattle.std.proofs.Common.{◌≡◌, ◌⊎◌, inl, inr, ⊎_elim, ℕ, zero, suc, List, [], ◌∷◌, ◌++◌, length, Option, Some}
 use Rattle.std.proofs.Common.{None, refl, sym, ap, ◌∙◌, subst, arith, length-append}
 use Rattle.std.specs.Prelude.{slice_get, slice_set}
+use Rattle.std.proofs.lemmas.Option.{slice_get_within}
 use Rattle.a_laws.proofs.Rel.{Grows, Moves, Rel, Stores, Valid, fresh, holds_moves, moves_grow, nth_end, nth_seam}
 use Rattle.a_laws.proofs.Rel.{rel_grows, rel_moves}
 use Rattle.a_terms.specs.Meaning.{AHeap, AWord}
@@ -16,11 +17,6 @@ none_some x e = cc
 
 some_same : {A : Type 0} (o : Option A) (x y : A) → o ≡ Some x → o ≡ Some y → x ≡ y
 some_same o x y e f = cc
-
-nth_lt : {A : Type 0} (xs : List A) (i : ℕ) (x : A) → slice_get xs i ≡ Some x → i < length xs
-nth_lt [] i x e = absurd (none_some x e)
-nth_lt (y ∷ xs) zero x e = omega arith
-nth_lt (y ∷ xs) (suc i) x e = let r = nth_lt xs i x e in omega (arith, r)
 
 nth_one : {A : Type 0} (xs : List A) (y x : A) (i : ℕ) → slice_get (xs ++ y ∷ []) i ≡ Some x →
     (slice_get xs i ≡ Some x) ⊎ ((i ≡ length xs) × (y ≡ x))
@@ -51,7 +47,7 @@ pub cell_holds : (D : List AConsts) (m : List ℕ) (h : AHeap) (st : HWords) (p 
     slice_get m p ≡ Some a → (y : HWord) × (w : AWord) × (held p st ≡ Some y) × (slice_get h a ≡ Some (Some w ∷ []))
     × Rel m h y w
 cell_holds D m h st p a s e =
-    let l = nth_lt m p a e in
+    let l = slice_get_within m p a e in
     let l2 = s.long in
     let y = held_there st p (omega (arith, l, l2)) in
     let r = s.holds p y.0 y.1 in

@@ -1,6 +1,7 @@
 -- What stands for a hoisted program is one program, but for the types of its mallocs and the numbers of equal data.
 use Rattle.std.proofs.Common.{◌≡◌, ⊎_elim, ℕ, suc, ◌+◌, List, [], ◌∷◌, ◌++◌, length, None, refl, sym, ap, ap₂, ◌∙◌}
 use Rattle.std.proofs.Common.{subst, append-nil, arith}
+use Rattle.std.proofs.lemmas.List.{append_cancel_left}
 use Rattle.h_terms.specs.H.{HVal, HTuple, HVals, HName, HProj, HArith, HUnpack, HCell, HGet, HSet, HTm, HLet, HCall}
 use Rattle.h_terms.specs.H.{HIf, HHalt, HBlks}
 use Rattle.a_terms.specs.Tree.{ATys, NoATys, MoreATys, AVal, Var, ATm, Let, Call, If0, Halt, Value, Proj, Arith}
@@ -11,7 +12,7 @@ use Rattle.a_laws.specs.OneAllocation.{unnumbered, all_unnumbered, untyped, plai
 use Rattle.a_laws.specs.Stands.{scope, Thing, Is, Gone, listed, takes, all_take, Stands_v, Stands_vs, Any, Stands_t}
 use Rattle.a_laws.specs.Stands.{Stands_all, arg_things}
 use Rattle.a_laws.proofs.Endings.{Ends, Makes, begins, all_there}
-use Rattle.a_laws.proofs.FilledAlike.{head_is, alike, apart, cancel, count_fields}
+use Rattle.a_laws.proofs.FilledAlike.{head_is, alike, apart, count_fields}
 use Rattle.a_laws.proofs.OneValue.{Good, good_none, good_gone, good_is, one_value, as_many}
 use Rattle.a_laws.proofs.Posts.{things_posts, first_posts, fields_of, to_come_filled}
 use Rattle.a_laws.proofs.OneData.{one_data}
@@ -64,13 +65,13 @@ module _ (ds : List HVal) where
     too_many rs made env a eq (ts, n, e, is, many, st) =
         let r = to_come_filled ds e h os [] n [] made (Gone ∷ env) k st refl in
         let t = HTuple (listed (fields_of ds e h os [] n [] made (Gone ∷ env) k st)) in
-        none_more t r.0 (cancel (things_posts os made) [] (t ∷ r.0) (eq ∙ sym r.1))
+        none_more t r.0 (append_cancel_left (things_posts os made) [] (t ∷ r.0) (eq ∙ sym r.1))
 
     too_few : (t : HVal) (rs : List HVal) (made env : List Thing) (a : ATm) →
         things_posts os made ++ t ∷ rs ≡ first_posts os h → Ends ds os made env k h a → ⊥
     too_few t rs made env a eq x =
         let all = append-nil (things_posts os made) ∙ all_there ds h a os made env k x in
-        none_more t rs (cancel (things_posts os made) [] (t ∷ rs) (all ∙ sym eq))
+        none_more t rs (append_cancel_left (things_posts os made) [] (t ∷ rs) (all ∙ sym eq))
 
     -- two terms at one place, where these tuples are to come
     run : (rs : List HVal) (made env : List Thing) (a b : ATm) → Good env k → Stands_t (scope ds os env k) made a Any h
@@ -94,8 +95,10 @@ module _ (ds : List HVal) where
         let gs = fields_of ds n.2 h os [] n.1 [] made old k n.5 in
         let p = to_come_filled ds m.2 h os [] m.1 [] made old k m.5 refl in
         let q = to_come_filled ds n.2 h os [] n.1 [] made old k n.5 refl in
-        let pt = head_is (cancel (things_posts os made) (HTuple (listed fs) ∷ p.0) (t ∷ rs) (p.1 ∙ sym eq)) in
-        let qt = head_is (cancel (things_posts os made) (HTuple (listed gs) ∷ q.0) (t ∷ rs) (q.1 ∙ sym eq)) in
+        let pt = head_is (append_cancel_left (things_posts os made) (HTuple (listed fs) ∷ p.0) (t ∷ rs) (p.1 ∙ sym eq))
+        in
+        let qt = head_is (append_cancel_left (things_posts os made) (HTuple (listed gs) ∷ q.0) (t ∷ rs) (q.1 ∙ sym eq))
+        in
         let same = one_list fs gs (inside (pt ∙ sym qt)) in
         let c = count_fields ds os k h m.2 [] m.1 [] made old m.5 in
         let d = count_fields ds os k h n.2 [] n.1 [] made old n.5 in

@@ -18,9 +18,7 @@ use Rattle.a_laws.proofs.Rel.{Holds, Moves, Rel, Rels, rel_moves}
 use Rattle.a_laws.proofs.Inside.{inside, applied, content, first_value, more_values, no_values}
 use Rattle.a_laws.proofs.Cells.{none_some}
 use Rattle.std.proofs.lemmas.Bool.{and_parts as both_true}
-
-some_is : {A : Type 0} {x y : A} → Some x ≡ Some y → x ≡ y
-some_is e = cc
+use Rattle.std.proofs.lemmas.Option.{same_Some}
 
 -- equal values have one form
 pub other : (v w : HVal) → v ≡ w → (form v ≡ form w → ⊥) → ⊥
@@ -33,7 +31,7 @@ pub shows_at : (ds : List HVal) (xs : List AConsts) (us : List HVal) (n : ℕ) (
 shows_at ds [] us n c s e = absurd (none_some c (sym (ap (λ z. slice_get z n) s) ∙ e))
 shows_at ds (x ∷ xs) us zero c s e =
     let q = ap (λ z. slice_get z 0) s.2 in
-    (x, s.0, refl, some_is (sym e ∙ q), s.3)
+    (x, s.0, refl, same_Some _ _ (sym e ∙ q), s.3)
 shows_at ds (x ∷ xs) us (suc n) c s e = shows_at ds xs s.1 n c s.4 (sym (ap (λ z. slice_get z (suc n)) s.2) ∙ e)
 
 -- the constants that variables name are their values
@@ -58,18 +56,18 @@ module _ (os : Constants) (ys : HWords) where
       ((cs : HVals) → constants os vs ≡ Some cs → hvs_value vs ys ≡ hvs_value cs NoWords) →
       hv_value (HTuple vs) ys ≡ hv_value c NoWords
   of_tuple vs c None q e f = absurd (none_some c e)
-  of_tuple vs c (Some cs) q e f = ap WTuple (f cs q) ∙ ap (λ z. hv_value z NoWords) (some_is e)
+  of_tuple vs c (Some cs) q e f = ap WTuple (f cs q) ∙ ap (λ z. hv_value z NoWords) (same_Some _ _ e)
 
   of_apply : (v : HVal) (ts : CTys) (c : HVal) (b : Bool) → is_label v && all_closed 0 (atypes ts) ≡ b →
       pick b (Some (HApply v ts)) None ≡ Some c → hv_value v ys ≡ hv_value c NoWords
   of_apply v ts c true q e =
       label_value v ys (both_true (is_label v) (all_closed 0 (atypes ts)) q).0
-      ∙ ap (λ z. hv_value z NoWords) (some_is e)
+      ∙ ap (λ z. hv_value z NoWords) (same_Some _ _ e)
   of_apply v ts c false q e = absurd (none_some c e)
 
   of_picked : (h : CTy) (d : HVal) (s : CTy) (c : HVal) (b : Bool) → pick b (Some (HPack h d s)) None ≡ Some c →
       hv_value d NoWords ≡ hv_value c NoWords
-  of_picked h d s c true e = ap (λ z. hv_value z NoWords) (some_is e)
+  of_picked h d s c true e = ap (λ z. hv_value z NoWords) (same_Some _ _ e)
   of_picked h d s c false e = absurd (none_some c e)
 
   of_pack : (h : CTy) (v : HVal) (s : CTy) (c : HVal) (o : Option HVal) → constant os v ≡ o → packed h s o ≡ Some c →
@@ -87,20 +85,20 @@ module _ (os : Constants) (ys : HWords) where
   of_both v vs cs None p q r e f g = absurd (none_some cs e)
   of_both v vs cs (Some d) None q r e f g = absurd (none_some cs e)
   of_both v vs cs (Some d) (Some ds) q r e f g =
-      ap₂ MoreWords (f d q) (g ds r) ∙ ap (λ z. hvs_value z NoWords) (some_is e)
+      ap₂ MoreWords (f d q) (g ds r) ∙ ap (λ z. hvs_value z NoWords) (same_Some _ _ e)
 
   module _ (known : Known os ys) where
     mutual
       pub constant_is : (v c : HVal) → constant os v ≡ Some c → hv_value v ys ≡ hv_value c NoWords
       constant_is (HVar i) c e = known i c e
-      constant_is (HInt n) c e = ap (λ z. hv_value z NoWords) (some_is e)
-      constant_is (HLabel l) c e = ap (λ z. hv_value z NoWords) (some_is e)
+      constant_is (HInt n) c e = ap (λ z. hv_value z NoWords) (same_Some _ _ e)
+      constant_is (HLabel l) c e = ap (λ z. hv_value z NoWords) (same_Some _ _ e)
       constant_is (HTuple vs) c e = of_tuple vs c (constants os vs) refl e (λ cs q. constants_are vs cs q)
       constant_is (HApply v ts) c e = of_apply v ts c (is_label v && all_closed 0 (atypes ts)) refl e
       constant_is (HPack h v s) c e = of_pack h v s c (constant os v) refl e (λ d q. constant_is v d q)
 
       pub constants_are : (vs cs : HVals) → constants os vs ≡ Some cs → hvs_value vs ys ≡ hvs_value cs NoWords
-      constants_are NoHVals cs e = ap (λ z. hvs_value z NoWords) (some_is e)
+      constants_are NoHVals cs e = ap (λ z. hvs_value z NoWords) (same_Some _ _ e)
       constants_are (MoreHVals v vs) cs e =
           of_both v vs cs (constant os v) (constants os vs) refl refl e (λ d q. constant_is v d q)
           (λ ds q. constants_are vs ds q)

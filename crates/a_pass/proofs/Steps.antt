@@ -3,7 +3,8 @@ use Rattle.std.proofs.Common.{◌≡◌, ◌⊎◌, inl, inr, ℕ, zero, suc, �
 use Rattle.std.proofs.Common.{None, Bool, true, false, refl, sym, ap, ap₂, ◌∙◌, subst, append_assoc, length, arith}
 use Rattle.std.proofs.Common.{map, take, drop}
 use Rattle.std.specs.Prelude.{◌&&◌, not, slice_get}
-use Rattle.std.proofs.lemmas.List.{take-map, drop-map, length-append, take-append-drop, append-nil}
+use Rattle.std.proofs.lemmas.List.{take-map, drop-map, length-append, take-append-drop, append-nil, length-map}
+use Rattle.std.proofs.lemmas.List.{map_push, same_from_push}
 use Rattle.h_terms.specs.H.{HVal, HVar, HInt, HLabel, HTuple, HApply, HPack, HBlks}
 use Rattle.a_terms.specs.Meaning.{pick}
 use Rattle.a_terms.specs.Tree as a
@@ -27,14 +28,6 @@ use Rattle.a_pass.specs.Emits.{Emits, Keeps, inits, Made, Reads}
 use Rattle.a_pass.proofs.Emitting.{emits_then, emits_same}
 use Rattle.std.proofs.lemmas.Bool.{and_parts as both_true}
 use Rattle.h_terms.proofs.Parts.{at_last_push}
-
-len_map : {X Y : Type 0} (f : X → Y) (xs : List X) → length (map f xs) ≡ length xs
-len_map f [] = refl
-len_map f (x ∷ xs) = ap suc (len_map f xs)
-
-pub map_push : {X Y : Type 0} (f : X → Y) (xs : List X) (x : X) → map f (xs ++ x ∷ []) ≡ map f xs ++ f x ∷ []
-map_push f [] x = refl
-map_push f (z ∷ xs) x = ap (λ ys. f z ∷ ys) (map_push f xs x)
 
 -- what comes after some values
 next_more : (ls : List Known) (d : ℕ) (us ws : List HVal) →
@@ -106,14 +99,6 @@ last_or [] = inl refl
 last_or (x ∷ xs) =
     elim (last_or xs) [ inl e ↦ inr ([], x, ap (λ ys. x ∷ ys) e) | inr h ↦ inr (x ∷ h.0, h.1, ap (λ ys. x ∷ ys) h.2) ]
 
-pub same_front : {X : Type 0} (xs ys : List X) (x y : X) → xs ++ x ∷ [] ≡ ys ++ y ∷ [] → (xs ≡ ys) × (x ≡ y)
-same_front [] [] x y h = (refl, cc h)
-same_front [] (z ∷ ys) x y h = absurd (omega (arith, ap length h, length-append ys (y ∷ [])))
-same_front (w ∷ xs) [] x y h = absurd (omega (arith, ap length h, length-append xs (x ∷ [])))
-same_front (w ∷ xs) (z ∷ ys) x y h =
-    let r = same_front xs ys x y (cc h) in
-    (ap₂ (λ a b. a ∷ b) (cc h) r.0, r.1)
-
 nonempty : {X : Type 0} (xs : List X) (x : X) → xs ++ x ∷ [] ≡ [] → ⊥
 nonempty xs x h = omega (arith, ap length h, length-append xs (x ∷ []))
 
@@ -138,19 +123,19 @@ module _ (ks : HBlks) (g : List a.ATy) (ls : List Known) (h : HVal → HVal) (W 
       let b1 = n_vs ls b (tied us) in
       let d1 = vs_next ls d (tied us) in
       let seen : (e : ℕ) → (map (value_at e) vs ≡ vals ls b d e (tied us)) × (value_at e x ≡ val ls b1 d1 e v) =
-      λ e. same_front _ _ _ _ (sym (map_push (value_at e) vs x) ∙ made.values e ∙ vals_more ls b d e us (v ∷ [])) in
+      λ e. same_from_push _ _ _ _ (sym (map_push (value_at e) vs x) ∙ made.values e ∙ vals_more ls b d e us (v ∷ [])) in
       record {
         values = λ e. map_push (value_at e) vs y
             ∙ ap₂ (λ ys z. ys ++ z ∷ []) (seen e).0 (vy e ∙ ap W (seen e).1 ∙ sym (value b1 d1 e v))
             ∙ sym (vals_more ls b d e us (h v ∷ []));
         types =
             let both =
-            same_front _ _ _ _ (sym (map_push (type_in g) ts t) ∙ made.types ∙ map_push (v_type ks g) us v) in
+            same_from_push _ _ _ _ (sym (map_push (type_in g) ts t) ∙ made.types ∙ map_push (v_type ks g) us v) in
             map_push (type_in g) ts u ∙ ap₂ (λ ys z. ys ++ z ∷ []) both.0 (tu ∙ ap T both.1 ∙ sym (type v))
             ∙ sym (map_push (v_type ks g) us (h v));
         consts =
-            let both = same_front _ _ _ _
-            (sym (map_push (constant_in ls) ts t) ∙ made.consts ∙ consts_more ls b us (v ∷ [])) in
+            let both = same_from_push _ _ _ _ (sym (map_push (constant_in ls) ts t) ∙ made.consts ∙ consts_more ls b us
+            (v ∷ [])) in
             map_push (constant_in ls) ts u
             ∙ ap₂ (λ ys z. ys ++ z ∷ []) both.0 (cu ∙ ap₂ K (seen 0).1 both.1 ∙ sym (const b1 d1 v))
             ∙ sym (consts_more ls b us (h v ∷ []));
@@ -417,7 +402,7 @@ pub even : (ks : HBlks) (g : List a.ATy) (ls : List Known) (b d : ℕ) (us : Lis
     (kept : List AData) (vs : List AValue) (ts : List Seen) (m : ℕ) (now : List ANode) (tuples : List AData) →
     Made ks g ls b d us begin kept vs ts m now tuples → length vs ≡ length us
 even ks g ls b d us begin kept vs ts m now tuples made =
-    sym (len_map (value_at 0) vs) ∙ ap length (made.values 0) ∙ len_vals ls b d 0 us
+    sym (length-map vs (value_at 0)) ∙ ap length (made.values 0) ∙ len_vals ls b d 0 us
 
 module _ (ks : HBlks) (g : List a.ATy) (ls : List Known) where
   -- the parts that a tuple takes, and what stands before it
@@ -539,7 +524,7 @@ module _ (ks : HBlks) (g : List a.ATy) (ls : List Known) where
         let stop = vs_next ls d0 (tied inside) in
         let f_is : f ≡ final stop (tied inside) =
         last ∙ ap₂ (λ p q. p + q) m_is
-        (sym (len_map (value_at 0) (drop k vs)) ∙ ap length (inner 0) ∙ len_vals ls b0 d0 0 inside)
+        (sym (length-map (drop k vs) (value_at 0)) ∙ ap length (inner 0) ∙ len_vals ls b0 d0 0 inside)
         ∙ sym (final_is stop inside) in
         let types = types_are ks g (drop k ts) inside kinds in
         record {

@@ -1,6 +1,7 @@
 -- What the conversion gives has its names in scope, whatever it is given.
 use Rattle.std.proofs.Common.{◌≡◌, ◌<◌, ◌≤◌, ℕ, zero, suc, ◌+◌, Bool, true, false, [], ◌∷◌, Option, Some, None, refl}
 use Rattle.std.proofs.Common.{sym, subst, arith}
+use Rattle.std.proofs.lemmas.Option.{same_Some}
 use Rattle.c_rules.specs.Places.{Places, further, place, from_on, kept_places, kept_count, keep_one}
 use Rattle.calc_core.specs.Ends.{after_one, lift}
 use Rattle.k_terms.specs.K.{KTy, KTys, KVal, KVar, KInt, KTuple, KCode, KVals, NoKVals, MoreKVals, KDecl, KName, KProj}
@@ -19,9 +20,6 @@ use Rattle.c_laws.proofs.BodySizes.{after_more as after_up}
 abbrev Among : ℕ → Places → Type 0
 Among e ps = (i j : ℕ) → place ps i ≡ Some j → j < e
 
-some_is : (a b : ℕ) → Some a ≡ Some b → a ≡ b
-some_is a b e = cc
-
 none_is : (b : ℕ) → None ≡ Some b → ⊥
 none_is b e = cc
 
@@ -31,16 +29,16 @@ tail e p ps h = λ i j q. h (suc i) j q
 further_among : (e : ℕ) (ps : Places) → Among e ps → Among (suc e) (further ps)
 further_among e [] h i j q = absurd (none_is j q)
 further_among e (None ∷ ps) h zero j q = absurd (none_is j q)
-further_among e (Some k ∷ ps) h zero j q = let r = h zero k refl in omega (arith, r, some_is (suc k) j q)
+further_among e (Some k ∷ ps) h zero j q = let r = h zero k refl in omega (arith, r, same_Some (suc k) j q)
 further_among e (p ∷ ps) h (suc i) j q = further_among e ps (tail e p ps h) i j q
 
 from_among : (b o n : ℕ) (ps : Places) → o + n ≤ b → Among b ps → Among b (from_on o n ps)
 from_among b o zero ps le h i j q = h i j q
-from_among b o (suc n) ps le h zero j q = omega (arith, le, some_is o j q)
+from_among b o (suc n) ps le h zero j q = omega (arith, le, same_Some o j q)
 from_among b o (suc n) ps le h (suc i) j q = from_among b (suc o) n ps (omega (arith, le)) h i j q
 
 first_kept : (b : Bool) (o j n : ℕ) → keep_one b o ≡ Some j → j < o + after_one b n
-first_kept true o j n q = omega (arith, some_is o j q)
+first_kept true o j n q = omega (arith, same_Some o j q)
 first_kept false o j n q = absurd (none_is j q)
 
 after_sum : (b : Bool) (o n : ℕ) → after_one b o + n ≡ o + after_one b n
@@ -127,7 +125,7 @@ inner_among s owes args body =
     (λ i j q. let r = kept_among 0 (uses args body) (None ∷ s.vars) i j q in omega (arith, r, up, after_add own k n))
 
 next : (e : ℕ) (ps : Places) → Among e ps → Among (suc e) (Some 0 ∷ further ps)
-next e ps h zero j q = omega (arith, some_is 0 j q)
+next e ps h zero j q = omega (arith, same_Some 0 j q)
 next e ps h (suc i) j q = further_among e ps h i j q
 
 open_next : (b : Bool) (t : KTy) (s : Scope) (e : ℕ) → Among e s.vars → Among (suc e) (with_var t (open_if b s)).vars

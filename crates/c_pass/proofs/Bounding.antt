@@ -1,6 +1,6 @@
 -- What is bound, and lists that grow at their ends.
-use Rattle.std.proofs.Common.{◌≡◌, ℕ, zero, suc, ◌+◌, ◌<◌, ◌≤◌, List, [], ◌∷◌, ◌++◌, refl, ap, ◌∙◌, sym, length}
-use Rattle.std.proofs.Common.{get_or, drop, take, arith, Bool}
+use Rattle.std.proofs.Common.{◌≡◌, ℕ, zero, suc, ◌+◌, ◌<◌, ◌≤◌, List, [], ◌∷◌, ◌++◌, refl, ap, sym, length}
+use Rattle.std.proofs.Common.{get_or, take, arith, Bool}
 use Rattle.c_terms.specs.C as C
 use Rattle.c_emit.specs.declared.parts.Note.{Note}
 use Rattle.c_emit.specs.Read.{note}
@@ -40,18 +40,6 @@ pub notes_push : (xs : List Note) (x : Note) (rest : List E.Note) →
     notes_onto (xs ++ x ∷ []) rest ≡ notes_onto xs (note x ∷ rest)
 notes_push [] x rest = refl
 notes_push (y ∷ xs) x rest = ap (λ (ys : List E.Note). note y ∷ ys) (notes_push xs x rest)
-
-pub drop_plus : (ls : List ℕ) (i d : ℕ) → i < length ls → drop i ls ≡ get_or ls i d ∷ drop (i + 1) ls
-drop_plus [] i d h = absurd (omega (arith, h))
-drop_plus (l ∷ ls) zero d h = refl
-drop_plus (l ∷ ls) (suc i) d h = drop_plus ls i d (omega (arith, h))
-    ∙ ap (λ j. get_or ls i d ∷ drop j (l ∷ ls)) (let q : suc (i + 1) ≡ suc i + 1 = omega arith in q)
-
-pub drop_end : (ls : List ℕ) (i : ℕ) → length ls ≤ i → drop i ls ≡ []
-drop_end [] zero h = refl
-drop_end [] (suc i) h = refl
-drop_end (t ∷ ts) zero h = absurd (omega (arith, h))
-drop_end (t ∷ ts) (suc i) h = drop_end ts i (omega (arith, h))
 
 abbrev pub packed : List ℕ → Bool → C.CTy → C.CTy → C.CTys → C.CTy → C.CTy → C.CTys → ℕ → C.CTys → E.Info
 packed kept own h s a hi si ai owes args =

@@ -1,6 +1,7 @@
 -- The field of a tuple.
 use Rattle.std.proofs.Common.{◌≡◌, ◌≢◌, ◌-◌, ◌<◌, ◌≤◌, ℕ, zero, suc, List, [], ◌∷◌, map, refl, ap, ◌∙◌, sym, subst}
 use Rattle.std.proofs.Common.{length, get_or, arith, inr, Some, None}
+use Rattle.std.proofs.lemmas.Option.{same_Some}
 use Rattle.idx_core.specs.Over.{BelowAt, AnyDepth}
 use Rattle.f_terms.specs.Ty.{Ty, TTuple, Tys, NoTys, MoreTys, tys, Below}
 use Rattle.f_terms.specs.Ty.{each_all, size, sizes, depth, depths}
@@ -14,9 +15,6 @@ use Rattle.f_terms.specs.Mismatch.{WTuple, WField, odds}
 use Rattle.f_terms.specs.Faults.{Passes, Note, at_odds, if_tuple, if_none, FaultWith}
 use Rattle.f_terms.specs.declared.fault.Code.TheVariants.{E10, E11}
 use Rattle.f_check.specs.Verdict.{IsTypeOf}
-
-some_is : {a b : Ty} → Some a ≡ Some b → a ≡ b
-some_is e = cc
 
 at_there : (xs : List FType) (k : ℕ) (d : FType) → k < length xs →
     ty_at (tys (map tree xs)) k ≡ Some (tree (get_or xs k d))
@@ -52,7 +50,7 @@ at_ok : (n : ℕ) (ts : Tys) (k : ℕ) (t : Ty) → ty_at ts k ≡ Some t → ea
     Below n t × (depth t ≤ depths ts) × (size t ≤ sizes ts)
 at_ok n NoTys k t e h = let x : None ≡ Some t = e in absurd (cc)
 at_ok n (MoreTys u us) zero t e h =
-    let x : u ≡ t = some_is e in (subst (Below n) x h.0, omega (arith, ap depth x), omega (arith, ap size x))
+    let x : u ≡ t = same_Some _ _ e in (subst (Below n) x h.0, omega (arith, ap depth x), omega (arith, ap size x))
 at_ok n (MoreTys u us) (suc k) t e h = let r = at_ok n us k t e h.1 in (r.0, omega (arith, r.1), omega (arith, r.2))
 
 field_ok : (n : ℕ) (ts : Tys) (i : ℕ) (t : Ty) → field_ty ts i ≡ Some t → each_all BelowAt AnyDepth n ts →

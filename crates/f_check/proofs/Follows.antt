@@ -1,5 +1,5 @@
 -- What a step does to the frames.
-use Rattle.std.proofs.Common.{◌≡◌, ℕ, List, [], ◌∷◌, ◌++◌, Result, Err, IfOk, length, refl, sym, subst, arith}
+use Rattle.std.proofs.Common.{◌≡◌, ℕ, List, [], ◌∷◌, ◌++◌, Result, Err, IfOk, sym, subst}
 use Rattle.std.proofs.lemmas.Result.{IfOk-weaker}
 use Rattle.f_terms.specs.Ty.{Tys}
 use Rattle.f_terms.specs.Shape.{children}
@@ -15,10 +15,6 @@ use Rattle.f_check.specs.declared.frame.Control.TheVariants.{Run}
 
 pub gone : (P : Control → Type 0) (r : Result Control Failure) (e : Failure) → r ≡ Err e → IfOk r P
 gone P r e is = subst (λ x. IfOk x P) (sym is) tt
-
-pub none : {A : Type 0} (xs : List A) → length xs ≡ 0 → xs ≡ []
-none [] e = refl
-none (x ∷ xs) e = absurd (omega (arith, e))
 
 abbrev pub Enters : ℕ → Frame → List Frame → List Frame → Control → Type 0
 Enters j fr old new c = (c ≡ Run j) × (new ≡ old ++ fr ∷ [])

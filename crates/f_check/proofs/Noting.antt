@@ -1,7 +1,7 @@
 -- The steps of the walk, with the types that are noted.
 use Rattle.std.proofs.Common.{◌+◌, Vec, Global, ◌≡◌, ◌≤◌, ◌<◌, ℕ, suc, ◌-◌, List, [], ◌∷◌, ◌++◌, map, length}
 use Rattle.std.proofs.Common.{slice_set, refl, ap, ap₂, ◌∙◌, sym, subst, arith, All, append_assoc}
-use Rattle.std.proofs.lemmas.List.{get_or-set_same, length-set}
+use Rattle.std.proofs.lemmas.List.{get_or-set_same, length-set, same_from_push}
 use Rattle.std.proofs.lemmas.List.Elements.{All-nil, All-head, All-tail, All-push, All-same}
 use Rattle.idx_core.specs.declared.span.Span.{Span}
 use Rattle.f_terms.specs.Ty.{Ty, Tys, NoTys, MoreTys}
@@ -34,7 +34,6 @@ use Rattle.f_check.specs.declared.frame.Frame.TheVariants as C
 use Rattle.f_check.specs.declared.frame.Control.{Control}
 use Rattle.f_check.specs.declared.frame.Control.TheVariants.{Run, Give}
 use Rattle.f_check.specs.declared.frame.State.{State}
-use Rattle.f_check.proofs.Scoping.{push_is}
 use Rattle.f_check.proofs.Leads.{same_end, open_type, follow, lead_push, lead_pop, lead_last, times_up, lead_stays}
 use Rattle.f_check.proofs.Leads.{parts_stay}
 
@@ -106,7 +105,7 @@ module _ (f : FTerm) (ts : List FType) (g : Tys) where
     both : (fr : Frame) → (w : Waits f ts g n fr l) → rest_of fr ≡ [] → (a b : ℕ) → children n ≡ a ∷ b ∷ [] →
         IsNoted f ts g a × (l ≡ b)
     both fr w e a b is =
-        let p = push_is (a ∷ []) w.1.0 b l (sym is ∙ w.1.1 ∙ ap (λ (r : List ℕ). w.1.0 ++ l ∷ r) e) in
+        let p = same_from_push (a ∷ []) w.1.0 b l (sym is ∙ w.1.1 ∙ ap (λ (r : List ℕ). w.1.0 ++ l ∷ r) e) in
         (All-head (IsNoted f ts g) a [] (All-same (IsNoted f ts g) (a ∷ []) w.1.0 p.0 w.1.2), sym p.1)
 
     last_part : (fr : Frame) → Waits f ts g n fr l → rest_of fr ≡ [] → IsNoted f ts (inner f n fr g) l → Parts f ts g n
@@ -174,8 +173,11 @@ module _ (f : FTerm) (ts : List FType) (g : Tys) where
       last_suits (C.Open s b) o p w e h = let y : b ∷ [] ≡ [] = e in absurd (cc)
       last_suits (C.Opened s) o p w e h =
           let is = w.0 in
-          let last = push_is h.0 v.scope (record { ty = tree o; at = h.1 }) (record { ty = p.4; at = v.around + 1 })
-          (sym h.2 ∙ p.5) in
+          let last = same_from_push h.0 v.scope (record { ty = tree o; at = h.1 }) (record {
+            ty = p.4;
+            at =
+                v.around + 1;
+          }) (sym h.2 ∙ p.5) in
           let same : tree o ≡ p.4 = ap (λ (b : Bound). b.ty) last.1 in
           let type = open_type f t v s q n whole p is ∙ ap (λ x. opened_of (first_type f n x)) names in
           let form = ap (λ m. opened_of (first_type f m g)) is.2 in
@@ -323,7 +325,7 @@ module _ (f : FTerm) where
       Known f ts st.frames.items ks (Give ty s o) → Leads f st (Give ty s o) → ks ≡ ls ++ at ∷ [] → at < count f
   given_at ts st ks ls at ty o s k h e =
       let is =
-      (push_is ls _ at k.0 (sym e ∙ (lead_last f ts st.frames.items ks (count f - 1) NoTys k.0 k.1 k.2).1)).1 in
+      (same_from_push ls _ at k.0 (sym e ∙ (lead_last f ts st.frames.items ks (count f - 1) NoTys k.0 k.1 k.2).1)).1 in
       subst (λ x. x < count f) (sym is)
       (follow f ts st.frames.items ks (count f - 1) NoTys k.0 k.1 (now st h.0) (top f) root_in k.2 h.1.2 refl
       refl).2
@@ -333,7 +335,7 @@ module _ (f : FTerm) where
       ks ≡ ls ++ at ∷ [] → Noting f ts us at (tree ty) (tree o) → HasNoted us st.frames.items ks at (tree ty)
   noted_now ts us st ks ls at ty o s full k h e put =
       let is : at ≡ k.0 =
-      (push_is ls _ at k.0 (sym e ∙ (lead_last f ts st.frames.items ks (count f - 1) NoTys k.0 k.1 k.2).1)).1 in
+      (same_from_push ls _ at k.0 (sym e ∙ (lead_last f ts st.frames.items ks (count f - 1) NoTys k.0 k.1 k.2).1)).1 in
       let p = follow f ts st.frames.items ks (count f - 1) NoTys k.0 k.1 (now st h.0) (top f) root_in k.2 h.1.2 refl
       refl in
       let lead : Leading f ts st.frames.items ks (count f - 1) NoTys at k.1 =
@@ -372,7 +374,8 @@ module _ (f : FTerm) where
       let p = lead_pop f ts gs fr ks (count f - 1) NoTys at h.0
       (subst (λ (xs : List Frame). Leading f ts xs ks (count f - 1) NoTys at h.0) ef h.1) in
       let lead : Leading f ts gs ls (count f - 1) NoTys p.0 p.1 =
-      subst (λ (xs : List ℕ). Leading f ts gs xs (count f - 1) NoTys p.0 p.1) (push_is p.2 ls at at (sym p.3 ∙ ek)).0
+      subst (λ (xs : List ℕ). Leading f ts gs xs (count f - 1) NoTys p.0 p.1) (same_from_push p.2 ls at at
+      (sym p.3 ∙ ek)).0
       p.4 in
       let t = now st a.0 in
       let under = chain_pop (Part f) gs fr t (top f) (subst (λ xs. Chain (Part f) xs t (top f)) ef a.1.2) in

@@ -47,9 +47,9 @@ use Rattle.f_check.proofs.Puts.{outside_depth}
 use Rattle.f_terms.proofs.Limited.{some_within}
 use Rattle.f_terms.specs.TyLaws.{put_bound}
 use Rattle.f_terms.specs.Noted.{outside}
-use Rattle.std.proofs.lemmas.List.{length-append}
+use Rattle.std.proofs.lemmas.List.{length-append, same_from_push}
 use Rattle.f_check.proofs.Rows.{part_known, part_nodes, one_more, all_more, tuple_ok, tuple_limit}
-use Rattle.f_check.proofs.Scoping.{scope_more, scope_push, bounds_pop, push_is, last_bound}
+use Rattle.f_check.proofs.Scoping.{scope_more, scope_push, bounds_pop, last_bound}
 use Rattle.f_check.proofs.Steps.{moved, in_body, in_gen, in_let, in_opened, fails}
 
 -- where the state stands at the form around the part
@@ -552,8 +552,11 @@ module _ (f : FTerm) (st : State) (ty : FType) (q : Span) where
   opened_given s h sc t o n ec out =
       let w = h.1 in
       let en = h.4.3 in
-      let kept = push_is (map bound sc.items) w.scope (record { ty = tree o; at = n })
-      (record { ty = h.4.4; at = w.around + 1 }) (sym ec ∙ h.4.5) in
+      let kept = same_from_push (map bound sc.items) w.scope (record { ty = tree o; at = n }) (record {
+        ty = h.4.4;
+        at =
+            w.around + 1;
+      }) (sym ec ∙ h.4.5) in
       given f st w h.5 o (record st { scope = sc; around = st.around - 1 }) (SOpen (place s) h.4.0 h.0) t s
       (offer_work f st []) refl
       (task_is w (st.around - 1) (map bound sc.items) (omega (arith, en)) kept.0) h.4.1

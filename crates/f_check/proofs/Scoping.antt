@@ -1,6 +1,6 @@
 -- What is bound around a term.
 use Rattle.std.proofs.Common.{◌≡◌, ℕ, zero, suc, ◌+◌, ◌-◌, ◌<◌, List, [], ◌∷◌, ◌++◌, map, length, get_or, take, Some}
-use Rattle.std.proofs.Common.{refl, ap, ap₂, ◌∙◌, sym, arith, append_assoc}
+use Rattle.std.proofs.Common.{refl, ap, ◌∙◌, sym, arith, append_assoc}
 use Rattle.std.proofs.lemmas.List.{take-map, length-append}
 use Rattle.std.proofs.Math.Seq.{take-append_seam}
 use Rattle.idx_core.specs.Laws as laws
@@ -79,15 +79,6 @@ tail_is e = cc
 
 pub head_is : {A : Type 0} {x y : A} {xs ys : List A} → x ∷ xs ≡ y ∷ ys → x ≡ y
 head_is e = cc
-
--- equal lists end alike
-pub push_is : {A : Type 0} (xs ys : List A) (a b : A) → xs ++ a ∷ [] ≡ ys ++ b ∷ [] → (xs ≡ ys) × (a ≡ b)
-push_is [] [] a b e = (refl, head_is e)
-push_is [] (y ∷ ys) a b e = absurd (omega (arith, ap length e, length-append ys (b ∷ [])))
-push_is (x ∷ xs) [] a b e = absurd (omega (arith, ap length e, length-append xs (a ∷ [])))
-push_is {A = A} (x ∷ xs) (y ∷ ys) a b e =
-    let r = push_is xs ys a b (tail_is e) in
-    (ap₂ (λ (z : A) (zs : List A). z ∷ zs) (head_is e) r.0, r.1)
 
 -- where one name is bound, the list of the names is not empty
 pub last_bound : (bs : List Binder) (ws : List Bound) (b : Bound) → map bound bs ≡ ws ++ b ∷ [] →

@@ -2,7 +2,7 @@
 use Rattle.std.proofs.Common.{◌≡◌, ◌≤◌, ◌<◌, ◌==◌, ◌&&◌, ℕ, pos, ◌+◌, ◌-◌, List, [], ◌∷◌, length, take, drop, Bool}
 use Rattle.std.proofs.Common.{true, false, if◌then◌else◌, refl, ◌∙◌, ap, arith, Some, None, neg_ℤ}
 use Rattle.std.specs.Prelude.{nat_le}
-use Rattle.std.proofs.lemmas.Bool.{eqb-true, leb-true, leb-false}
+use Rattle.std.proofs.lemmas.Bool.{eqb-true, leb-true, leb-false, and_parts}
 use Rattle.std.proofs.lemmas.Int.{ints}
 use Rattle.std.proofs.lemmas.List.{length-drop}
 use Rattle.text_core.specs.Byte.{mark, value}
@@ -28,11 +28,6 @@ source_signs = record { of_sign = λ b x e. look_marked signs refl b x e; of_pai
         go false q true s a h e = rw (eqb-true b 58 h) refl
         go false q false s a h e = absurd (cc)
 
-both : (x y : Bool) → (x && y) ≡ true → (x ≡ true) × (y ≡ true)
-both true true e = (refl, refl)
-both true false e = absurd (cc)
-both false y e = absurd (cc)
-
 pair_long : (a b : ℕ) (s : List ℕ) → at_pair a b s ≡ true → 2 ≤ length s
 pair_long a b [] e = absurd (cc)
 pair_long a b (c ∷ []) e = absurd (cc)
@@ -43,8 +38,8 @@ pair_item : (a b : ℕ) (x : Kind) → pair a b ≡ Some x → (s : List ℕ) �
 pair_item a b x h [] p e = absurd (cc)
 pair_item a b x h (c ∷ []) p e = absurd (cc)
 pair_item a b x h (c ∷ (d ∷ s)) p e =
-    let m = eqb-true c a (both _ _ e).0 in
-    let n = eqb-true d b (both _ _ e).1 in
+    let m = eqb-true c a (and_parts _ _ e).0 in
+    let n = eqb-true d b (and_parts _ _ e).1 in
     let i : pair c d ≡ Some x = rw (m, n) h in
     ap (λ (x : Piece). of_piece source (c ∷ (d ∷ s)) x) p ∙ rw i refl
 

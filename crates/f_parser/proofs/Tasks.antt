@@ -2,7 +2,7 @@
 use Rattle.std.specs.Prelude.{Result, Ok, Err, MatchResult}
 use Rattle.std.proofs.Common.{◌≡◌, ℕ, zero, suc, ◌+◌, ◌-◌, ◌*◌, ◌≤◌, List, [], ◌∷◌, ◌++◌, length, map, take, drop}
 use Rattle.std.proofs.Common.{refl, ap, ap₂, ◌∙◌, sym, subst, append_assoc, arith}
-use Rattle.std.proofs.lemmas.List.{length_push}
+use Rattle.std.proofs.lemmas.List.{length_push, length-append}
 use Rattle.std.proofs.Math.Seq.{take-append_seam, drop-append_seam}
 use Rattle.idx_core.specs.declared.span.Span.{Span}
 use Rattle.idx_core.specs.declared.arith.Op.{Op}
@@ -45,14 +45,10 @@ take_front ts us k e = ap (λ n. take n (ts ++ us)) e ∙ take-append_seam ts us
 drop_front : (ts us : List Tm) (k : ℕ) → k ≡ length ts → drop k (ts ++ us) ≡ us
 drop_front ts us k e = ap (λ n. drop n (ts ++ us)) e ∙ drop-append_seam ts us
 
-long : (ts us : List Tm) → length (ts ++ us) ≡ length ts + length us
-long [] us = omega arith
-long (t ∷ ts) us = omega (arith, long ts us)
-
 pub stacked_last : (s : Spn) (step : FStep) (ts us : List Tm) → length us ≡ arity step →
     stacked s step (ts ++ us) ≡ ts ++ step_tree s step us ∷ []
 stacked_last s step ts us e =
-    let k : length (ts ++ us) - arity step ≡ length ts = omega (arith, e, long ts us) in
+    let k : length (ts ++ us) - arity step ≡ length ts = omega (arith, e, length-append ts us) in
     ap₂ (λ (xs ys : List Tm). xs ++ step_tree s step ys ∷ []) (take_front ts us (length (ts ++ us) - arity step) k)
     (drop_front ts us (length (ts ++ us) - arity step) k)
 

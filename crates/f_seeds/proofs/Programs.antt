@@ -1,12 +1,12 @@
 -- The source of every number is the text of a program: the sum of its items, nested to the left.
 use Rattle.std.proofs.Common.{◌≡◌, ◌≤◌, ◌<◌, ℕ, ℤ, zero, suc, ◌+◌, ◌*◌, ◌-◌, ◌^◌, List, [], ◌∷◌, ◌++◌, length, drop}
-use Rattle.std.proofs.Common.{Bool, true, false, ◌&&◌, ◌||◌, refl, sym, ◌∙◌, ap, ap₂, subst, append_assoc, arith, lit≤}
+use Rattle.std.proofs.Common.{Bool, true, false, ◌||◌, refl, sym, ◌∙◌, ap, ap₂, subst, append_assoc, arith, lit≤}
 use Rattle.std.proofs.Common.{lit<, decimal, slice_index}
 use Rattle.std.specs.Prelude.{codes}
 use Rattle.std.specs.List.{list_all}
 use Rattle.std.proofs.lemmas.List.{length-append, drop-drop, drop_at, append-nil}
 use Rattle.std.proofs.lemmas.List.Folds.{list_all-append}
-use Rattle.std.proofs.lemmas.Bool.{and_parts}
+use Rattle.std.proofs.lemmas.Bool.{and_parts, and_from}
 use Rattle.std.proofs.lemmas.Bool.Decides.{nat_tests}
 use Rattle.std.proofs.lemmas.Fmt.{length-decimal-le}
 use Rattle.idx_core.specs.declared.arith.Op.TheVariants.{Add}
@@ -136,9 +136,6 @@ alone text bytes e s = record {
   is = s.is;
 }
 
-both : (a b : Bool) → a ≡ true → b ≡ true → (a && b) ≡ true
-both a b p q = rw p q
-
 join : (a b c t : List ℕ) → (a ++ b ++ c) ++ t ≡ a ++ (b ++ (c ++ t))
 join a b c t = simp append_assoc
 
@@ -150,7 +147,7 @@ more text bytes next e f s t =
       tokens_of = s.tokens_of ++ plus ∷ t.tokens_of;
       shape = arith_piece Add s.shape t.shape;
       sum = s_plus plus.span s.sum t.product;
-      few_open = list_all-append few (open_S s.sum 0) (0 ∷ open_M t.product 0) ∙ both _ _ s.few_open t.few_open;
+      few_open = list_all-append few (open_S s.sum 0) (0 ∷ open_M t.product 0) ∙ and_from _ _ s.few_open t.few_open;
       cut = λ b r v h cut.
           let length_is : length bytes + 3 + length next ≡ length (bytes ++ codes " + " ++ next) =
           omega (arith, length-append (bytes ++ codes " + ") next, length-append bytes (codes " + ")) in

@@ -1,7 +1,7 @@
 -- A term makes, reads or assigns cells where one of its nodes does.
 use Rattle.std.proofs.Common.{◌≡◌, ◌≤◌, ◌<◌, ◌⊎◌, inl, inr, ℕ, zero, suc, ◌+◌, ◌-◌, Bool, true, false, ◌||◌}
-use Rattle.std.proofs.Common.{true≢false, List, [], ◌∷◌, map, length, get_or, refl, ap, ap₂, ◌∙◌, sym, arith, All}
-use Rattle.std.proofs.lemmas.Bool.{cases_eq}
+use Rattle.std.proofs.Common.{List, [], ◌∷◌, map, length, get_or, refl, ap, ap₂, ◌∙◌, arith, All}
+use Rattle.std.proofs.lemmas.Bool.{cases_eq, or_left, or_right}
 use Rattle.std.proofs.lemmas.List.Elements.{All-head, All-tail}
 use Rattle.calc_core.specs.Roots.{total, roots}
 use Rattle.calc_core.proofs.Once as once
@@ -67,14 +67,6 @@ none_of h (k ∷ ks) p =
     or_both (h k) (any h ks) false false (All-head (λ k. h k ≡ false) k ks p)
     (none_of h ks (All-tail (λ k. h k ≡ false) k ks p))
 
-or_left : (a b : Bool) → a ≡ true → (a || b) ≡ true
-or_left true b e = refl
-or_left false b e = absurd (true≢false (sym e))
-
-or_right : (a b : Bool) → b ≡ true → (a || b) ≡ true
-or_right true b e = refl
-or_right false b e = e
-
 one_of : (m n : ℕ) → 1 ≤ m + n → (1 ≤ m) ⊎ (1 ≤ n)
 one_of zero n h = inr (omega (arith, h))
 one_of (suc m) n h = inl (omega arith)
@@ -112,8 +104,8 @@ some_at f m h (suc b) i lb lt le =
     ap (λ e. has_cells (plain e)) (node_of f i lt)
     ∙ form_cells (node_at f) (place (at f i).span) (shape_at f i)
     ∙ elim (cases_eq i m) as (λ x. (is_of_cells (shape_at f i) || any (celled (node_at f)) ks) ≡ true) [
-      | inl e ↦ or_left (is_of_cells (shape_at f i)) (any (celled (node_at f)) ks)
-          (ap (λ k. is_of_cells (shape_at f k)) e ∙ h)
+      | inl e ↦ or_left (is_of_cells (shape_at f i)) (any (celled (node_at f)) ks) (ap (λ k.
+          is_of_cells (shape_at f k)) e ∙ h)
       | inr ne ↦ or_right (is_of_cells (shape_at f i)) (any (celled (node_at f)) ks)
           (some_of (celled (node_at f)) (times f m) ks
           (λ j d l. let k = low f i lt j d l in

@@ -1,7 +1,7 @@
 -- One form more on a stack of parts.
 use Rattle.std.proofs.Common.{◌≡◌, ℕ, ◌-◌, ◌<◌, inl, inr, length, take, drop, List, [], ◌∷◌, ◌++◌, map, refl, ap, ap₂}
 use Rattle.std.proofs.Common.{◌∙◌, sym, subst, arith, All}
-use Rattle.std.proofs.lemmas.List.{map-append, take-map, drop-map}
+use Rattle.std.proofs.lemmas.List.{map-append, take-map, drop-map, length-map}
 use Rattle.std.proofs.lemmas.List.Elements.{All-head, All-tail}
 use Rattle.calc_core.specs.Roots.{Differ, Among, without_all, roots}
 use Rattle.calc_core.proofs.Roots.{of_among, roots_low, differ_back, all_before, among_last, without_last, roots_differ}
@@ -54,15 +54,11 @@ module _ (p : FParts) (ks js : List ℕ) (h : IsStack p (ks ++ js)) where
         ∙ ap₂ (λ (xs ys : List Tm). xs ++ ys) (same_trees (part p) (part q) (size_of p) a.same ks kept)
         (ap (λ (u : Tm). u ∷ []) a.tree)
 
-pub long : (f : ℕ → Tm) (ns : List ℕ) → length (map f ns) ≡ length ns
-long f [] = refl
-long f (n ∷ ns) = omega (arith, long f ns)
-
 -- a form takes its parts from the top
 pub stacked_is : (f : ℕ → Tm) (s : Spn) (step : FStep) (ns : List ℕ) (m : ℕ) → m ≡ length ns - arity step →
     stacked s step (map f ns) ≡ map f (take m ns) ++ step_tree s step (map f (drop m ns)) ∷ []
 stacked_is f s step ns m e =
-    let e' : length (map f ns) - arity step ≡ m = omega (arith, e, long f ns) in
+    let e' : length (map f ns) - arity step ≡ m = omega (arith, e, length-map ns f) in
     ap (λ k. take k (map f ns) ++ step_tree s step (drop k (map f ns)) ∷ []) e'
     ∙ ap₂ (λ (xs ys : List Tm). xs ++ step_tree s step ys ∷ []) (take-map f m ns) (drop-map f m ns)
 
@@ -76,4 +72,4 @@ one_part p (k ∷ []) h e = (
   subst (λ xs. Among xs k) (sym h) (inl refl),
   λ j m. elim (subst (λ xs. Among xs j) h m) as (λ x. j ≡ k) [ inl x ↦ x | inr b ↦ absurd b ],
 )
-one_part p (k ∷ j ∷ ks) h e = absurd (omega (arith, e, long (part p) ks))
+one_part p (k ∷ j ∷ ks) h e = absurd (omega (arith, e, length-map ks (part p)))

@@ -2,7 +2,8 @@
 use Rattle.std.proofs.Common.{◌≡◌, ◌≤◌, ◌<◌, ℕ, zero, suc, ◌+◌, ◌-◌, List, [], ◌∷◌, ◌++◌, length, drop, get_or, refl}
 use Rattle.std.proofs.Common.{sym, ◌∙◌, ap, ap₂, append_assoc, codes, arith, subst, reverse, take}
 use Rattle.std.specs.Prelude.{Bool, true, false}
-use Rattle.std.proofs.lemmas.List.{append-nil, reverse-append, length-reverse, length-append}
+use Rattle.std.proofs.lemmas.List.{append-nil, reverse-append, length-reverse, length-append, take-append-le, take_all}
+use Rattle.std.proofs.lemmas.List.{take-append-drop, length-take-le}
 use Rattle.std.proofs.Math.ListN.{drop_of_length-le}
 use Rattle.calc_core.specs.Ends.{lift}
 use Rattle.c_terms.specs.C.{CTy}
@@ -30,34 +31,13 @@ use Rattle.idx_core.proofs.Lists.{next_item}
 
 -- ---- fronts of the names
 
-take_front : {T : Type 0} (xs ys : List T) (v : ℕ) → v ≤ length xs → take v (xs ++ ys) ≡ take v xs
-take_front xs ys zero le = refl
-take_front [] ys (suc v) le = absurd (omega arith)
-take_front (x ∷ xs) ys (suc v) le = ap (λ zs. x ∷ zs) (take_front xs ys v (omega arith))
-
-pub take_whole : {T : Type 0} (xs : List T) (v : ℕ) → length xs ≤ v → take v xs ≡ xs
-take_whole [] zero le = refl
-take_whole [] (suc v) le = refl
-take_whole (x ∷ xs) zero le = absurd (omega arith)
-take_whole (x ∷ xs) (suc v) le = ap (λ zs. x ∷ zs) (take_whole xs v (omega arith))
-
-split : {T : Type 0} (xs : List T) (v : ℕ) → take v xs ++ drop v xs ≡ xs
-split xs zero = refl
-split [] (suc v) = refl
-split (x ∷ xs) (suc v) = ap (λ zs. x ∷ zs) (split xs v)
-
-length_front : {T : Type 0} (xs : List T) (v : ℕ) → v ≤ length xs → length (take v xs) ≡ v
-length_front xs zero le = refl
-length_front [] (suc v) le = absurd (omega arith)
-length_front (x ∷ xs) (suc v) le = ap suc (length_front xs v (omega arith))
-
 -- more names change nothing
 texts_keep : (b : Bool) (ks : HBlks) (m : ℕ) (es ys : List Named) (ss : List Scope) (ts : List HTm) → Fit es m ss →
     m ≤ length es → terms_text b ks (es ++ ys) ss ts ≡ terms_text b ks es ss ts
 texts_keep b ks m es ys [] ts f le = refl
 texts_keep b ks m es ys (s ∷ ss) ts f le =
     ap₂ (λ g r. opening s ++ (term_text b ks (scope s.types g) s.types s.names s.level (top no_term ts) ++ r))
-    (take_front es ys s.names (omega (arith, f.0)))
+    (take-append-le s.names es ys (omega (arith, f.0)))
     (texts_keep b ks s.names es ys ss (others ts) f.2 (omega (arith, f.0)))
 
 fit_keep : (m n : ℕ) (es ys : List Named) (ss : List Scope) → Fit es m ss → m ≤ length es → m ≤ n →
@@ -65,7 +45,7 @@ fit_keep : (m n : ℕ) (es ys : List Named) (ss : List Scope) → Fit es m ss �
 fit_keep m n es ys [] f le mn = tt
 fit_keep m n es ys (s ∷ ss) f le mn = (
   omega (arith, f.0),
-  subst (Under s.types) (sym (take_front es ys s.names (omega (arith, f.0)))) f.1,
+  subst (Under s.types) (sym (take-append-le s.names es ys (omega (arith, f.0)))) f.1,
   fit_keep s.names s.names es ys ss f.2 (omega (arith, f.0)) (omega arith),
 )
 
@@ -73,7 +53,7 @@ fit_back : (m : ℕ) (es ys : List Named) (ss : List Scope) → Fit (es ++ ys) m
 fit_back m es ys [] f le = tt
 fit_back m es ys (s ∷ ss) f le = (
   f.0,
-  subst (Under s.types) (take_front es ys s.names (omega (arith, f.0))) f.1,
+  subst (Under s.types) (take-append-le s.names es ys (omega (arith, f.0))) f.1,
   fit_back s.names es ys ss f.2 (omega (arith, f.0)),
 )
 
@@ -81,10 +61,10 @@ fit_back m es ys (s ∷ ss) f le = (
 module _ (es kept : List Named) (s : Scope) (ss : List Scope) (cut : kept ≡ take s.names es)
     (f : Fit es (length es) (s ∷ ss)) where
   pub cut_all : length kept ≡ s.names
-  cut_all = ap length cut ∙ length_front es s.names f.0
+  cut_all = ap length cut ∙ length-take-le s.names es f.0
 
   cut_same : es ≡ kept ++ drop s.names es
-  cut_same = sym (split es s.names) ∙ ap (λ (xs : List Named). xs ++ drop s.names es) (sym cut)
+  cut_same = sym (take-append-drop s.names es) ∙ ap (λ (xs : List Named). xs ++ drop s.names es) (sym cut)
 
   cut_rest : Fit kept s.names ss
   cut_rest = fit_back s.names kept (drop s.names es) ss (subst (λ (xs : List Named). Fit xs s.names ss) cut_same f.2)
@@ -93,7 +73,7 @@ module _ (es kept : List Named) (s : Scope) (ss : List Scope) (cut : kept ≡ ta
   pub fit_cut : Fit kept (length kept) (s ∷ ss)
   fit_cut = (
     omega (arith, cut_all),
-    subst (Under s.types) (sym cut ∙ sym (take_whole kept s.names (omega (arith, cut_all)))) f.1,
+    subst (Under s.types) (sym cut ∙ sym (take_all s.names kept (omega (arith, cut_all)))) f.1,
     cut_rest,
   )
 
@@ -101,7 +81,7 @@ module _ (es kept : List Named) (s : Scope) (ss : List Scope) (cut : kept ≡ ta
       terms_text b ks kept (s ∷ ss) ts ≡ terms_text b ks es (s ∷ ss) ts
   texts_cut b ks ts =
       ap₂ (λ g r. opening s ++ (term_text b ks (scope s.types g) s.types s.names s.level (top no_term ts) ++ r))
-      (take_whole kept s.names (omega (arith, cut_all)) ∙ cut)
+      (take_all s.names kept (omega (arith, cut_all)) ∙ cut)
       (sym (ap (λ (xs : List Named). terms_text b ks xs ss (others ts)) cut_same
       ∙ texts_keep b ks s.names kept (drop s.names es) ss (others ts) cut_rest (omega (arith, cut_all))))
 
@@ -210,13 +190,13 @@ module _ (b : Bool) (ks : HBlks) (s : Scope) (f : HForm) (vs : List HVal) (es fs
   g = scope s.types es
 
   whole_es : take s.names es ≡ es
-  whole_es = take_whole es s.names (omega (arith, ready.all))
+  whole_es = take_all s.names es (omega (arith, ready.all))
 
   long : length fs ≡ s.names + 1
   long = omega (arith, ap length grown, length-append es (e ∷ []), ready.all)
 
   whole_fs : take (s.names + 1) fs ≡ fs
-  whole_fs = take_whole fs (s.names + 1) (omega (arith, long))
+  whole_fs = take_all (s.names + 1) fs (omega (arith, long))
 
   after_is : after ≡ types_after x s.types
   after_is = many ∙ more_after x s.types
@@ -473,7 +453,7 @@ writing_start b ks nodes types names es none scopes text row under long empty mo
     is = rw empty at more
 
     all : take names es ≡ es
-    all = take_whole es names (omega (arith, long))
+    all = take_all names es (omega (arith, long))
 
 module _ (b : Bool) (ks : HBlks) (nodes : List HNode) (i : ℕ) (es : List Named) (scopes : List Scope)
     (text whole : List ℕ) (h : Writing b ks nodes i es scopes text whole) where

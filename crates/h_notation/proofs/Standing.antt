@@ -3,7 +3,7 @@ use Rattle.std.proofs.Common.{◌≡◌, ◌≤◌, ◌<◌, ℕ, zero, suc, ◌
 use Rattle.std.proofs.Common.{map, Vec, Global, refl, sym, ◌∙◌, ap, ap₂, append_assoc, codes, arith, subst}
 use Rattle.std.proofs.Common.{add-one, Bool, true≢false}
 use Rattle.std.specs.Prelude.{◌==◌, true, false}
-use Rattle.std.proofs.lemmas.List.{append-nil, take_more}
+use Rattle.std.proofs.lemmas.List.{append-nil, take_more, map_push}
 use Rattle.std.proofs.Math.ListN.{drop_of_length-le}
 use Rattle.page_core.specs.Pieces.{text_at, Keeps, Stands}
 use Rattle.page_core.specs.declared.pieces.Pieces.{Pieces}
@@ -198,15 +198,11 @@ texts_snoc ts us t e = ap texts_of e ∙ here ts
     here [] = refl
     here (x ∷ xs) = ap (λ ys. x.items ∷ ys) (here xs)
 
-mapped : (f : ℕ → List ℕ) (xs : List ℕ) (x : ℕ) → map f (xs ++ x ∷ []) ≡ map f xs ++ f x ∷ []
-mapped f [] x = refl
-mapped f (y ∷ xs) x = ap (λ ys. f y ∷ ys) (mapped f xs x)
-
 pub spelled_more : (f : ℕ → List ℕ) (ts us : List (Vec ℕ Global)) (t : Vec ℕ Global) (xs : List ℕ) (i x : ℕ) →
     x ≡ get_or xs i x → i < length xs → texts_of ts ≡ map f (take i xs) → us ≡ ts ++ t ∷ [] → t.items ≡ f x →
     texts_of us ≡ map f (take (i + 1) xs)
 spelled_more f ts us t xs i x is lt h e same =
-    texts_snoc ts us t e ∙ ap₂ (λ ys s. ys ++ s ∷ []) h same ∙ sym (mapped f (take i xs) x)
+    texts_snoc ts us t e ∙ ap₂ (λ ys s. ys ++ s ∷ []) h same ∙ sym (map_push f (take i xs) x)
     ∙ sym (ap (map f) (take_more xs i x lt ∙ ap (λ y. take i xs ++ y ∷ []) (sym is)))
 
 -- an item that is there, whatever stands for one that is not

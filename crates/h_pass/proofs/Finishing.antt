@@ -1,7 +1,7 @@
 -- The walk along a whole program.
-use Rattle.std.proofs.Common.{◌≡◌, List, [], ◌∷◌, None, sym, ap, ◌∙◌, subst, subst₂, length, refl, arith}
+use Rattle.std.proofs.Common.{◌≡◌, List, [], ◌∷◌, None, sym, ap, ◌∙◌, subst, subst₂, length}
 use Rattle.std.proofs.Math.Logic.{∥∥₁_map}
-use Rattle.std.proofs.lemmas.List.{append-nil}
+use Rattle.std.proofs.lemmas.List.{append-nil, nil_from_length}
 use Rattle.c_terms.specs.Stream as S
 use Rattle.c_terms.specs.declared.node.CNode.{CNode}
 use Rattle.h_terms.specs.declared.node.HBlock.{HBlock}
@@ -24,10 +24,6 @@ use Rattle.h_pass.specs.Walk.{Ends, Goes, Steps, Walked, program_of}
 fine_of : (t : CTm) (ns : List CNode) → hoisted (clin_t 0 t []) ≡ whole t → written ns [] ≡ clin_t 0 t [] →
     IsFine (written ns [])
 fine_of t ns kept read = ap (λ (r : Found). r.fine) (ap hoisted read ∙ kept)
-
-ended : (ns : List CNode) → length ns ≡ 0 → ns ≡ []
-ended [] h = refl
-ended (n ∷ ns) h = absurd (omega (arith, h))
 
 program_is : (t : CTm) (ns : List CNode) → hoisted (clin_t 0 t []) ≡ whole t → written ns [] ≡ clin_t 0 t [] →
     program_of (written ns []) ≡ (blocks_of t, main_of t)
@@ -52,7 +48,8 @@ pub hoisted_whole : (t : CTm) (rest : List CNode) (w v : Walk) → length rest �
     Walked w (written rest []) (blocks_of t, main_of t) → v.current.call ≡ None →
     ((rest : List S.CNd) → Ends rest → Goes w rest v rest) →
     Whole v.blocks.items v.current.nodes.items (blocks_of t, main_of t)
-hoisted_whole t rest w v past st none goes = at_end w v rest (blocks_of t, main_of t) (ended rest past) st none goes
+hoisted_whole t rest w v past st none goes = at_end w v rest (blocks_of t, main_of t) (nil_from_length rest past) st
+    none goes
 
 pub bound_of : (t : CTm) (bs : List HBlock) (ns : List HNode) → Whole bs ns (blocks_of t, main_of t) →
     (CBound t → HBound (blocks_of t) (main_of t)) → ∥ CBound t ∥₁ → ∥ HBound (h_blocks bs) (h_tree ns) ∥₁

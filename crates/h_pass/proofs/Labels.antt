@@ -2,6 +2,7 @@
 use Rattle.std.proofs.Common.{◌≡◌, ◌<◌, ◌≤◌, ◌+◌, ◌-◌, ◌⊎◌, inl, inr, ℕ, zero, suc, [], ◌∷◌, List, Option, Some, None}
 use Rattle.std.proofs.Common.{Bool, true}
 use Rattle.std.proofs.Common.{false, refl, sym, ap, ◌∙◌, subst, arith, nat_lt, ltb-true, ltb-false}
+use Rattle.std.proofs.lemmas.Option.{same_Some}
 use Rattle.c_terms.specs.C.{CCode, CTm, CVal, ccount}
 use Rattle.h_terms.specs.H.{HBlk, HBlks, block_at}
 use Rattle.h_pass.proofs.PutsBack.{first_at, later_at}
@@ -29,13 +30,6 @@ body_of ks l k = back_t (Code l) (ccount k.args) (from ks (suc l)) k.body
 abbrev pub code_of : HBlks → ℕ → HBlk → CVal
 code_of ks l k = CCode k.owes k.args (body_of ks l k)
 
-some_same : {T : Type 0} (x y : T) → Some x ≡ Some y → x ≡ y
-some_same x y e = ap (value_or x) e
-  where
-    value_or : {T : Type 0} → T → Option T → T
-    value_or d None = d
-    value_or d (Some z) = z
-
 not_some : {T : Type 0} (x : T) → None ≡ Some x → ⊥
 not_some x e = subst empty e tt
   where
@@ -53,7 +47,7 @@ tail (k ∷ ks) = ks
 
 pub rest_here : (ks : HBlks) (b : ℕ) (k : HBlk) → block_at ks b ≡ Some k → rest b ks ≡ k ∷ rest (suc b) ks
 rest_here [] b k e = absurd (not_some k e)
-rest_here (x ∷ ks) zero k e = ap (λ y. y ∷ ks) (some_same x k e)
+rest_here (x ∷ ks) zero k e = ap (λ y. y ∷ ks) (same_Some x k e)
 rest_here (x ∷ ks) (suc b) k e = rest_here ks b k e
 
 -- the first block of those from b on

@@ -1,6 +1,7 @@
 -- A program that is cut at the place of its first fault is accepted.
 use Rattle.std.proofs.Common.{◌≡◌, ℕ, List, [], ◌∷◌, ◌++◌, inl, inr, refl, sym, subst, Bool, true, false}
 use Rattle.std.proofs.Common.{◌||◌, if◌then◌else◌}
+use Rattle.std.proofs.lemmas.Bool.{or_right, or_left}
 use Rattle.idx_core.specs.declared.span.Span.{Span}
 use Rattle.t_types.specs.Tree.{IntTy}
 use Rattle.t_types.specs.Fits.{RegTypes, lookup}
@@ -14,7 +15,7 @@ use Rattle.t_rules.specs.Faults.{Note, BodyFaultWith, BlocksFaultWith, FirstBloc
 use Rattle.listing.specs.Before.{is_at, in_first, in_body, in_block, is_before_blocks, steps_to}
 use Rattle.listing.specs.Cut.{way_out, cut_block, way_outs, cut_blocks, cut}
 use Rattle.listing.specs.CutLaws.{CutIsAccepted}
-use Rattle.listing.proofs.Places.{at_instr, at_end, at_itself, or_left, or_right, in_tuples}
+use Rattle.listing.proofs.Places.{at_instr, at_end, at_itself, in_tuples}
 use Rattle.listing.proofs.Moving.{Labels, Tuples, instr_moved, block_moved, heap_moved, labels_alike, alike_cut}
 
 -- the way out is typed whatever is known

@@ -7,6 +7,7 @@ use Rattle.std.proofs.Common.{append_assoc, add-one, drop-cons, take}
 use Rattle.std.specs.Bool.{MatchBool}
 use Rattle.std.proofs.lemmas.List.{append-nil}
 use Rattle.std.proofs.Math.ListN.{drop_of_length-le}
+use Rattle.std.proofs.lemmas.Bool.{or_right}
 use Rattle.idx_core.specs.declared.span.Span.{Span}
 use Rattle.t_types.specs.Fits.{RegTypes, lookup}
 use Rattle.t_terms.specs.declared.block.Block.{Block}
@@ -19,7 +20,7 @@ use Rattle.listing.specs.Before.{is_at, in_body, in_block, steps_to, is_before_b
 use Rattle.listing.specs.Cut.{way_out, cut_block, way_outs, cut_blocks, cut}
 use Rattle.listing.specs.CutLaws.{KnownBefore}
 use Rattle.listing.specs.Steps.{IsCount}
-use Rattle.listing.proofs.Places.{at_itself, or_right}
+use Rattle.listing.proofs.Places.{at_itself}
 use Rattle.listing.specs.Listing.{IsFileRow, IsSetRow, AreSteps, IsLastRow, IsBegun, IsBlock, set_by, text_row}
 use Rattle.listing.specs.Listing.{label_end}
 use Rattle.listing.specs.Begun.{AreBlocksTo, IsListingTo}

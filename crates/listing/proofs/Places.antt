@@ -1,8 +1,8 @@
 -- A fault of typing stands at the place of the part that it is a fault of.
-use Rattle.std.proofs.Common.{◌≡◌, ℕ, List, [], ◌∷◌, Bool, true, false, ◌||◌, inl, inr, Option, Some, None, refl}
+use Rattle.std.proofs.Common.{◌≡◌, ℕ, List, [], ◌∷◌, Bool, true, inl, inr, Option, Some, None, refl}
 use Rattle.std.proofs.Common.{sym}
 use Rattle.std.proofs.Common.{subst}
-use Rattle.std.proofs.lemmas.Bool.{eq-eqb}
+use Rattle.std.proofs.lemmas.Bool.{eq-eqb, or_right, or_left}
 use Rattle.idx_core.specs.declared.span.Span.{Span}
 use Rattle.text_core.specs.Refusals.{nothing, refuse, check, part, if_known}
 use Rattle.t_types.specs.Tree.{Ty, IntTy, VarTy, CodeTy, ExistsTy, TupleTy, TFile, NoRegs, MoreRegs, TFields}
@@ -128,14 +128,6 @@ module _ (P : TProg) where
 -- what has a span stands there
 pub at_itself : (p s : Span) → p ≡ s → is_at p s ≡ true
 at_itself p s e = subst (λ q. is_at q s ≡ true) (sym e) (rw (eq-eqb s.start s.start refl, eq-eqb s.end s.end refl) refl)
-
-pub or_right : (a b : Bool) → b ≡ true → (a || b) ≡ true
-or_right true b e = refl
-or_right false b e = e
-
-pub or_left : (a b : Bool) → a ≡ true → (a || b) ≡ true
-or_left true b e = refl
-or_left false b e = absurd (cc)
 
 -- a fault of data stands at a field of theirs
 module _ (P : TProg) where

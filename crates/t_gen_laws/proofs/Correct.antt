@@ -3,6 +3,7 @@ use Rattle.std.proofs.Common.{◌≡◌, ℕ, zero, suc, ◌+◌, ◌<◌, ◌�
 use Rattle.std.proofs.Common.{sym, ap, ap₂, ◌∙◌, subst, arith, ⊎_elim, ◌⊎◌, inl, inr, slice_get}
 use Rattle.std.specs.Prelude.{ℤ, option_map, map}
 use Rattle.std.proofs.lemmas.Bool.{cases_eq, cases_order, eq-eqb, ne_eqb}
+use Rattle.std.proofs.lemmas.Option.{slice_get_within}
 use Rattle.a_terms.specs.Tree.{ATm, ABlk, AConsts, AProg, AVal}
 use Rattle.a_terms.specs.Meaning.{AWord, Result, Halted, Spent, Wrong, datum, start_heap, meaning, NeverWrong}
 use Rattle.a_terms.specs.Bound.{thirds}
@@ -216,20 +217,12 @@ first_apart (c ∷ bs) at zero (suc j) b e x =
     let y : c ≡ b = cc in let r = first_least bs (at + thirds c.body) j in omega (arith, r, ap (λ q. thirds q.body) y)
 first_apart (c ∷ bs) at (suc l) (suc j) b e x = first_apart bs (at + thirds c.body) l j b e (omega arith)
 
-within_blocks : (bs : List ABlk) (l : ℕ) (b : ABlk) → slice_get bs l ≡ Some b → l < length bs
-within_blocks [] l b e = absurd (impossible e)
-  where
-    impossible : None ≡ Some b → ⊥
-    impossible x = cc
-within_blocks (c ∷ bs) zero b e = omega arith
-within_blocks (c ∷ bs) (suc l) b e = let r = within_blocks bs l b e in omega (arith, r)
-
 module _ (bs : List ABlk) (at k l : ℕ) (b : ABlk) (past : length bs < at) (m : MadeOf bs at k l b) where
   share_here : share bs at k l ≤ 1
   share_here =
       let s : share bs at k l ≡ one (k == suc l) + spare k (first_of bs at l) (thirds b.body) =
       ap (share_of k l (first_of bs at l)) m.there in
-      let w = within_blocks bs l b m.there in
+      let w = slice_get_within bs l b m.there in
       let f = first_least bs at l in
       ⊎_elim
       (λ e. let z : one (k == suc l) ≡ 1 = ap one (eq-eqb k (suc l) e) in
@@ -241,8 +234,8 @@ module _ (bs : List ABlk) (at k l : ℕ) (b : ABlk) (past : length bs < at) (m :
   share_none : (j : ℕ) (o : Option ABlk) → slice_get bs j ≡ o → (l ≡ j → ⊥) → share_of k j (first_of bs at j) o ≡ 0
   share_none j None e ne = refl
   share_none j (Some c) e ne =
-      let w = within_blocks bs l b m.there in
-      let v = within_blocks bs j c e in
+      let w = slice_get_within bs l b m.there in
+      let v = slice_get_within bs j c e in
       let f = first_least bs at j in
       let g = first_least bs at l in
       let no : k ≡ suc j → ⊥ = λ x. ⊎_elim (λ y. ne (omega arith)) (λ y. absurd (omega arith)) m.own in
@@ -270,7 +263,7 @@ module _ (bs : List ABlk) (at k l : ℕ) (b : ABlk) (past : length bs < at) (m :
 
   own_far : (n t : ℕ) → n ≡ suc (length bs) → at ≡ n + t → spare k n t ≡ 0
   own_far n t e q =
-      let w = within_blocks bs l b m.there in
+      let w = slice_get_within bs l b m.there in
       let g = first_least bs at l in
       spare_out k n t (⊎_elim (λ y. inl (omega arith)) (λ y. inr (omega arith)) m.own)
 
@@ -279,7 +272,7 @@ module _ (bs : List ABlk) (at k : ℕ) (past : length bs < k) (before : k < at) 
   share_far : (j : ℕ) (o : Option ABlk) → slice_get bs j ≡ o → share_of k j (first_of bs at j) o ≡ 0
   share_far j None e = refl
   share_far j (Some c) e =
-      let v = within_blocks bs j c e in
+      let v = slice_get_within bs j c e in
       let f = first_least bs at j in
       let z : one (k == suc j) ≡ 0 = ap one (ne_eqb k (suc j) (λ x. absurd (omega arith))) in
       let r = spare_out k (first_of bs at j) (thirds c.body) (inl (omega arith)) in

@@ -3,7 +3,7 @@ use Rattle.std.proofs.Common.{◌≡◌, ℕ, zero, suc, ◌+◌, ◌<◌, ◌�
 use Rattle.std.proofs.Common.{sym, ap, ◌∙◌, subst, arith, cond, slice_get, inl, ⊎_elim}
 use Rattle.std.specs.Prelude.{◌≢◌, ◌==◌, nat_lt, option_map, Bool, true, false}
 use Rattle.std.proofs.lemmas.Bool.{eq-eqb, ne_eqb, eqb-true, cond_both, cond-true, cases_eq}
-use Rattle.std.proofs.lemmas.Option.{slice_get-map}
+use Rattle.std.proofs.lemmas.Option.{slice_get-map, slice_get_within}
 use Rattle.idx_core.specs.Over.{shifted}
 use Rattle.a_terms.specs.Tree.{ATy, ATys, NoATys, MoreATys, ashift, arity}
 use Rattle.a_terms.specs.Typing.{types_of}
@@ -200,14 +200,9 @@ header_only (q ∷ m) (x ∷ g) u r s e =
     (cases_eq r q))
     (λ c y. more y) e
 
-within : (g : List ATy) (n : ℕ) (t : ATy) → slice_get g n ≡ Some t → n < length g
-within [] n t e = cc
-within (x ∷ g) zero t e = omega arith
-within (x ∷ g) (suc n) t e = let r = within g n t e in omega (arith, r)
-
 pub in_scope : (m : List ℕ) (g : List ATy) (u : ℕ → Bool) (n : ℕ) (t : ATy) → Apart m g u → slice_get g n ≡ Some t →
     n < length m
-in_scope m g u n t a e = let w = within g n t e in omega (arith, w, a.same)
+in_scope m g u n t a e = let w = slice_get_within g n t e in omega (arith, w, a.same)
 
 pub live_header : (m : List ℕ) (g : List ATy) (u : ℕ → Bool) → Apart m g u →
     Live (lookup (header u m g)) m g (over m u) u

@@ -3,7 +3,7 @@ use Rattle.std.proofs.Common.{◌≡◌, ◌≢◌, ℕ, ◌+◌, ◌<◌, ◌�
 use Rattle.std.proofs.Common.{Bool, true, false, not, ◌||◌, if◌then◌else◌, arith, zero-add, Option, Some, None}
 use Rattle.std.specs.Prelude.{nat_eq, nat_lt, bytes_eq, is_none}
 use Rattle.std.specs.List.{list_any}
-use Rattle.std.proofs.lemmas.Bool.{eq-eqb, ltb-true, ltb-false}
+use Rattle.std.proofs.lemmas.Bool.{eq-eqb, ltb-true, ltb-false, not-false}
 use Rattle.idx_core.specs.declared.span.Span.{Span}
 use Rattle.idx_core.specs.Names.{Name}
 use Rattle.t_types.specs.Tree.{Ty, TFile, NoRegs, MoreRegs}
@@ -48,10 +48,6 @@ none_right (x ∷ u) v e = absurd (cc)
 no_fault : (b : Bool) (c : TCode) (s : Span) → only_if b c s ≡ [] → b ≡ false
 no_fault true c s e = absurd (cc)
 no_fault false c s e = refl
-
-not_not : (b : Bool) → not b ≡ false → b ≡ true
-not_not true e = refl
-not_not false e = absurd (cc)
 
 place_within : (x : Name) (ns : List Name) → is_among x ns ≡ true → place_of x ns < length ns
 place_within x [] e = absurd (cc)
@@ -119,7 +115,7 @@ mutual
   well_type text a RInt h e = tt
   well_type text a (RName s) h e =
       place_within (spelled text s) a
-      (not_not (is_among (spelled text s) a) (no_fault (not (is_among (spelled text s) a)) T06 s e))
+      (not-false (is_among (spelled text s) a) (no_fault (not (is_among (spelled text s) a)) T06 s e))
   well_type text a (RCode ns rs) h e =
       let l = bind_length text ns a in (
         h.0,

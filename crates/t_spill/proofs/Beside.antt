@@ -2,6 +2,7 @@
 use Rattle.std.proofs.Common.{◌≡◌, ℕ, ◌≤◌, ◌<◌, List, ◌++◌, refl, sym, ap, ap₂, ◌∙◌, subst, drop, length, true, arith}
 use Rattle.std.proofs.Common.{cond, nat_eq}
 use Rattle.std.proofs.Math.Path.{fun_ext}
+use Rattle.std.proofs.lemmas.List.{append_assoc}
 use Rattle.t_types.specs.Tree.{TFile}
 use Rattle.t_types.specs.Read.{file}
 use Rattle.t_types.specs.declared.types.TType.{TType}
@@ -20,17 +21,17 @@ use Rattle.t_spill.specs.Ready.{Ready}
 use Rattle.t_spill.specs.Wants.{Tells}
 use Rattle.t_spill.specs.declared.stepping.Walk.{Walk}
 use Rattle.t_spill.proofs.Knowing.{target_alone}
-use Rattle.t_spill.proofs.Onward.{drop_front, grouped, length_front, reads_agree, next_agrees, given_alike, homed_next}
+use Rattle.t_spill.proofs.Onward.{drop_front, length_front, reads_agree, next_agrees, given_alike, homed_next}
 use Rattle.t_spill.proofs.Picked.{high_listed}
 
 -- registers that are passed
 pub passed_front : (rs ns ws : List ℕ) (n : ℕ) → n ≡ length rs → drop n (rs ++ ns ++ ws) ≡ ns ++ ws
-passed_front rs ns ws n e = ap (drop n) (grouped rs ns ws) ∙ drop_front rs (ns ++ ws) n e
+passed_front rs ns ws n e = ap (drop n) (append_assoc rs ns ws) ∙ drop_front rs (ns ++ ws) n e
 
 pub front_within : (rs ns ws : List ℕ) (n : ℕ) → n ≡ length rs → n ≤ length (rs ++ ns ++ ws)
 front_within rs ns ws n e =
     let a = length_front rs (ns ++ ws) in
-    let g = ap (λ (zs : List ℕ). length zs) (grouped rs ns ws) in
+    let g = ap (λ (zs : List ℕ). length zs) (append_assoc rs ns ws) in
     omega (arith, a, g, e)
 
 -- what is ready is well formed

@@ -31,10 +31,6 @@ drop_front [] ys (suc n) e = absurd (omega (arith, e))
 drop_front (x ∷ xs) ys zero e = absurd (omega (arith, e))
 drop_front (x ∷ xs) ys (suc n) e = drop_front xs ys n (omega (arith, e))
 
-pub grouped : (xs ys zs : List ℕ) → xs ++ ys ++ zs ≡ xs ++ (ys ++ zs)
-grouped [] ys zs = refl
-grouped (x ∷ xs) ys zs = ap (λ (ws : List ℕ). x ∷ ws) (grouped xs ys zs)
-
 pub length_front : (xs ys : List ℕ) → length xs ≤ length (xs ++ ys)
 length_front [] ys = omega arith
 length_front (x ∷ xs) ys = let a = length_front xs ys in omega (arith, a)

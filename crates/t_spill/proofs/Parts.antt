@@ -14,7 +14,7 @@ use Rattle.t_spill_rules.specs.Spill.{sp_block, sp_blocks, sp_datum, sp_data, en
 use Rattle.t_spill_code.specs.Onto.{ValueFits}
 use Rattle.t_spill.specs.Ready.{BlockReady, BlocksReady, DataReady, HeapReady}
 use Rattle.t_terms.proofs.Items.{blocks_more}
-use Rattle.std.proofs.lemmas.List.{append-nil as no_more}
+use Rattle.std.proofs.lemmas.List.{append-nil as no_more, take_all}
 
 -- blocks
 blocks_suc : (m : ℕ) (P : TProg) (bs : List Block) (i : ℕ) (b : Block) → i < length bs → b ≡ get_or bs i b →
@@ -83,16 +83,10 @@ spilled_are : (m : ℕ) (xs : List (Value × TType × Span)) → sp_data m (plai
 spilled_are m [] = refl
 spilled_are m (x ∷ xs) = ap (λ (ys : TData). spilled_field m x ∷ ys) (spilled_are m xs)
 
-take_more : (xs : List (Value × TType × Span)) (n : ℕ) → length xs ≤ n → take n xs ≡ xs
-take_more [] zero le = refl
-take_more [] (suc n) le = refl
-take_more (x ∷ xs) zero le = absurd (omega arith)
-take_more (x ∷ xs) (suc n) le = ap (λ (ys : List (Value × TType × Span)). x ∷ ys) (take_more xs n (omega arith))
-
 pub all_fields : (m : ℕ) (ys xs : List (Value × TType × Span)) (n : ℕ) → map plain_field ys ≡ map (spilled_field m)
     (take n xs) → length xs ≤ n → plain_fields (data_items ys) ≡ sp_data m (plain_fields (data_items xs))
 all_fields m ys xs n done le = plain_are ys ∙ done
-    ∙ ap (λ (zs : List (Value × TType × Span)). map (spilled_field m) zs) (take_more xs n le) ∙ sym (spilled_are m xs)
+    ∙ ap (λ (zs : List (Value × TType × Span)). map (spilled_field m) zs) (take_all n xs le) ∙ sym (spilled_are m xs)
 
 pub field_ready : (xs : List (Value × TType × Span)) (i : ℕ) (x : Value × TType × Span) → i < length xs → x
     ≡ get_or xs i x → DataReady (plain_fields (data_items xs)) → ValueFits (value x.0)
@@ -115,16 +109,10 @@ spilled_tuples_are : (m : ℕ) (xs : List Data) → map (sp_data m) (data_of xs)
 spilled_tuples_are m [] = refl
 spilled_tuples_are m (x ∷ xs) = ap (λ (ys : List TData). spilled_tuple m x ∷ ys) (spilled_tuples_are m xs)
 
-take_tuples : (xs : List Data) (n : ℕ) → length xs ≤ n → take n xs ≡ xs
-take_tuples [] zero le = refl
-take_tuples [] (suc n) le = refl
-take_tuples (x ∷ xs) zero le = absurd (omega arith)
-take_tuples (x ∷ xs) (suc n) le = ap (λ (ys : List Data). x ∷ ys) (take_tuples xs n (omega arith))
-
 pub all_tuples : (m : ℕ) (ys xs : List Data) (n : ℕ) → map plain_tuple ys ≡ map (spilled_tuple m) (take n xs) →
     length xs ≤ n → data_of ys ≡ map (sp_data m) (data_of xs)
 all_tuples m ys xs n done le = tuples_are ys ∙ done ∙ ap (λ (zs : List Data). map (spilled_tuple m) zs)
-    (take_tuples xs n le) ∙ sym (spilled_tuples_are m xs)
+    (take_all n xs le) ∙ sym (spilled_tuples_are m xs)
 
 pub tuple_ready : (xs : List Data) (i : ℕ) (x : Data) → i < length xs → x ≡ get_or xs i x → HeapReady (data_of xs) →
     DataReady (plain_tuple x)

@@ -3,6 +3,7 @@ use Rattle.std.proofs.Common.{◌≡◌, ℕ, ◌<◌, ◌≤◌, cond, Bool, tr
 use Rattle.std.proofs.Common.{arith, nat_eq, nat_lt, Option, Some, None, inl, inr}
 use Rattle.std.proofs.Math.Logic.{⊎_elim}
 use Rattle.std.proofs.lemmas.Bool.{cases_eq, cases_lt, eq-eqb, ne_eqb, lt-ltb, le-ltb}
+use Rattle.std.proofs.lemmas.Option.{same_Some}
 use Rattle.t_types.specs.Tree.{Ty, TFile, NoRegs, MoreRegs}
 use Rattle.t_types.specs.Fits.{lookup}
 use Rattle.t_types.specs.Read.{tree, file}
@@ -30,9 +31,6 @@ look_first r t x = ap (λ b. cond b (Some t) (lookup x r)) (eq-eqb r r refl)
 look_past : (r q : ℕ) (t : Ty) (x : TFile) → (r ≡ q → ⊥) → lookup (MoreRegs r t x) q ≡ lookup x q
 look_past r q t x ne = ap (λ b. cond b (Some t) (lookup x q)) (ne_eqb r q ne)
 
-some_same : (t u : Ty) → Some t ≡ Some u → t ≡ u
-some_same t u e = cc
-
 pub same_file : (x z : TFile) → Ascends x → Ascends z → ((r : ℕ) → lookup x r ≡ lookup z r) → x ≡ z
 same_file NoRegs NoRegs a b e = refl
 same_file NoRegs (MoreRegs q u z) a b e = let no : None ≡ Some u = e q ∙ look_first q u z in cc
@@ -53,7 +51,7 @@ same_file (MoreRegs r t x) (MoreRegs q u z) a b e =
         let no : Some t ≡ None = sym (look_first r t x) ∙ e r
         ∙ none_below r (MoreRegs q u z) r (lt, b) (omega arith) in cc
     go f (inr (inl is)) =
-        let same : t ≡ u = some_same t u (sym (look_first r t x) ∙ e r ∙ ap (lookup (MoreRegs q u z)) is
+        let same : t ≡ u = same_Some t u (sym (look_first r t x) ∙ e r ∙ ap (lookup (MoreRegs q u z)) is
         ∙ look_first q u z) in
         ap₂ (λ p v. MoreRegs p v x) is same ∙ ap (MoreRegs q u) (f is)
     go f (inr (inr gt)) =

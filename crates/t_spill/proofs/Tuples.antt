@@ -2,7 +2,7 @@
 use Rattle.std.proofs.Common.{◌≡◌, ℕ, zero, suc, ◌+◌, ◌<◌, ◌≤◌, ◌==◌, Bool, false, List, [], ◌∷◌, ◌++◌, map}
 use Rattle.std.proofs.Common.{refl, sym, ap, ap₂, ◌∙◌, take, drop, length, get_or, arith}
 use Rattle.std.specs.Prelude.{◌||◌}
-use Rattle.std.proofs.lemmas.List.{take_all, drop_all}
+use Rattle.std.proofs.lemmas.List.{take_all, drop_all, append-nil}
 use Rattle.std.proofs.lemmas.Bool.{ne_eqb, eq-eqb}
 use Rattle.t_types.specs.declared.types.TType.{TType}
 use Rattle.t_types.specs.Tree.{Ty, IntTy, MoreFields, flagged}
@@ -52,15 +52,11 @@ pub made_filled : (ys xs : List (TType × Bool)) (i : ℕ) → map flag ys ≡ m
 made_filled ys xs i e =
     let z : i ≡ 0 + i = omega arith in ap flagged e ∙ ap (λ k. flagged (marked xs 0 k)) z ∙ marks xs 0 i
 
-no_more : (xs : List (Ty × Bool)) → xs ++ [] ≡ xs
-no_more [] = refl
-no_more (x ∷ xs) = ap (λ (ys : List (Ty × Bool)). x ∷ ys) (no_more xs)
-
 pub fill_done : (ys xs : List (TType × Bool)) (j i : ℕ) → map flag ys ++ marked (drop j xs) j i ≡ marked xs 0 i →
     length xs ≤ j → fields ys ≡ filled (fields xs) i
 fill_done ys xs j i e all =
     made_filled ys xs i
-    (sym (no_more (map flag ys))
+    (sym (append-nil (map flag ys))
     ∙ ap (λ (zs : List (TType × Bool)). map flag ys ++ marked zs j i) (sym (drop_all j xs all)) ∙ e)
 
 mark_suc : (xs : List (TType × Bool)) (k j i : ℕ) (d : TType × Bool) → k < length xs →

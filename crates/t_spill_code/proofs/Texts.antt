@@ -1,5 +1,6 @@
 -- The code of a block so far: a slot more, and no slot more.
 use Rattle.std.proofs.Common.{◌≡◌, ℕ, suc, List, [], ◌∷◌, ◌++◌, refl, sym, ap, ap₂, ◌∙◌, length, arith}
+use Rattle.std.proofs.lemmas.List.{append-nil}
 use Rattle.idx_core.specs.declared.span.Span.{Span}
 use Rattle.t_types.specs.declared.types.TType.{TType}
 use Rattle.t_types.specs.Tree.{Ty}
@@ -41,10 +42,6 @@ first_filled m done tail done2 tail2 [] ts2 t z d s o more rest =
     ∙ ap (λ r. onto done (onto tail (Then (Malloc (slot_reg m) (tree t ∷ more)) r))) (o rest)
 first_filled m done tail done2 tail2 (u ∷ ts) ts2 t z d s o more rest = absurd (omega (arith, z))
 
-no_more : (ts : List Ty) → ts ++ [] ≡ ts
-no_more [] = refl
-no_more (t ∷ ts) = ap (λ (us : List Ty). t ∷ us) (no_more ts)
-
 pub none_filled : (m : ℕ) (done tail : List (Instr × Span)) (ts : List TType) (more : List Ty) (rest : TSeq) →
     length ts ≡ 0 → onto done (onto tail rest) ≡ whole m done ts tail more rest
 none_filled m done tail [] more rest z = refl
@@ -57,7 +54,7 @@ slots_made m done tail made [] some h rest = absurd (some refl)
 slots_made m done tail made (u ∷ ts) some h rest =
     h (onto tail rest)
     ∙ ap (λ (us : List Ty). onto done (Then (Malloc (slot_reg m) (tree u ∷ us)) (onto tail rest)))
-    (sym (no_more (types ts)))
+    (sym (append-nil (types ts)))
 
 -- all that is done, and nothing behind it
 pub closed : (m : ℕ) (done tail done2 tail2 : List (Instr × Span)) (ts2 : List TType) (all : TSeq → TSeq) →

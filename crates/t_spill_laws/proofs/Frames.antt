@@ -4,7 +4,8 @@ use Rattle.std.proofs.Common.{◌++◌, length, Some, refl, sym, ap, ◌∙◌, 
 use Rattle.std.proofs.Common.{◌⊎◌, ⊎_elim}
 use Rattle.std.specs.Prelude.{◌≢◌, replicate}
 use Rattle.std.proofs.lemmas.Bool.{cases_lt, cases_eq, lt-ltb, le-ltb}
-use Rattle.std.proofs.lemmas.Option.{slice_get_within}
+use Rattle.std.proofs.lemmas.Option.{slice_get_within, same_Some}
+use Rattle.std.proofs.lemmas.List.{length-replicate}
 use Rattle.t_types.specs.Tree.{Ty, TFile, NoRegs, MoreRegs}
 use Rattle.t_types.specs.Fits.{FitsFile, RegTypes, lookup}
 use Rattle.t_terms.specs.Tree.{Reg}
@@ -37,10 +38,6 @@ fits_at g (MoreRegs r u y) q t h e = go (cases_eq r q) (λ k. fits_at g y q t h.
     go (inl same) f = (h.0.0, ap g (sym same) ∙ h.0.1)
     go (inr ne) f = f (sym (look_other (lookup y) r q u (λ z. ne (sym z))) ∙ e)
 
-fill_length : {A : Type 0} (n : ℕ) (x : A) → length (replicate n x) ≡ n
-fill_length zero x = refl
-fill_length (suc n) x = ap suc (fill_length n x)
-
 -- a tuple that stands for none of the program's is written
 pub heaps_beside : (p : List ℕ) (h : Heap) (K : EHeap) (g : ℕ) (ws : List EWord) → Heaps p h K →
     ((a : ℕ) → slice_get p a ≡ Some g → ⊥) → Heaps p h (slice_set K g ws)
@@ -55,9 +52,6 @@ heaps_beside p h K g ws s out = record {
 
 same_address : {a b : ℕ} → Some (EAddress a) ≡ Some (EAddress b) → a ≡ b
 same_address e = cc
-
-same_words : {a b : List EWord} → Some a ≡ Some b → a ≡ b
-same_words e = cc
 
 module _ (m : ℕ) where
   -- a register's word, and its image at a home
@@ -398,7 +392,7 @@ module _ (m : ℕ) where
         (look_same ρ (slot_reg m) (EAddress (length K))) (get_end K (EEmpty ∷ R) []) three (omega arith)
         ∙ ap (λ z. Some (EGoes Next (EAt z σ k))) (set_end K (EEmpty ∷ R) gw []) in
         let below = slice_get_within K a.f a.fw a.at in
-        let len = fill_length n EEmpty in
+        let len = length-replicate n EEmpty in
         record {
           heap = K ++ ((a.mine.eword ∷ replicate n EEmpty) ∷ []);
           regs = σ;
@@ -448,7 +442,7 @@ module _ (m : ℕ) where
         (h.0, h.1, h.2, set_other K g h.0 (slice_set gw (suc j) v) (λ z. far (sym z ∙ same)) ∙ h.3, h.4)
     home_next p K ρ f j g q gw v e (InSlot i) one two at far so h =
         let same : h.0 ≡ g = same_address (sym h.2 ∙ two) in
-        let words : h.1 ≡ gw = same_words (sym h.3 ∙ ap (slice_get K) same ∙ at) in
+        let words : h.1 ≡ gw = same_Some _ _ (sym h.3 ∙ ap (slice_get K) same ∙ at) in
         let lt = so.1 in (
           g,
           slice_set gw (suc j) v,

@@ -1,6 +1,7 @@
 -- A walk over a body, entry by entry.
-use Rattle.std.proofs.Common.{◌≡◌, ℕ, zero, suc, ◌+◌, ◌<◌, ◌≤◌, List, [], ◌∷◌, ◌++◌, length, get_or, drop, refl, sym}
+use Rattle.std.proofs.Common.{◌≡◌, ℕ, ◌+◌, ◌<◌, ◌≤◌, List, [], ◌∷◌, ◌++◌, length, get_or, drop, refl, sym}
 use Rattle.std.proofs.Common.{ap, ap₂, ◌∙◌, subst, arith, drop-cons, add-one, append_assoc, ◌↔◌}
+use Rattle.std.proofs.lemmas.List.{drop_all}
 use Rattle.idx_core.specs.Over.{At, BelowAt, AnyDepth}
 use Rattle.idx_core.specs.declared.span.Span.{Span}
 use Rattle.t_types.specs.Tree.{Ty}
@@ -15,12 +16,6 @@ pub rest_is : (xs : List (Instr × Span)) (i : ℕ) (x : Instr × Span) → x �
     drop i xs ≡ x ∷ drop (i + 1) xs
 rest_is xs i x is lt =
     drop-cons xs i x lt ∙ ap₂ (λ (y : Instr × Span) (n : ℕ). y ∷ drop n xs) (sym is) (sym (add-one i))
-
-drop_end : (xs : List (Instr × Span)) (i : ℕ) → length xs ≤ i → drop i xs ≡ []
-drop_end [] zero le = refl
-drop_end [] (suc i) le = refl
-drop_end (x ∷ xs) zero le = absurd (omega arith)
-drop_end (x ∷ xs) (suc i) le = drop_end xs i (omega arith)
 
 pub body_push : (ys : List (Instr × Span)) (y : Instr × Span) →
     body (ys ++ (y ∷ [])) ≡ body ys ++ ((instr y.0, y.1) ∷ [])
@@ -46,7 +41,7 @@ module _ (f : At Ty) where
   pub walk_done : (start : ℕ) (xs made : List (Instr × Span)) (i depth : ℕ) → length xs ≤ i →
       Walk start xs made i depth → body made ≡ over_body f start (body xs)
   walk_done start xs made i depth all h =
-      sym (h ∙ ap (λ (zs : List (Instr × Span)). body made ++ over_body f depth (body zs)) (drop_end xs i all)
+      sym (h ∙ ap (λ (zs : List (Instr × Span)). body made ++ over_body f depth (body zs)) (drop_all i xs all)
       ∙ nothing (body made))
     where
       nothing : (zs : List (TInstr × Span)) → zs ++ [] ≡ zs
@@ -78,7 +73,7 @@ module _ (V : ℕ → ℕ → Type 0) (B : ℕ → Type 0) where
 
   pub rest_none : (xs : List (Instr × Span)) (i depth : ℕ) → length xs ≤ i → RestHas xs i depth
   rest_none xs i depth all =
-      subst (λ (zs : List (Instr × Span)). each_body V B depth (body zs)) (sym (drop_end xs i all)) tt
+      subst (λ (zs : List (Instr × Span)). each_body V B depth (body zs)) (sym (drop_all i xs all)) tt
 
 pub names_grow : (i : TInstr) (d : ℕ) → d ≤ names_after i d
 names_grow (Arith op rd rs v) d = omega arith
@@ -114,7 +109,7 @@ below_here n xs e i depth x is lt h k =
 pub below_done : (n : ℕ) (xs : List (Instr × Span)) (e : TEnd) (i depth : ℕ) → length xs ≤ i →
     BelowFrom n xs e i depth → BodyBelow n (body xs) e ↔ each_end BelowAt AnyDepth depth e
 below_done n xs e i depth all h =
-    let same = drop_end xs i all in (
+    let same = drop_all i xs all in (
       (λ k. (subst (λ (zs : List (Instr × Span)). BodyBelow depth (body zs) e) same (h.0 k)).1),
       (λ k. h.1 (subst (λ (zs : List (Instr × Span)). BodyBelow depth (body zs) e) (sym same) (tt, k))),
     )

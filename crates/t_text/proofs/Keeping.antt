@@ -4,7 +4,7 @@ use Rattle.std.proofs.Common.{get_or, map, refl, ◌∙◌, arith}
 use Rattle.std.specs.Prelude.{nat_lt, not, if◌then◌else◌}
 use Rattle.std.specs.List.{list_all}
 use Rattle.std.proofs.lemmas.Bool.{ltb-true, ltb-false, eqb-true, and_parts}
-use Rattle.std.proofs.lemmas.List.{get_or_append_left}
+use Rattle.std.proofs.lemmas.List.{get_or_append_left, map_push, length_push}
 use Rattle.std.proofs.Math.Seq.{get_or-append_seam}
 use Rattle.t_text.specs.declared.token.Token.{Token}
 use Rattle.t_text.specs.declared.kept.Word.{Word}
@@ -75,21 +75,13 @@ same_tokens xs x (v ∷ ws) h =
     let (p, q) = and_parts (reaches (length xs) v) (list_all (λ (v : Word). reaches (length xs) v) ws) h in
     rw (same_token xs x v p, same_tokens xs x ws q) refl
 
-map_more : (f : Word → Token) (ws : List Word) (w : Word) → map f (ws ++ w ∷ []) ≡ map f ws ++ f w ∷ []
-map_more f [] w = refl
-map_more f (v ∷ ws) w = rw (map_more f ws w) refl
-
-length_more : (xs : List Token) (x : Token) → length (xs ++ x ∷ []) ≡ length xs + 1
-length_more [] x = refl
-length_more (y ∷ xs) x = omega (arith, length_more xs x)
-
 pub short_kept : (xs : List Token) (ws : List Word) (w : Word) → w.length ≢ 0 →
     list_all (λ (v : Word). reaches (length xs) v) ws ≡ true →
     (list_all (λ (v : Word). reaches (length xs) v) (ws ++ w ∷ []) ≡ true)
     × (map (λ (v : Word). token_in xs v) (ws ++ w ∷ []) ≡ map (λ (v : Word). token_in xs v) ws ++ short_token w ∷ [])
 unfolding reaches
 short_kept xs ws w n h =
-    (all_more (length xs) ws w h r, map_more (λ (v : Word). token_in xs v) ws w ∙ rw (short_in xs w n) refl)
+    (all_more (length xs) ws w h r, map_push (λ (v : Word). token_in xs v) ws w ∙ rw (short_in xs w n) refl)
   where
     r : reaches (length xs) w ≡ true
     r = go (w.length == 0) refl
@@ -106,7 +98,7 @@ unfolding reaches
 long_kept xs x ws w e s h = (rw len (all_more (length xs + 1) ws w (all_reach_more (length xs) ws h) r), words)
   where
     len : length (xs ++ x ∷ []) ≡ length xs + 1
-    len = length_more xs x
+    len = length_push xs x
 
     r : reaches (length xs + 1) w ≡ true
     r = rw (e, s) (lt_is (length xs) (length xs + 1) (omega arith))
@@ -116,4 +108,4 @@ long_kept xs x ws w e s h = (rw len (all_more (length xs + 1) ws w (all_reach_mo
 
     words : map (λ (v : Word). token_in (xs ++ x ∷ []) v) (ws ++ w ∷ [])
         ≡ map (λ (v : Word). token_in xs v) ws ++ x ∷ []
-    words = map_more (λ (v : Word). token_in (xs ++ x ∷ []) v) ws w ∙ rw (same_tokens xs x ws h, is) refl
+    words = map_push (λ (v : Word). token_in (xs ++ x ∷ []) v) ws w ∙ rw (same_tokens xs x ws h, is) refl

@@ -1,5 +1,5 @@
 use Rattle.std.proofs.Common.{◌≡◌, ◌≤◌, ◌∙◌, ◌∷◌, ◌++◌, ℕ, List, [], ap, sym, subst, arith, length}
-use Rattle.std.proofs.lemmas.List.{length-append}
+use Rattle.std.proofs.lemmas.List.{length-append, take_all}
 use Rattle.a_scope.specs.Scope.{scope, Under}
 use Rattle.a_scope.specs.declared.scope.Entry.{Entry}
 use Rattle.a_terms.specs.Arity.{AArity}
@@ -7,7 +7,7 @@ use Rattle.a_terms.specs.NodeTrees.{a_decl, a_values}
 use Rattle.a_terms.specs.Program.{program_in}
 use Rattle.a_terms.specs.Typing.{declared, more_vars}
 use Rattle.a_notation.specs.Scopes.{node_text}
-use Rattle.a_notation.proofs.ScopeTexts.{let_fit, let_note, let_written, pushed, take_whole}
+use Rattle.a_notation.proofs.ScopeTexts.{let_fit, let_note, let_written, pushed}
 use Rattle.a_notation.proofs.terms.step_let.Goals as goal
 
 pub declare-requires : goal.declare-requires
@@ -16,7 +16,7 @@ declare-requires c = record {
   arity = subst (λ xs. AArity c.args.node.now.form (a_values xs)) (sym c.as_slice-values.ensures.value)
       c.requires.arity;
   under = subst (Under c.args.scope.types)
-      (take_whole c.args.walk.now.vars.items c.args.scope.names (omega (arith, c.requires.ready.all)))
+      (take_all c.args.scope.names c.args.walk.now.vars.items (omega (arith, c.requires.ready.all)))
       c.requires.ready.fit.1;
 }
 

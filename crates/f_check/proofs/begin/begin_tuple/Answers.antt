@@ -5,7 +5,8 @@ use Rattle.f_terms.specs.declared.types.FType.TheVariants as T
 use Rattle.f_terms.proofs.Trees.{tree_Tuple}
 use Rattle.f_check.proofs.Begins.{tuple_enters, tuple_empty}
 use Rattle.std.proofs.Common.{refl}
-use Rattle.f_check.proofs.Follows.{begun, none}
+use Rattle.std.proofs.lemmas.List.{nil_from_length}
+use Rattle.f_check.proofs.Follows.{begun}
 use Rattle.f_check.specs.declared.frame.Frame.TheVariants as C
 use Rattle.f_terms.specs.declared.node.FShape.TheVariants as S
 use Rattle.f_check.proofs.begin.begin_tuple.Goals as goal
@@ -33,4 +34,4 @@ returns-in-Some-clause-frames c = λ es is.
     c.enter.ensures.frames (es, refl) (is ∙ c.in-Some.ensures.cases.0)
 
 pub returns-in-None-clause-frames : goal.returns-in-None-clause-frames
-returns-in-None-clause-frames c = λ es is. (refl, is ∙ none _ c.in-None.ensures.cases)
+returns-in-None-clause-frames c = λ es is. (refl, is ∙ nil_from_length _ c.in-None.ensures.cases)

@@ -1,12 +1,11 @@
 use Rattle.std.proofs.Common.{◌≡◌, ◌<◌, ◌≤◌, ◌-◌, ◌++◌, ◌∷◌, [], ℕ, List, length, ◌∙◌, ap, sym, subst, arith, rules}
-use Rattle.std.proofs.lemmas.List.{length-set}
+use Rattle.std.proofs.lemmas.List.{length-set, nil_from_length}
 use Rattle.f_terms.specs.Read.{tree}
 use Rattle.f_terms.specs.ReadTerm.{count}
 use Rattle.f_terms.specs.declared.types.FType.{FType}
 use Rattle.f_check.proofs.Noting.{Known, at_first, starts, last_open, given_at, noted_now, all_noted, after_begin}
 use Rattle.f_check.proofs.Noting.{after_resume, ended}
 use Rattle.f_check.specs.Walk.{Leads, work}
-use Rattle.f_check.proofs.Follows.{none}
 use Rattle.f_check.proofs.Steps.{offered}
 use Rattle.f_check.proofs.checker.type_of.Goals as goal
 
@@ -108,7 +107,7 @@ returns-in-None c =
     c.close-node.result c.in-Give.ty c.in-Give.bound c.in-Give.span l.invariant.table known leads
     c.close-node.ensures put in
     let few : length l.state.frames.items ≡ 0 = search (rules, c.in-None.ensures.cases) in
-    let no_frames = none l.state.frames.items few in (
+    let no_frames = nil_from_length l.state.frames.items few in (
       ended f l.state c.in-Give.ty c.in-Give.bound c.in-Give.span no_frames leads,
       subst (λ (us : List FType). count f ≤ length us) (sym put.1)
           (omega (arith, l.invariant.table, length-set l.types.items c.close-node.result put.0)),

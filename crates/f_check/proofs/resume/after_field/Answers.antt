@@ -10,8 +10,9 @@ use Rattle.f_terms.proofs.Trees.{tree_Tuple}
 use Rattle.std.proofs.Common.{map, min}
 use Rattle.f_terms.specs.Ty.{depth, size}
 use Rattle.std.proofs.Common.{refl}
+use Rattle.std.proofs.lemmas.List.{nil_from_length}
 use Rattle.f_check.specs.Scopes.{bound}
-use Rattle.f_check.proofs.Follows.{resumed, none}
+use Rattle.f_check.proofs.Follows.{resumed}
 use Rattle.f_check.specs.declared.frame.Frame.TheVariants as C
 use Rattle.f_check.proofs.resume.after_field.Goals as goal
 
@@ -53,4 +54,4 @@ returns-in-Some-clause-frames c =
     (λ n k. k) (λ f n g. refl)
 
 pub returns-in_ok-limit-in-None-clause-frames : goal.returns-in_ok-limit-in-None-clause-frames
-returns-in_ok-limit-in-None-clause-frames c = (refl, none _ c.in-None.ensures.cases, tt)
+returns-in_ok-limit-in-None-clause-frames c = (refl, nil_from_length _ c.in-None.ensures.cases, tt)

@@ -1,18 +1,18 @@
 use Rattle.std.proofs.Common.{◌≡◌, ◌≤◌, ◌∙◌, ◌∷◌, ◌++◌, ℕ, List, [], true, ap, sym, subst, arith, length}
-use Rattle.std.proofs.lemmas.List.{length-append}
+use Rattle.std.proofs.lemmas.List.{length-append, take_all}
 use Rattle.h_terms.specs.Nodes.{h_blocks, values}
 use Rattle.let_types.specs.Hoisted.{decl_of, names_behind, types_behind}
 use Rattle.let_types.specs.Names.{scope, Under}
 use Rattle.let_types.specs.declared.named.Named.{Named}
 use Rattle.h_notation.specs.Scopes.{node_text}
-use Rattle.h_notation.proofs.ScopeTexts.{let_fit, let_note, let_written, pushed, take_whole}
+use Rattle.h_notation.proofs.ScopeTexts.{let_fit, let_note, let_written, pushed}
 use Rattle.h_notation.proofs.terms.step_let.Goals as goal
 
 pub one_name-requires : goal.one_name-requires
 one_name-requires c = record {
   form = c.requires.form;
   under = subst (Under c.args.scope.types)
-      (take_whole c.args.walk.now.names.items c.args.scope.names (omega (arith, c.requires.ready.all)))
+      (take_all c.args.scope.names c.args.walk.now.names.items (omega (arith, c.requires.ready.all)))
       c.requires.ready.fit.1;
 }
 

@@ -1,6 +1,6 @@
 use Rattle.std.proofs.Common.{arith}
+use Rattle.std.proofs.lemmas.List.{length-map}
 use Rattle.f_terms.specs.ReadTerm.{part}
-use Rattle.f_terms.proofs.Stacking.{long}
 use Rattle.f_terms.proofs.stack.FStack.len.Goals as goal
 
 pub returns : goal.returns
@@ -8,5 +8,5 @@ returns c = omega (
   arith,
   c.len.ensures,
   c.args.self.now.numbers.ok.0,
-  long (part c.args.self.now.parts) c.args.self.now.numbers.items,
+  length-map c.args.self.now.numbers.items (part c.args.self.now.parts),
 )

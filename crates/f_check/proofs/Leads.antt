@@ -4,7 +4,7 @@ use Rattle.std.proofs.Common.{◌∙◌, sym, subst, arith, All}
 use Rattle.std.proofs.lemmas.List.Elements.{All-nil, All-cons, All-head, All-tail, All-same}
 use Rattle.calc_core.specs.Stack.{Chain}
 use Rattle.calc_core.specs.Roots.{total}
-use Rattle.calc_core.proofs.Roots.{if_same}
+use Rattle.calc_core.proofs.Roots.{if_same, all_before}
 use Rattle.idx_core.specs.declared.arith.Op.{Op}
 use Rattle.idx_core.specs.declared.span.Span.{Span}
 use Rattle.f_terms.specs.Ty.{Ty, TSome, Tys, MoreTys}
@@ -37,11 +37,6 @@ all_mid P (y ∷ xs) x ys h = all_mid P xs x ys (All-tail P y (xs ++ x ∷ ys) h
 
 pub second : {A : Type 0} (P : A → Type 0) (x y : A) → All P (x ∷ y ∷ []) → P y
 second P x y h = All-head P y [] (All-tail P x (y ∷ []) h)
-
-all_before : {A : Type 0} (P : A → Type 0) (xs ys : List A) → All P (xs ++ ys) → All P xs
-all_before P [] ys h = All-nil P
-all_before P (x ∷ xs) ys h =
-    All-cons P x xs (All-head P x (xs ++ ys) h) (all_before P xs ys (All-tail P x (xs ++ ys) h))
 
 all_both : {A : Type 0} (P Q R : A → Type 0) → ((x : A) → P x → Q x → R x) → (xs : List A) → All P xs → All Q xs →
     All R xs
@@ -368,8 +363,8 @@ module _ (f : FTerm) (ts : List FType) where
         let part = times_part m k a.1 g fr kt a.2 in
         let done = a.2.1.0 in
         let none = total_none (times f m) done (omega (arith, up, part, le, one', ap (times f m) a.0)) in
-        let under = all_before (λ c. c < k) done (a.1 ∷ rest_of fr)
-        (All-same (λ c. c < k) (done ++ a.1 ∷ rest_of fr) (children (shape_at f k)) (sym a.2.1.1) (low f k kt)) in (
+        let under = all_before (λ c. c < k) done (a.1 ∷ rest_of fr) (All-same (λ c.
+        c < k) (done ++ a.1 ∷ rest_of fr) (children (shape_at f k)) (sym a.2.1.1) (low f k kt)) in (
           a.0,
           a.1,
           (a.2.0, (done, a.2.1.1, stay g done (below k kt done under) none a.2.1.2)),

@@ -3,7 +3,7 @@
 use Rattle.std.proofs.Common.{max, ◌++◌, ◌≡◌, ℕ, List, [], ◌∷◌, map, Vec, Global, refl, ap, ap₂, ◌∙◌, sym, ◌+◌, ◌<◌}
 use Rattle.std.proofs.Common.{◌≤◌, take, length, subst, arith, All, sum_by, get_or, suc}
 use Rattle.std.proofs.lemmas.List.{take_all, get_or-map, map_more}
-use Rattle.std.proofs.lemmas.List.Elements.{All-nil, All-cons, All-head, All-tail, All-get_or, All-more}
+use Rattle.std.proofs.lemmas.List.Elements.{All-nil, All-cons, All-head, All-tail, All-get_or}
 use Rattle.std.proofs.lemmas.List.Sums.{sum_by-cons}
 use mathlib.Core.Former.{Count}
 use Rattle.idx_core.specs.Over.{At}
@@ -65,10 +65,6 @@ module _ (V : ℕ → ℕ → Type 0) (B : ℕ → Type 0) (d : ℕ) where
 pub item_has : (P : FType → Type 0) (xs : List FType) (i : ℕ) (x : FType) → x ≡ get_or xs i x → i < length xs →
     All P xs → P x
 item_has P xs i x is lt all = subst P (sym is) (All-get_or P xs i x lt all)
-
-pub items_more : (P : FType → Type 0) (xs : List FType) (i : ℕ) (x : FType) → x ≡ get_or xs i x → i < length xs →
-    All P (take i xs) → P x → All P (take (i + 1) xs)
-items_more P xs i x is lt all h = All-more P xs i x lt all (subst P is h)
 
 pub size_tys : (ts : List FType) → sizes (tys (map tree ts)) ≡ sum_by (λ t. size (tree t)) ts
 size_tys [] = refl

@@ -18,7 +18,7 @@ use Rattle.page_core.specs.Names.{separator}
 use Rattle.page_core.proofs.Listed.{listed}
 use Rattle.h_notation.specs.Notation.{applied_text, value_text, values_text}
 use Rattle.h_notation.specs.Values.{Stand, texts_of}
-use Rattle.h_terms.proofs.Parts.{reads_push}
+use Rattle.h_terms.proofs.Parts.{reads_push, at_last_push}
 
 pub stand_keeps : (p q : Pieces) (n m : ℕ) (xs : List ℕ) (vs : List HVal) → Keeps p q → Stand p n m xs vs →
     Stand q n m xs vs
@@ -79,12 +79,6 @@ put_done p q n m xs ys x vs v s k st e is h =
     subst (λ zs. Stand q n m zs (vs ++ v ∷ [])) (sym e)
     (stand_snoc q n m xs vs x v (stand_keeps p q n m xs vs k h) (subst (λ t. Stands q x t) is st))
 
--- the last value is changed
-at_last_snoc : (f : HVal → HVal) (us : List HVal) (v : HVal) → at_last f (us ++ v ∷ []) ≡ us ++ f v ∷ []
-at_last_snoc f [] v = refl
-at_last_snoc f (u ∷ []) v = refl
-at_last_snoc f (u ∷ w ∷ us) v = ap (λ vs. u ∷ vs) (at_last_snoc f (w ∷ us) v)
-
 stand_last : (p : Pieces) (n m : ℕ) (xs : List ℕ) (x : ℕ) (vs : List HVal) → Stand p n m (xs ++ x ∷ []) vs →
     (us : List HVal) × (v : HVal) × (vs ≡ us ++ v ∷ []) × Stand p n m xs us × Stands p x (value_text n m v)
 stand_last p n m [] x [] h = absurd h
@@ -103,7 +97,7 @@ wrap_done p q n m xs ys zs inner whole vs f before behind e k st more is h =
     let r = stand_last p n m ys inner vs (subst (λ us. Stand p n m us vs) e h) in
     let last = subst (λ t. Stands q whole t) (sym (is r.1)) (st (value_text n m r.1) r.4) in
     let all = stand_snoc q n m ys r.0 whole (f r.1) (stand_keeps p q n m ys r.0 k r.3) last in
-    let same : at_last f vs ≡ r.0 ++ f r.1 ∷ [] = ap (at_last f) r.2 ∙ at_last_snoc f r.0 r.1 in
+    let same : at_last f vs ≡ r.0 ++ f r.1 ∷ [] = ap (at_last f) r.2 ∙ at_last_push f r.0 r.1 in
     subst (λ us. Stand q n m us (at_last f vs)) (sym more)
     (subst (λ us. Stand q n m (ys ++ whole ∷ []) us) (sym same) all)
 

@@ -17,9 +17,10 @@ use Rattle.t_shapes.specs.declared.raw.RawData.{RawData}
 use Rattle.t_shapes.specs.Raw.{raw_value, raw_datum, raw_data}
 use Rattle.t_reader.specs.Resolve.{StopsAt}
 use Rattle.t_terms.specs.declared.fault.TFault.{TFault}
-use Rattle.t_reader.proofs.Found.{here_at, stop_left, stop_right, none_both}
+use Rattle.t_reader.proofs.Found.{stop_left, stop_right, none_both}
 use Rattle.t_reader.proofs.Naming.{Done}
 use Rattle.t_reader.proofs.Valuing.{Valued}
+use Rattle.idx_core.proofs.Lists.{next_item}
 
 -- a field, where no names are in scope
 module _ (text : List ℕ) (ls : Labels) (x : RawDatum) (a : List Name) (none : a ≡ []) where
@@ -57,7 +58,7 @@ module _ (text : List ℕ) (ls : Labels) (xs : List RawDatum) where
       (h : DataLeft text ls xs k made) where
     at_datum : data_faults text ls (map raw_datum xs) ≡ datum_faults text ls (raw_datum x)
         ++ data_faults text ls (map raw_datum (drop (k + 1) xs))
-    at_datum = h.faults ∙ rw (here_at xs k x l i) refl
+    at_datum = h.faults ∙ rw (next_item xs k x i l) refl
 
     pub data_stop : (s : TFault) → StopsAt (datum_faults text ls (raw_datum x)) s →
         StopsAt (data_faults text ls (map raw_datum xs)) s
@@ -70,7 +71,7 @@ module _ (text : List ℕ) (ls : Labels) (xs : List RawDatum) where
       faults = at_datum ∙ rw d.0 refl;
       trees = h.trees
           ∙ rw (
-            here_at xs k x l i,
+            next_item xs k x i l,
             m,
             fields_append made (y ∷ []),
             append_assoc (read.data_fields made) (read.datum y ∷ [])

@@ -23,8 +23,9 @@ use Rattle.t_terms.specs.declared.fault.TCode.TheVariants.{T07}
 use Rattle.t_reader.specs.Resolve.{StopsAt, has}
 use Rattle.t_terms.specs.declared.fault.TFault.{TFault}
 use Rattle.t_terms.specs.declared.fault.TFault.TheVariants.{Refused}
-use Rattle.t_reader.proofs.Found.{here_at, stop_left}
+use Rattle.t_reader.proofs.Found.{stop_left}
 use Rattle.t_reader.proofs.Naming.{Done}
+use Rattle.idx_core.proofs.Lists.{next_item}
 
 -- the registers rise from above a number
 abbrev pub Rises : ℕ → List (ℕ × TType) → Type 0
@@ -193,7 +194,7 @@ module _ (text : List ℕ) (a : List Name) (xs : List (ℕ × Span × RawType)) 
         (if has x.0 made then (T07, x.1) ∷ [] else [])
         ++ (type_faults text a (raw x.2)
         ++ regs_faults text a (x.0 ∷ h.before) (raw_regs (map raw_reg (drop (k + 1) xs))))
-    at_entry = h.faults ∙ rw (here_at xs k x l i, h.known x.0) refl
+    at_entry = h.faults ∙ rw (next_item xs k x i l, h.known x.0) refl
 
     pub file_twice : has x.0 made ≡ true → StopsAt (regs_faults text a [] (raw_regs (map raw_reg xs))) (Refused T07 x.1)
     file_twice t = (
@@ -221,7 +222,7 @@ module _ (text : List ℕ) (a : List Name) (xs : List (ℕ × Span × RawType)) 
                 ∙ rw (
                   m,
                   merged_put x.0 t made (file_of text a (raw_regs (map raw_reg (drop (k + 1) xs)))) once,
-                  here_at xs k x l i,
+                  next_item xs k x i l,
                   e,
                 ) refl;
           }

@@ -11,11 +11,6 @@ use Rattle.t_reader.specs.Resolve.{StopsAt}
 use Rattle.t_terms.specs.declared.fault.TFault.{TFault}
 use Rattle.t_terms.specs.declared.fault.TFault.TheVariants.{Memory, Refused}
 
--- the rest of a list from an element on
-pub here_at : {A : Type 0} (xs : List A) (k : ℕ) (x : A) → k < length xs → x ≡ get_or xs k x →
-    drop k xs ≡ x ∷ drop (k + 1) xs
-here_at xs k x l e = rw (drop-cons xs k x l, ← e, ← add-one k) refl
-
 pub here_is : {A : Type 0} (xs : List A) (k : ℕ) (d x : A) → k < length xs → get_or xs k d ≡ x →
     drop k xs ≡ x ∷ drop (k + 1) xs
 here_is xs k d x l e = rw (drop-cons xs k d l, e, ← add-one k) refl

@@ -22,7 +22,8 @@ use Rattle.t_shapes.proofs.Raws.{raw_Tuple, raw_Code}
 use Rattle.t_reader.specs.Resolve.{StopsAt}
 use Rattle.t_terms.specs.declared.fault.TFault.{TFault}
 use Rattle.t_terms.specs.declared.fault.TFault.TheVariants.{Refused}
-use Rattle.t_reader.proofs.Found.{here_at, drop_bind, stop_left}
+use Rattle.t_reader.proofs.Found.{drop_bind, stop_left}
+use Rattle.idx_core.proofs.Lists.{next_item}
 
 -- the type that was found, with the names in scope after it
 abbrev pub Done : List ℕ → List Name → RawType → List Name → TType → Type 0
@@ -96,7 +97,7 @@ module _ (text : List ℕ) (a : List Name) (xs : List (RawType × Bool)) where
       (i : x ≡ get_or xs k x) (h : FieldsLeft text a xs k b made) where
     at_field : fields_faults text a (raw_fields (map raw_field xs)) ≡ type_faults text a (raw x.0)
         ++ fields_faults text a (raw_fields (map raw_field (drop (k + 1) xs)))
-    at_field = h.faults ∙ rw (here_at xs k x l i) refl
+    at_field = h.faults ∙ rw (next_item xs k x i l) refl
 
     pub fields_stop : (s : TFault) → StopsAt (type_faults text b (raw x.0)) s →
         StopsAt (fields_faults text a (raw_fields (map raw_field xs))) s
@@ -111,7 +112,7 @@ module _ (text : List ℕ) (a : List Name) (xs : List (RawType × Bool)) where
           faults = at_field ∙ rw (rw h.kept at d.1) refl;
           trees = h.trees
               ∙ rw (
-                here_at xs k x l i,
+                next_item xs k x i l,
                 m,
                 map-append flag made ((t, x.1) ∷ []),
                 append_assoc (map flag made) (flag (t, x.1) ∷ []) (ty_fields text a (drop (k + 1) xs)),
@@ -153,7 +154,7 @@ module _ (text : List ℕ) (a : List Name) (xs : List RawType) where
       (h : TypesLeft text a xs k b made) where
     at_type : types_faults text a (map raw xs) ≡ type_faults text a (raw x)
         ++ types_faults text a (map raw (drop (k + 1) xs))
-    at_type = h.faults ∙ rw (here_at xs k x l i) refl
+    at_type = h.faults ∙ rw (next_item xs k x i l) refl
 
     pub types_stop : (s : TFault) → StopsAt (type_faults text b (raw x)) s →
         StopsAt (types_faults text a (map raw xs)) s
@@ -168,7 +169,7 @@ module _ (text : List ℕ) (a : List Name) (xs : List RawType) where
           faults = at_type ∙ rw (rw h.kept at d.1) refl;
           trees = h.trees
               ∙ rw (
-                here_at xs k x l i,
+                next_item xs k x i l,
                 m,
                 map-append tree made (t ∷ []),
                 append_assoc (map tree made) (tree t ∷ []) (types_of text a (map raw (drop (k + 1) xs))),

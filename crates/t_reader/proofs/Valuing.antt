@@ -29,8 +29,9 @@ use Rattle.t_shapes.specs.Raw.{raw_base, raw_value, raw_pack, raw_instr, raw_ste
 use Rattle.t_reader.specs.Resolve.{StopsAt}
 use Rattle.t_terms.specs.declared.fault.TFault.{TFault}
 use Rattle.t_terms.specs.declared.fault.TFault.TheVariants.{Refused}
-use Rattle.t_reader.proofs.Found.{here_at, stop_left, stop_right, none_both}
+use Rattle.t_reader.proofs.Found.{stop_left, stop_right, none_both}
 use Rattle.t_reader.proofs.Naming.{Done}
+use Rattle.idx_core.proofs.Lists.{next_item}
 
 module _ (text : List ℕ) (ls : Labels) (b : RawBase) (s : Span) where
   pub label_stop : b ≡ RB.Label s → named_by (spelled text s) ls ≡ None →
@@ -113,7 +114,7 @@ module _ (text : List ℕ) (ls : Labels) (a : List Name) (xs : List (RawInstr ×
       (i : x ≡ get_or xs k x) (h : BodyLeft text ls a xs k b made) where
     at_step : body_faults text ls a (map raw_step xs) ≡ instr_faults text ls b (raw_instr x.0)
         ++ body_faults text ls (names_after text (raw_instr x.0) b) (map raw_step (drop (k + 1) xs))
-    at_step = h.faults ∙ rw (here_at xs k x l i) refl
+    at_step = h.faults ∙ rw (next_item xs k x i l) refl
 
     pub body_stop : (s : TFault) → StopsAt (instr_faults text ls b (raw_instr x.0)) s →
         StopsAt (body_faults text ls a (map raw_step xs)) s
@@ -124,11 +125,11 @@ module _ (text : List ℕ) (ls : Labels) (a : List Name) (xs : List (RawInstr ×
         × (read.instr t ≡ instr_of text ls b (raw_instr x.0)) → more ≡ made ++ (t, x.1) ∷ [] →
         BodyLeft text ls a xs (k + 1) c more
     body_next c t more d m = record {
-      names = h.names ∙ rw (here_at xs k x l i, d.0) refl;
+      names = h.names ∙ rw (next_item xs k x i l, d.0) refl;
       faults = at_step ∙ rw (d.1, d.0) refl;
       trees = h.trees
           ∙ rw (
-            here_at xs k x l i,
+            next_item xs k x i l,
             m,
             body_append made ((t, x.1) ∷ []),
             append_assoc (read.body made) ((read.instr t, x.1) ∷ [])

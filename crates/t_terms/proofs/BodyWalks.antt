@@ -1,6 +1,6 @@
 -- A walk over a body, entry by entry.
 use Rattle.std.proofs.Common.{◌≡◌, ℕ, ◌+◌, ◌<◌, ◌≤◌, List, [], ◌∷◌, ◌++◌, length, get_or, drop, refl, sym}
-use Rattle.std.proofs.Common.{ap, ap₂, ◌∙◌, subst, arith, drop-cons, add-one, append_assoc, ◌↔◌}
+use Rattle.std.proofs.Common.{ap, ap₂, ◌∙◌, subst, arith, append_assoc, ◌↔◌}
 use Rattle.std.proofs.lemmas.List.{drop_all}
 use Rattle.idx_core.specs.Over.{At, BelowAt, AnyDepth}
 use Rattle.idx_core.specs.declared.span.Span.{Span}
@@ -10,12 +10,7 @@ use Rattle.t_terms.specs.Tree.{TInstr, Arith, Bnz, Ld, Malloc, Mov, St, Unpack, 
 use Rattle.t_terms.specs.Tree.{each_instr, each_end}
 use Rattle.t_terms.specs.Read.{instr, body}
 use Rattle.t_terms.specs.Spanned.{over_body, each_body, body_depth, BodyBelow}
-
--- the rest of a body, from an entry
-pub rest_is : (xs : List (Instr × Span)) (i : ℕ) (x : Instr × Span) → x ≡ get_or xs i x → i < length xs →
-    drop i xs ≡ x ∷ drop (i + 1) xs
-rest_is xs i x is lt =
-    drop-cons xs i x lt ∙ ap₂ (λ (y : Instr × Span) (n : ℕ). y ∷ drop n xs) (sym is) (sym (add-one i))
+use Rattle.idx_core.proofs.Lists.{next_item}
 
 pub body_push : (ys : List (Instr × Span)) (y : Instr × Span) →
     body (ys ++ (y ∷ [])) ≡ body ys ++ ((instr y.0, y.1) ∷ [])
@@ -32,7 +27,7 @@ module _ (f : At Ty) where
       Walk start xs made i depth → Walk start xs (made ++ (y ∷ [])) (i + 1) (names_after (instr x.0) depth)
   walk_on start xs made i depth x y is lt e1 e2 h =
       h
-      ∙ ap (λ (zs : List (Instr × Span)). body made ++ over_body f depth (body zs)) (rest_is xs i x is lt)
+      ∙ ap (λ (zs : List (Instr × Span)). body made ++ over_body f depth (body zs)) (next_item xs i x is lt)
       ∙ sym (append_assoc (body made) ((over_instr f depth (instr x.0), x.1) ∷ [])
       (over_body f (names_after (instr x.0) depth) (body (drop (i + 1) xs))))
       ∙ ap (λ (zs : List (TInstr × Span)). zs ++ over_body f (names_after (instr x.0) depth) (body (drop (i + 1) xs)))
@@ -55,7 +50,7 @@ DepthAt start xs i depth = body_depth (body xs) start ≡ body_depth (body (drop
 pub depth_on : (start : ℕ) (xs : List (Instr × Span)) (i depth : ℕ) (x : Instr × Span) → x ≡ get_or xs i x →
     i < length xs → DepthAt start xs i depth → DepthAt start xs (i + 1) (names_after (instr x.0) depth)
 depth_on start xs i depth x is lt h =
-    h ∙ ap (λ (zs : List (Instr × Span)). body_depth (body zs) depth) (rest_is xs i x is lt)
+    h ∙ ap (λ (zs : List (Instr × Span)). body_depth (body zs) depth) (next_item xs i x is lt)
 
 -- what each variable of the rest has
 module _ (V : ℕ → ℕ → Type 0) (B : ℕ → Type 0) where
@@ -69,7 +64,7 @@ module _ (V : ℕ → ℕ → Type 0) (B : ℕ → Type 0) where
   pub here_and_rest : (xs : List (Instr × Span)) (i depth : ℕ) (x : Instr × Span) → x ≡ get_or xs i x → i < length xs →
       RestHas xs i depth → HereAndRest xs i depth x
   here_and_rest xs i depth x is lt h =
-      subst (λ (zs : List (Instr × Span)). each_body V B depth (body zs)) (rest_is xs i x is lt) h
+      subst (λ (zs : List (Instr × Span)). each_body V B depth (body zs)) (next_item xs i x is lt) h
 
   pub rest_none : (xs : List (Instr × Span)) (i depth : ℕ) → length xs ≤ i → RestHas xs i depth
   rest_none xs i depth all =
@@ -92,7 +87,7 @@ pub below_on : (n : ℕ) (xs : List (Instr × Span)) (e : TEnd) (i depth : ℕ) 
     i < length xs → each_instr BelowAt AnyDepth depth (instr x.0) →
     BelowFrom n xs e i depth → BelowFrom n xs e (i + 1) (names_after (instr x.0) depth)
 below_on n xs e i depth x is lt here h =
-    let same = rest_is xs i x is lt in
+    let same = next_item xs i x is lt in
     let from : BodyBelow depth (body (drop i xs)) e →
     BodyBelow (names_after (instr x.0) depth) (body (drop (i + 1) xs)) e =
     λ k. let now = subst (λ (zs : List (Instr × Span)). BodyBelow depth (body zs) e) same k in (now.0.2, now.1) in
@@ -104,7 +99,7 @@ below_on n xs e i depth x is lt here h =
 pub below_here : (n : ℕ) (xs : List (Instr × Span)) (e : TEnd) (i depth : ℕ) (x : Instr × Span) → x ≡ get_or xs i x →
     i < length xs → BelowFrom n xs e i depth → BodyBelow n (body xs) e → each_instr BelowAt AnyDepth depth (instr x.0)
 below_here n xs e i depth x is lt h k =
-    (subst (λ (zs : List (Instr × Span)). BodyBelow depth (body zs) e) (rest_is xs i x is lt) (h.0 k)).0.0
+    (subst (λ (zs : List (Instr × Span)). BodyBelow depth (body zs) e) (next_item xs i x is lt) (h.0 k)).0.0
 
 pub below_done : (n : ℕ) (xs : List (Instr × Span)) (e : TEnd) (i depth : ℕ) → length xs ≤ i →
     BelowFrom n xs e i depth → BodyBelow n (body xs) e ↔ each_end BelowAt AnyDepth depth e

@@ -5,7 +5,7 @@ use Rattle.std.proofs.lemmas.List.{append-nil}
 use Rattle.std.proofs.Math.Seq.{set-append_seam}
 use Rattle.idx_core.specs.Laws as laws
 use Rattle.f_terms.specs.Ty.{Ty, TInt, TArrow, TAll, TTuple, Tys, NoTys, MoreTys, shift}
-use Rattle.f_terms.specs.TyLaws.{types_part, types_over, shift_none}
+use Rattle.f_terms.specs.TyLaws.{types_part, types_over}
 use Rattle.f_terms.specs.Tm.{Tm, SVar, SNum, SFix, SApp, SGen, SInst, STuple, SProj, SArith, SIf0, SLet, SPack}
 use Rattle.f_terms.specs.Tm.{SOpen, SRef, SDeref, SAssign, Tms, NoTms, MoreTms, plain}
 use Rattle.f_terms.specs.Typing.{ty_at, raised, in_fix, in_open}
@@ -15,11 +15,9 @@ use Rattle.types_page.specs.Walk.{Named, Now, context, Low, IsLow, StayLow, Todo
 use Rattle.types_page.specs.Walk.{binders, names_of, visited, done, all_done, begun, left}
 use Rattle.types_page.specs.Walk.{left_fields, weight, steps, Steps}
 use Rattle.types_page.proofs.Fields.{state, state_is, fields}
+use Rattle.f_check.proofs.Scoping.{same_now}
 
 -- ---- names in scope
-
-same_now : (n : ℕ) (t : Ty) → shift (n - n) 0 t ≡ t
-same_now n t = let z : n - n ≡ 0 = omega arith in ap (λ m. shift m 0 t) z ∙ shift_none t
 
 raised_context : (n : ℕ) (bs : List Named) → Low n bs → raised (context n bs) ≡ context (n + 1) bs
 raised_context n [] ok = refl

@@ -2,8 +2,9 @@ use Rattle.std.proofs.Common.{refl}
 use Rattle.idx_core.specs.Over.{BelowAt, AnyDepth}
 use Rattle.f_terms.specs.Ty.{Below}
 use Rattle.f_terms.specs.Read.{tree}
-use Rattle.f_terms.proofs.Trees.{tree_parts, tuple_has, items_more}
+use Rattle.f_terms.proofs.Trees.{tree_parts, tuple_has}
 use Rattle.f_terms.proofs.shift.+has_words.Goals as goal
+use Rattle.idx_core.proofs.Lists.{items_more}
 
 pub loop-part-preserved : goal.loop-part-preserved
 loop-part-preserved t c = λ m h.

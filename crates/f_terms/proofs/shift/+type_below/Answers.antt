@@ -2,8 +2,9 @@ use Rattle.std.proofs.Common.{refl, sym, true≢false}
 use Rattle.idx_core.specs.Over.{BelowAt, AnyDepth}
 use Rattle.f_terms.specs.Ty.{Below}
 use Rattle.f_terms.specs.Read.{tree}
-use Rattle.f_terms.proofs.Trees.{tree_parts, parts_have, tuple_has, item_has, items_more}
+use Rattle.f_terms.proofs.Trees.{tree_parts, parts_have, tuple_has, item_has}
 use Rattle.f_terms.proofs.shift.+type_below.Goals as goal
+use Rattle.idx_core.proofs.Lists.{items_more}
 
 pub returns-then-not-type_below : goal.returns-then-not-type_below
 returns-then-not-type_below t c =

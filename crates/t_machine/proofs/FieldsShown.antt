@@ -42,7 +42,7 @@ filled_words ns (Some w) = filled_held ns w
 pub some_rising : (x : Heap) (ws : List Word) (code : Code) (at : ℕ) → ∥ ShowsSome x ws code at ∥₁ →
     AreRising (numbers x)
 some_rising x ws code at some i j lt below =
-    ∥∥₁_elim some le_prop (λ k. k.4.erased.keeps.rising i j lt below)
+    ∥∥₁_elim some le_prop (λ k. k.shows.erased.keeps.rising i j lt below)
 
 -- a tuple that is there is kept
 pub kept_at : (x : Heap) (i a : ℕ) → i < length x.starts.items → slice_index (numbers x) i ≡ a →

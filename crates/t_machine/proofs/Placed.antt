@@ -149,21 +149,23 @@ points_prop n (Empty m) = Unit-prop
 module _ (laws : ProgramLaws) (x : Heap) (ws : List Word) (code : Code) (at : ℕ)
     (some : ∥ ShowsSome x ws code at ∥₁) where
   pub some_there : 0 < length code.entries.items
-  some_there = ∥∥₁_elim some le_prop (λ k. some_blocks laws k.0 k.1 x ws code at k.4)
+  some_there = ∥∥₁_elim some le_prop (λ k. some_blocks laws k.program k.steps x ws code at k.shows)
 
   pub some_begun : begin_at code.entries.items 0 ≤ at
-  some_begun = ∥∥₁_elim some le_prop (λ k. first_begun laws k.0 k.1 x ws code at k.4)
+  some_begun = ∥∥₁_elim some le_prop (λ k. first_begun laws k.program k.steps x ws code at k.shows)
 
   pub some_word : (r k : ℕ) → place_of code.places r ≡ Some k → k < length ws
-  some_word r k e = ∥∥₁_elim some le_prop (λ z. let lt = z.4.machine.has_places.0 r k e in
-      omega (arith, lt, z.4.machine.has_words))
+  some_word r k e = ∥∥₁_elim some le_prop (λ z. let lt = z.shows.machine.has_places.0 r k e in
+      omega (arith, lt, z.shows.machine.has_words))
 
   pub some_shown : (r k : ℕ) (w : Word) → place_of code.places r ≡ Some k → w ≡ get_or ws k w →
       PointsBelow (length x.starts.items) w
   some_shown r k w e is = ∥∥₁_elim some (points_prop (length x.starts.items) w) (λ z.
-      let lt = z.4.machine.has_places.0 r k e in
-      let in' : k < length ws = omega (arith, lt, z.4.machine.has_words) in
-      let all = z.4.machine.words_started in
-      subst (λ ss. PointsBelow (length ss) w) (sym z.4.machine.has_heap.1) (started_below (starts_from 0 z.4.tuples) w
-      (subst (Started (starts_from 0 z.4.tuples)) (sym is) (All-get_or (Started (starts_from 0 z.4.tuples)) ws k w in'
+      let lt = z.shows.machine.has_places.0 r k e in
+      let in' : k < length ws = omega (arith, lt, z.shows.machine.has_words) in
+      let all = z.shows.machine.words_started in
+      subst (λ ss. PointsBelow (length ss) w) (sym z.shows.machine.has_heap.1) (started_below
+      (starts_from 0 z.shows.tuples) w
+      (subst (Started (starts_from 0 z.shows.tuples)) (sym is) (All-get_or (Started (starts_from 0 z.shows.tuples)) ws k
+      w in'
       all))))

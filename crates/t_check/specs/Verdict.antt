@@ -35,6 +35,7 @@ use Rattle.t_check.specs.declared.checked.Checked.{Checked}
 use Rattle.t_known.specs.declared.refusal.Refusal.{Refusal}
 use Rattle.t_known.specs.declared.registers.Registers.{Registers}
 use Rattle.t_check.specs.declared.checker.Checker.{Checker}
+use Rattle.t_check.specs.declared.checker.Labelled.{Labelled}
 
 -- the fault is want of memory, or the one that is described
 abbrev pub Says : TFault → Fault → Type 0
@@ -134,6 +135,10 @@ IsEnd P us n g s e (Err f) = SaysWith us f (EndFaultWith P n g s e)
 
 abbrev pub program_in : Checker → TProg
 program_in c = program c.program.now
+
+-- its labels have these numbers in ts
+abbrev pub IsLabelled : List Ty → Labelled → Type 0
+IsLabelled ts x = AreLabels ts x.program.now x.labels.now
 
 -- what it knows of the registers and of the labels is by numbers of ts
 pub record IsPlace (ts : List Ty) (c : Checker) : Type 0 where

@@ -22,6 +22,14 @@ use t_known::{Labels, Mismatch, Registers};
 use t_rules::{at_most_one_fault, at_most_one_mismatch, no_fault_where_accepted};
 use t_terms::{TFault, TProgram};
 
+/// A program that is checked, and the numbers of the types of its labels.
+#[derive(Clone, Copy)]
+pub(crate) struct Labelled<'a> {
+    pub(crate) alloc: Global,
+    pub(crate) program: &'a TProgram,
+    pub(crate) labels: &'a Labels,
+}
+
 /// A program at a place of it: what is known there of the registers. Types are numbers of a table of the whole
 /// program, which each call is lent.
 #[derive(Drop)]

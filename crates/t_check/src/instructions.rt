@@ -19,6 +19,13 @@ use t_known::{Odds, Refusal, at_odds, exists_body, flag_of, is_int, refused, tup
 use t_terms::{Base, End, Instr, TCode, Value};
 use t_types::TType;
 
+// The registers of an instruction, as it names them: the one that it is about, and the one that it reads.
+#[derive(Clone, Copy)]
+struct Operands {
+    rd: u64,
+    rs: u64,
+}
+
 impl Checker<'_> {
     pub(crate) fn check_instr(
         &mut self,
@@ -35,12 +42,21 @@ impl Checker<'_> {
         ensures labels { self.new.labels ≡ self.old.labels }
     {
         match i {
-            Instr::Arith { op: _, rd, rs, v } => self.check_arith(types, *rd, *rs, v, span),
+            Instr::Arith { op: _, rd, rs, v } => {
+                let (rd, rs) = (*rd, *rs);
+                self.check_arith(types, Operands { rd, rs }, v, span)
+            }
             Instr::Bnz { r, v } => self.check_bnz(types, *r, v, span),
-            Instr::Ld { rd, rs, field } => self.check_ld(types, *rd, *rs, *field, span),
+            Instr::Ld { rd, rs, field } => {
+                let (rd, rs) = (*rd, *rs);
+                self.check_ld(types, Operands { rd, rs }, *field, span)
+            }
             Instr::Malloc { rd, types: fields } => self.check_malloc(types, *rd, fields),
             Instr::Mov { rd, v } => self.check_mov(types, *rd, v, span),
-            Instr::St { rd, field, rs } => self.check_st(types, *rd, *field, *rs, span),
+            Instr::St { rd, field, rs } => {
+                let (rd, rs) = (*rd, *rs);
+                self.check_st(types, Operands { rd, rs }, *field, span)
+            }
             Instr::Unpack { rd, v } => self.check_unpack(types, *rd, v, span),
         }
     }
@@ -48,26 +64,25 @@ impl Checker<'_> {
     fn check_arith(
         &mut self,
         types: &mut Types,
-        rd: u64,
-        rs: u64,
+        regs: Operands,
         v: &Value,
         span: Span,
     ) -> Result<(), Refusal>
         requires place { IsPlace types.old self.old }
-        requires rd { IsRegister rd }
+        requires rd { IsRegister regs.rd }
         requires value { FormedAt self.old (value v.now) }
         ensures grown { Grown types.old types.new }
         ensures step { (op : operations.Op) →
-            StepsTo types.old types.new self.old self.new span (Arith op rd rs (value v.now)) result }
+            StepsTo types.old types.new self.old self.new span (Arith op regs.rd regs.rs (value v.now)) result }
         ensures program { self.new.program ≡ self.old.program }
         ensures labels { self.new.labels ≡ self.old.labels }
     {
-        self.check_int(types, rs, span)?;
+        self.check_int(types, regs.rs, span)?;
         let found = self.type_of_value(types, v, span)?;
         if !is_int(types, found) {
             return refused(TCode::T09, span);
         }
-        self.registers.note(rd, found)?;
+        self.registers.note(regs.rd, found)?;
         Ok(())
     }
 
@@ -103,23 +118,22 @@ impl Checker<'_> {
     fn check_ld(
         &mut self,
         types: &mut Types,
-        rd: u64,
-        rs: u64,
+        regs: Operands,
         field: u64,
         span: Span,
     ) -> Result<(), Refusal>
         requires place { IsPlace types.old self.old }
-        requires rd { IsRegister rd }
+        requires rd { IsRegister regs.rd }
         ensures grown { Grown types.old types.new }
-        ensures step { StepsTo types.old types.new self.old self.new span (Ld rd rs field) result }
+        ensures step { StepsTo types.old types.new self.old self.new span (Ld regs.rd regs.rs field) result }
         ensures program { self.new.program ≡ self.old.program }
         ensures labels { self.new.labels ≡ self.old.labels }
     {
-        let (loaded, flag) = self.field_of(types, rs, field, span)?;
+        let (loaded, flag) = self.field_of(types, regs.rs, field, span)?;
         if !flag {
             return refused(TCode::T12, span);
         }
-        self.registers.note(rd, loaded)?;
+        self.registers.note(regs.rd, loaded)?;
         Ok(())
     }
 
@@ -212,23 +226,22 @@ impl Checker<'_> {
     fn check_st(
         &mut self,
         types: &mut Types,
-        rd: u64,
+        regs: Operands,
         field: u64,
-        rs: u64,
         span: Span,
     ) -> Result<(), Refusal>
         requires place { IsPlace types.old self.old }
         requires field { field ≤ max_number }
         ensures grown { Grown types.old types.new }
-        ensures step { StepsTo types.old types.new self.old self.new span (St rd field rs) result }
+        ensures step { StepsTo types.old types.new self.old self.new span (St regs.rd field regs.rs) result }
         ensures program { self.new.program ≡ self.old.program }
         ensures labels { self.new.labels ≡ self.old.labels }
     {
-        let is_initialised = self.check_stored(types, rd, field, rs, span)?;
+        let is_initialised = self.check_stored(types, regs, field, span)?;
         if is_initialised {
             return Ok(());
         }
-        self.registers.fill(types, rd, field)?;
+        self.registers.fill(types, regs.rd, field)?;
         Ok(())
     }
 
@@ -236,18 +249,17 @@ impl Checker<'_> {
     fn check_stored(
         &self,
         types: &mut Types,
-        rd: u64,
+        regs: Operands,
         field: u64,
-        rs: u64,
         span: Span,
     ) -> Result<bool, Refusal>
         requires { IsSound types.old self.now.registers }
         ensures grown { Grown types.old types.new }
-        ensures stored { IsStored types.new self.now.registers.names (known types.old self.now.registers) rd field rs
-            span result }
+        ensures stored { IsStored types.new self.now.registers.names (known types.old self.now.registers) regs.rd field
+            regs.rs span result }
     {
-        let (wanted, is_initialised) = self.field_of(types, rd, field, span)?;
-        let source = match self.registers.find(rs) {
+        let (wanted, is_initialised) = self.field_of(types, regs.rd, field, span)?;
+        let source = match self.registers.find(regs.rs) {
             Some(entry) => entry,
             None => return refused(TCode::T08, span),
         };

@@ -7,11 +7,10 @@ ghost use Rattle.t_terms.specs.Read.{block as block_tree, datum, data_fields, sp
 ghost use Rattle.t_terms.specs.ReadProgram.{program as program_of, spanned_program};
 ghost use Rattle.t_intern.specs.Grown.{Grown, IsNumber};
 ghost use Rattle.t_known.specs.Known.{IsEmpty, IsOfBlock};
-ghost use Rattle.t_known.specs.Labels.{AreLabels};
 ghost use Rattle.t_check.specs.Verdict.{program_in, FormedBlock, FormedDatum, FormedData, IsPlace, IsBlock, AreBlocks};
-ghost use Rattle.t_check.specs.Verdict.{IsDatum, IsData, IsHeap, IsProgram};
+ghost use Rattle.t_check.specs.Verdict.{IsDatum, IsData, IsHeap, IsLabelled, IsProgram};
 
-use crate::checker::Checker;
+use crate::checker::{Checker, Labelled};
 use idx_core::{OutOfMemory, Span};
 use std::alloc::Global;
 use t_intern::Types;
@@ -33,8 +32,13 @@ pub(crate) fn check_program(
         return refused(TCode::T20, first.name);
     }
     let labels = Labels::of_program(alloc, types, program)?;
-    check_heap(alloc, types, program, &labels, &program.heap)?;
-    check_blocks(alloc, types, program, &labels, &program.blocks)
+    let of = Labelled {
+        alloc,
+        program,
+        labels: &labels,
+    };
+    check_heap(&of, types, &program.heap)?;
+    check_blocks(&of, types, &program.blocks)
 }
 
 fn takes_nothing(block: &Block) -> bool
@@ -44,23 +48,17 @@ fn takes_nothing(block: &Block) -> bool
 }
 
 // The data in order, each tuple under no type names and no registers.
-fn check_heap(
-    alloc: Global,
-    types: &mut Types,
-    program: &TProgram,
-    labels: &Labels,
-    heap: &[Data],
-) -> Result<(), Refusal>
-    requires heap { heap.now ≡ program.now.heap.items }
-    requires labels { AreLabels types.old program.now labels.now }
+fn check_heap(of: &Labelled, types: &mut Types, heap: &[Data]) -> Result<(), Refusal>
+    requires heap { heap.now ≡ of.now.program.now.heap.items }
+    requires labels { IsLabelled types.old of.now }
     ensures grown { Grown types.old types.new }
-    ensures heap { IsHeap (program_of program.now) types.new (spanned_heap heap.now) result }
+    ensures heap { IsHeap (program_of of.now.program.now) types.new (spanned_heap heap.now) result }
 {
     let checker = Checker {
-        alloc,
-        program,
-        labels,
-        registers: Registers::none(alloc, 0),
+        alloc: of.alloc,
+        program: of.program,
+        labels: of.labels,
+        registers: Registers::none(of.alloc, 0),
     };
     for tuple in heap {
         checker.check_data(types, &tuple.fields)?;
@@ -69,43 +67,30 @@ fn check_heap(
 }
 
 // The blocks in order.
-fn check_blocks(
-    alloc: Global,
-    types: &mut Types,
-    program: &TProgram,
-    labels: &Labels,
-    blocks: &[Block],
-) -> Result<(), Refusal>
-    requires blocks { blocks.now ≡ program.now.blocks.items }
-    requires labels { AreLabels types.old program.now labels.now }
-    ensures { AreBlocks (program_of program.now) types.new (spanned_blocks blocks.now) result }
+fn check_blocks(of: &Labelled, types: &mut Types, blocks: &[Block]) -> Result<(), Refusal>
+    requires blocks { blocks.now ≡ of.now.program.now.blocks.items }
+    requires labels { IsLabelled types.old of.now }
+    ensures { AreBlocks (program_of of.now.program.now) types.new (spanned_blocks blocks.now) result }
 {
     for i in 0..blocks.len() {
-        check_block(alloc, types, program, labels, &blocks[i], labels.blocks[i])?;
+        check_block(of, types, &blocks[i], of.labels.blocks[i])?;
     }
     Ok(())
 }
 
 // A block under its own file: its instructions in order, and its end. Its code type has the number `code`.
-fn check_block(
-    alloc: Global,
-    types: &mut Types,
-    program: &TProgram,
-    labels: &Labels,
-    block: &Block,
-    code: u64,
-) -> Result<(), Refusal>
-    requires formed { FormedBlock program.now (block_tree block.now) }
-    requires labels { AreLabels types.old program.now labels.now }
+fn check_block(of: &Labelled, types: &mut Types, block: &Block, code: u64) -> Result<(), Refusal>
+    requires formed { FormedBlock of.now.program.now (block_tree block.now) }
+    requires labels { IsLabelled types.old of.now }
     requires code { IsNumber types.old (CodeTy block.now.owes (file block.now.regs.regs.items)) code }
     ensures grown { Grown types.old types.new }
-    ensures block { IsBlock (program_of program.now) types.new (spanned block.now) result }
+    ensures block { IsBlock (program_of of.now.program.now) types.new (spanned block.now) result }
 {
-    let registers = header(alloc, types, block, code)?;
+    let registers = header(of.alloc, types, block, code)?;
     let mut checker = Checker {
-        alloc,
-        program,
-        labels,
+        alloc: of.alloc,
+        program: of.program,
+        labels: of.labels,
         registers,
     };
     for step in &block.body {

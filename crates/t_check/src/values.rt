@@ -19,6 +19,13 @@ use t_known::{Odds, Refusal, at_odds, code_parts, exists_body, intern, owed, ref
 use t_terms::{Base, TCode, Value};
 use t_types::TType;
 
+// The type that a package hides, and the type that it is given.
+#[derive(Clone, Copy)]
+struct Package<'a> {
+    hidden: &'a TType,
+    shape: &'a TType,
+}
+
 impl Checker<'_> {
     // The type of a value.
     pub(crate) fn type_of_value(
@@ -40,7 +47,7 @@ impl Checker<'_> {
                 shape,
             } => {
                 let found = self.type_of_value(types, inner, span)?;
-                self.type_of_package(types, hidden, found, shape, span)
+                self.type_of_package(types, &Package { hidden, shape }, found, span)
             }
         }
     }
@@ -176,25 +183,25 @@ impl Checker<'_> {
         types.put_file(regs, 0, &args, left)
     }
 
-    // The type of a package: its shape, where the type that was found fits it with `hidden` put for what it hides.
+    // The type of a package: its shape, where the type that was found fits it with the hidden
+    // type put for what it hides.
     fn type_of_package(
         &self,
         types: &mut Types,
-        hidden: &TType,
+        given: &Package,
         found: u64,
-        shape: &TType,
         span: Span,
     ) -> Result<u64, Refusal>
         requires few { self.now.registers.names ≤ max_names }
         requires found { found < length types.old }
-        requires hidden { WellFormed self.now.registers.names (tree hidden.now) }
-        requires shape { WellFormed self.now.registers.names (tree shape.now) }
+        requires hidden { WellFormed self.now.registers.names (tree given.now.hidden.now) }
+        requires shape { WellFormed self.now.registers.names (tree given.now.shape.now) }
         ensures grown { Grown types.old types.new }
-        ensures packed { IsPacked types.new self.now.registers.names (tree hidden.now) (at types.old found)
-            (tree shape.now) span result }
+        ensures packed { IsPacked types.new self.now.registers.names (tree given.now.hidden.now) (at types.old found)
+            (tree given.now.shape.now) span result }
     {
         let names = self.registers.names;
-        let shape = types.number(shape)?;
+        let shape = types.number(given.shape)?;
         let body = match exists_body(types, shape) {
             Some(body) => body,
             None => {
@@ -202,7 +209,7 @@ impl Checker<'_> {
                 return at_odds(TCode::T15, span, Odds::NoPackage { found, names });
             }
         };
-        let hidden = types.number(hidden)?;
+        let hidden = types.number(given.hidden)?;
         let wanted = types.put(body, 0, hidden)?;
         if !types.fits_once(found, wanted) {
             let odds = Odds::Types {

@@ -11,13 +11,12 @@ ghost use Rattle.t_rules.specs.Rules.{Accepted};
 ghost use Rattle.t_intern.specs.Grown.{Grown};
 ghost use Rattle.t_check.specs.Checked.{checked_program};
 ghost use Rattle.t_known.specs.Known.{known, IsSound};
-ghost use Rattle.t_known.specs.Labels.{AreLabels};
-ghost use Rattle.t_check.specs.Verdict.{FormedInstr, IsPlace, program_in};
+ghost use Rattle.t_check.specs.Verdict.{FormedInstr, IsLabelled, IsPlace, program_in};
 ghost use Rattle.t_check.specs.Walks.{IsFileOf, IsKnownFile, IsKnownRegister, IsTyped, IsPassed, IsStand};
 ghost use Rattle.t_check.specs.Walks.{IsStandAt, IsWalk, walked};
 
 use crate::checked::Checked;
-use crate::checker::Checker;
+use crate::checker::{Checker, Labelled};
 use crate::program::header;
 use crate::salt_of;
 use idx_core::{OutOfMemory, Span};
@@ -71,21 +70,14 @@ impl Checker<'_> {
 }
 
 // From a place of an accepted program to one further on in its block.
-fn pass(
-    alloc: Global,
-    types: &mut Types,
-    program: &TProgram,
-    labels: &Labels,
-    stand: Stand,
-    index: u64,
-) -> Result<Stand, OutOfMemory>
-    requires accepted { ∥ Accepted (program_of program.now) ∥₁ }
-    requires labels { AreLabels types.old program.now labels.now }
-    requires stands { IsStand types.old program.now stand }
+fn pass(of: &Labelled, types: &mut Types, stand: Stand, index: u64) -> Result<Stand, OutOfMemory>
+    requires accepted { ∥ Accepted (program_of of.now.program.now) ∥₁ }
+    requires labels { IsLabelled types.old of.now }
+    requires stands { IsStand types.old of.now.program.now stand }
     requires order { stand.index ≤ index }
-    requires there { (c : TSeq) × (code_at (program_of program.now) stand.block index ≡ Some c) }
+    requires there { (c : TSeq) × (code_at (program_of of.now.program.now) stand.block index ≡ Some c) }
     ensures grown { Grown types.old types.new }
-    ensures stands { IfOk result (IsStandAt types.new program.now stand.block index) }
+    ensures stands { IfOk result (IsStandAt types.new of.now.program.now stand.block index) }
 {
     places_go_on();
     let Stand {
@@ -93,11 +85,11 @@ fn pass(
         index: from,
         registers,
     } = stand;
-    let body = &program.blocks[block as usize].body;
+    let body = &of.program.blocks[block as usize].body;
     let mut checker = Checker {
-        alloc,
-        program,
-        labels,
+        alloc: of.alloc,
+        program: of.program,
+        labels: of.labels,
         registers,
     };
     for i in from..index {
@@ -199,14 +191,12 @@ impl<'a> Walk<'a> {
         ensures stands { IfOk result (IsStandAt self.new.types self.new.program.now block index) }
     {
         let stand = self.start(block, index)?;
-        let stand = pass(
-            self.alloc,
-            &mut self.types,
-            self.program,
-            &self.labels,
-            stand,
-            index,
-        )?;
+        let of = Labelled {
+            alloc: self.alloc,
+            program: self.program,
+            labels: &self.labels,
+        };
+        let stand = pass(&of, &mut self.types, stand, index)?;
         Ok(stand)
     }
 

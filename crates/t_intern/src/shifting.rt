@@ -1,5 +1,5 @@
 // Shifts of types by number.
-ghost use Rattle.std.specs.Prelude.{◌≡◌, ℕ, ◌<◌, ◌≤◌, length, IfOk};
+ghost use Rattle.std.specs.Prelude.{◌≡◌, ℕ, ◌<◌, length, IfOk};
 ghost use Rattle.idx_core.specs.Over.{IsWord, ShiftFitsAt, shifted};
 ghost use Rattle.t_types.specs.Tree.{VarTy, each_file, each_fields, shift, shift_file, shift_fields, ShiftFits};
 ghost use Rattle.t_intern.specs.Found.{found};
@@ -77,7 +77,7 @@ impl Types {
             Shape::Int => self.interned(Shape::Int),
             Shape::Var(i) => self.interned(Shape::Var(shifted_index(i, by, cut))),
             Shape::Code { owes, regs } => {
-                let regs = self.shift_regs(memo, n, &regs, by, cut + owes)?;
+                let regs = self.shift_regs(memo, &regs, by, cut + owes)?;
                 self.interned(Shape::Code { owes, regs })
             }
             Shape::Exists(t) => {
@@ -85,24 +85,22 @@ impl Types {
                 self.interned(Shape::Exists(t))
             }
             Shape::Tuple(fields) => {
-                let fields = self.shift_fields(memo, n, &fields, by, cut)?;
+                let fields = self.shift_fields(memo, &fields, by, cut)?;
                 self.interned(Shape::Tuple(fields))
             }
         }
     }
 
-    // Parts of the type of n.
+    // Registers and fields, each by its type.
     #[cycle(shifts)]
     fn shift_regs(
         &mut self,
         memo: &mut Memo,
-        n: u64,
         regs: &[(u64, u64)],
         by: u64,
         cut: u64,
     ) -> Result<Vec<(u64, u64)>, OutOfMemory>
-        requires there { n ≤ length self.old }
-        requires parts { RegsBelow n regs.now }
+        requires parts { RegsBelow (length self.old) regs.now }
         requires fits { each_file (ShiftFitsAt by) IsWord cut (regs_at self.old regs.now) }
         requires memo { Remembers (shifted VarTy by) (found memo.old) self.old }
         ensures grown { Grown self.old self.new }
@@ -122,13 +120,11 @@ impl Types {
     fn shift_fields(
         &mut self,
         memo: &mut Memo,
-        n: u64,
         fields: &[(u64, bool)],
         by: u64,
         cut: u64,
     ) -> Result<Vec<(u64, bool)>, OutOfMemory>
-        requires there { n ≤ length self.old }
-        requires parts { FieldsBelow n fields.now }
+        requires parts { FieldsBelow (length self.old) fields.now }
         requires fits { each_fields (ShiftFitsAt by) IsWord cut (fields_at self.old fields.now) }
         requires memo { Remembers (shifted VarTy by) (found memo.old) self.old }
         ensures grown { Grown self.old self.new }

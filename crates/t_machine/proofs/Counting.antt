@@ -353,7 +353,7 @@ pub counted_first : (x : Heap) (ws : List Word) (code : Code) (at k n : ℕ) (xs
     CountsOn x ws code at k xs ys → xs ≡ replicate n 0 → n ≡ length code.instructions.items →
     (P : TProg) → Whole P → Accepted P → (m : ℕ) → Shows P m x ws code at → AreCounts P k (m + k) ys
 counted_first x ws code at k n xs ys on is count P whole acc m s =
-    let all : n ≡ sizes (erase_blocks P) = count ∙ s.laid.1 in
+    let all : n ≡ sizes (erase_blocks P) = count ∙ s.machine.laid.1 in
     let from : 0 + k ≡ k = omega arith in
     subst (λ j. AreCounts P j (m + k) ys) from
     (on.counts P whole acc 0 m s (counts_none P m xs (is ∙ ap (λ j. replicate j 0) all)))

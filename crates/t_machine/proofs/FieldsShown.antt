@@ -42,7 +42,7 @@ filled_words ns (Some w) = filled_held ns w
 pub some_rising : (x : Heap) (ws : List Word) (code : Code) (at : ℕ) → ∥ ShowsSome x ws code at ∥₁ →
     AreRising (numbers x)
 some_rising x ws code at some i j lt below =
-    ∥∥₁_elim some le_prop (λ k. k.4.erased.keeps.rising i j lt below)
+    ∥∥₁_elim some le_prop (λ k. k.shows.erased.keeps.rising i j lt below)
 
 -- a tuple that is there is kept
 pub kept_at : (x : Heap) (i a : ℕ) → i < length x.starts.items → slice_index (numbers x) i ≡ a →
@@ -61,7 +61,7 @@ module _ (laws : ProgramLaws) (P : TProg) (m : ℕ) (x : Heap) (ws : List Word) 
     (r : Option Word)
     (read : (h : EHeap) → IsHeap x h → option_map word r ≡ option_and_then (λ t. slice_get t j) (slice_get h i)) where
   tuple : (t : List EWord) × (slice_get s.tuples i ≡ Some t)
-  tuple = some_at s.tuples i (omega (arith, lt, tuple_count x s.tuples s.has_heap))
+  tuple = some_at s.tuples i (omega (arith, lt, tuple_count x s.tuples s.machine.has_heap))
 
   here : option_and_then (λ t. slice_get t j) (slice_get s.erased.heap a)
       ≡ option_map (numbered (numbers x)) (option_map word r)
@@ -71,7 +71,7 @@ module _ (laws : ProgramLaws) (P : TProg) (m : ℕ) (x : Heap) (ws : List Word) 
       ∙ ap (option_and_then (λ (u : List EWord). slice_get u j)) (s.erased.keeps.tuples i t tuple.1)
       ∙ slice_get-map (numbered (numbers x)) t j
       ∙ ap (option_map (numbered (numbers x))) (ap (option_and_then (λ (u : List EWord). slice_get u j)) (sym tuple.1)
-      ∙ sym (read s.tuples s.has_heap))
+      ∙ sym (read s.tuples s.machine.has_heap))
 
   state : (t : State) (p : Place) → After P m t p → tuples_of (erase t) ≡ s.erased.heap
   state t p run =

@@ -72,9 +72,10 @@ module _ (laws : ProgramLaws) (P : TProg) (m : ℕ) (x : Heap) (ws : List Word) 
   here =
       let stands = stood_stands laws P m (erase_blocks P) (numbers x) x.fixed (made x) s.tuples (held_in code.places ws)
       s.rest (Spot s.block s.index) s.erased in
-      let begun = subst (λ (es : List ℕ). slice_get es s.block ≡ Some s.start) s.laid.0 s.entered in
-      subst (Within 0 (erase_blocks P) s.block s.index) (sym s.placed) (within_at 0
-      (erase_blocks P) s.block s.index s.start s.rest begun stands)
+      let begun = subst (λ (es : List ℕ). slice_get es s.block ≡ Some s.machine.start) s.machine.laid.0
+      s.machine.entered in
+      subst (Within 0 (erase_blocks P) s.block s.index) (sym s.machine.placed) (within_at 0
+      (erase_blocks P) s.block s.index s.machine.start s.rest begun stands)
 
   pub stands_at : (t : State) (p : Place) → After P m t p → p ≡ Spot s.block s.index
   stands_at t p run = (laws.one P m t s.erased.erased.1.0 p (Spot s.block s.index) run s.erased.erased.1.1).1
@@ -83,14 +84,15 @@ module _ (laws : ProgramLaws) (P : TProg) (m : ℕ) (x : Heap) (ws : List Word) 
   less = let lt = within_less 0 (erase_blocks P) s.block s.index at here in omega (arith, lt)
 
   pub some_blocks : 0 < length code.entries.items
-  some_blocks = subst (λ (es : List ℕ). 0 < length es) (sym s.laid.0) (there (erase_blocks P) s.block s.index at here)
+  some_blocks = subst (λ (es : List ℕ). 0 < length es) (sym s.machine.laid.0) (there (erase_blocks P) s.block s.index at
+      here)
     where
       there : (cs : List ESeq) (b i k : ℕ) → Within 0 cs b i k → 0 < length (begins 0 cs)
       there [] b i k w = absurd w
       there (c ∷ cs) b i k w = omega arith
 
   pub first_begun : begin_at code.entries.items 0 ≤ at
-  first_begun = subst (λ (es : List ℕ). begin_at es 0 ≤ at) (sym s.laid.0) (at_none (erase_blocks P))
+  first_begun = subst (λ (es : List ℕ). begin_at es 0 ≤ at) (sym s.machine.laid.0) (at_none (erase_blocks P))
     where
       at_none : (cs : List ESeq) → begin_at (begins 0 cs) 0 ≤ at
       at_none [] = omega arith
@@ -98,10 +100,10 @@ module _ (laws : ProgramLaws) (P : TProg) (m : ℕ) (x : Heap) (ws : List Word) 
 
   pub place_is : (b : ℕ) → IsBlockAt code.entries.items at b → IsPlaceAfter P m b (at - begin_at code.entries.items b)
   place_is b found t p run =
-      let f = subst (λ (es : List ℕ). IsBlockAt es at b) s.laid.0 found in
+      let f = subst (λ (es : List ℕ). IsBlockAt es at b) s.machine.laid.0 found in
       let w = found_in 0 (erase_blocks P) b at f.there f.begun f.next (omega (arith, less)) in
       let same = read_back (erase_blocks P) s.block b s.index (at - begin_at (begins 0 (erase_blocks P)) b) at here w in
-      stands_at t p run ∙ ap₂ Spot same.0 (same.1 ∙ ap (λ (es : List ℕ). at - begin_at es b) (sym s.laid.0))
+      stands_at t p run ∙ ap₂ Spot same.0 (same.1 ∙ ap (λ (es : List ℕ). at - begin_at es b) (sym s.machine.laid.0))
 
   -- the words of the registers, where a tuple has the number that it has in the program's states
   abbrev shown_in : ERegs
@@ -147,20 +149,23 @@ points_prop n (Empty m) = Unit-prop
 module _ (laws : ProgramLaws) (x : Heap) (ws : List Word) (code : Code) (at : ℕ)
     (some : ∥ ShowsSome x ws code at ∥₁) where
   pub some_there : 0 < length code.entries.items
-  some_there = ∥∥₁_elim some le_prop (λ k. some_blocks laws k.0 k.1 x ws code at k.4)
+  some_there = ∥∥₁_elim some le_prop (λ k. some_blocks laws k.program k.steps x ws code at k.shows)
 
   pub some_begun : begin_at code.entries.items 0 ≤ at
-  some_begun = ∥∥₁_elim some le_prop (λ k. first_begun laws k.0 k.1 x ws code at k.4)
+  some_begun = ∥∥₁_elim some le_prop (λ k. first_begun laws k.program k.steps x ws code at k.shows)
 
   pub some_word : (r k : ℕ) → place_of code.places r ≡ Some k → k < length ws
-  some_word r k e = ∥∥₁_elim some le_prop (λ z. let lt = z.4.has_places.0 r k e in omega (arith, lt, z.4.has_words))
+  some_word r k e = ∥∥₁_elim some le_prop (λ z. let lt = z.shows.machine.has_places.0 r k e in
+      omega (arith, lt, z.shows.machine.has_words))
 
   pub some_shown : (r k : ℕ) (w : Word) → place_of code.places r ≡ Some k → w ≡ get_or ws k w →
       PointsBelow (length x.starts.items) w
   some_shown r k w e is = ∥∥₁_elim some (points_prop (length x.starts.items) w) (λ z.
-      let lt = z.4.has_places.0 r k e in
-      let in' : k < length ws = omega (arith, lt, z.4.has_words) in
-      let all = z.4.words_started in
-      subst (λ ss. PointsBelow (length ss) w) (sym z.4.has_heap.1) (started_below (starts_from 0 z.4.tuples) w
-      (subst (Started (starts_from 0 z.4.tuples)) (sym is) (All-get_or (Started (starts_from 0 z.4.tuples)) ws k w in'
+      let lt = z.shows.machine.has_places.0 r k e in
+      let in' : k < length ws = omega (arith, lt, z.shows.machine.has_words) in
+      let all = z.shows.machine.words_started in
+      subst (λ ss. PointsBelow (length ss) w) (sym z.shows.machine.has_heap.1) (started_below
+      (starts_from 0 z.shows.tuples) w
+      (subst (Started (starts_from 0 z.shows.tuples)) (sym is) (All-get_or (Started (starts_from 0 z.shows.tuples)) ws k
+      w in'
       all))))

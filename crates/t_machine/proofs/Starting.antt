@@ -147,11 +147,10 @@ begins laws P x ws code at some is laid paired places heap fresh in_heap in_code
     let zero = fresh.dropped in
     let tuples = tuple_count x (erase_heap P) heap in
     record {
-      tuples = erase_heap P;
-      rest = erase_block b.0;
       block = 0;
       index = 0;
-      start = at;
+      rest = erase_block b.0;
+      tuples = erase_heap P;
       erased = record {
         heap = erase_heap P;
         regs = no_ewords;
@@ -160,22 +159,25 @@ begins laws P x ws code at some is laid paired places heap fresh in_heap in_code
             (sym (no_words_yet code.places (length code.places) ∙ ap (regs_of code.places) (sym words)));
         counted = omega (arith, zero, tuples);
       };
-      has_code = is;
-      laid = laid;
-      paired = paired;
-      has_places = places;
-      has_heap = heap;
-      heap_started = in_heap;
-      words_started = All-same (Started S) ws
-          (replicate (length code.places) (Empty 0)) words
-          (All-replicate (Started S) (length code.places) (Empty 0) tt);
-      code_started = in_code;
-      code_fixed = subst (λ d. All (PointsBelow d) (all_moved code.instructions.items)) count
-          (All-weaker (Started S) (PointsBelow (length S)) (started_below S) (all_moved code.instructions.items)
-          in_code);
-      has_words = ap (λ us. length us) words ∙ replicate_count (length code.places) (Empty 0);
-      entered = entry;
-      placed = omega arith;
+      machine = record {
+        has_code = is;
+        laid = laid;
+        paired = paired;
+        start = at;
+        entered = entry;
+        placed = omega arith;
+        has_places = places;
+        has_words = ap (λ us. length us) words ∙ replicate_count (length code.places) (Empty 0);
+        has_heap = heap;
+        heap_started = in_heap;
+        words_started = All-same (Started S) ws
+            (replicate (length code.places) (Empty 0)) words
+            (All-replicate (Started S) (length code.places) (Empty 0) tt);
+        code_started = in_code;
+        code_fixed = subst (λ d. All (PointsBelow d) (all_moved code.instructions.items)) count
+            (All-weaker (Started S) (PointsBelow (length S)) (started_below S) (all_moved code.instructions.items)
+            in_code);
+      };
     }
 
 -- what loading makes

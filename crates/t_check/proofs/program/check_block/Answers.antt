@@ -26,7 +26,7 @@ use Rattle.t_check.proofs.program.check_block.Goals as goal
 
 pub loop-step-init : goal.loop-step-init
 loop-step-init c =
-    let p = c.args.program.now in
+    let p = c.args.of.now.program.now in
     let P = program p in
     let b = c.args.block.now in
     let k = c.in_ok-registers.registers in
@@ -48,7 +48,7 @@ loop-step-init c =
 
 pub check_instr-requires : goal.check_instr-requires
 check_instr-requires c =
-    let p = c.args.program.now in
+    let p = c.args.of.now.program.now in
     let b = c.args.block.now in
     let l = c.loop-step in
     let k = l.checker.registers in
@@ -56,7 +56,7 @@ check_instr-requires c =
     let e = end_of b.«end» in
     let g = lookup (file b.regs.regs.items) in
     let h = known l.types k in
-    let labels = labels_grown c.args.types.now l.types p c.args.labels.now l.invariant.grown c.requires.labels in
+    let labels = labels_grown c.args.types.now l.types p c.args.of.now.labels.now l.invariant.grown c.requires.labels in
     record {
       place = record {
         sound = l.invariant.sound;
@@ -76,7 +76,7 @@ returns-in_err-check_instr-clause-grown c =
 
 pub returns-in_err-check_instr-clause-block : goal.returns-in_err-check_instr-clause-block
 returns-in_err-check_instr-clause-block c =
-    let P = program c.args.program.now in
+    let P = program c.args.of.now.program.now in
     let b = c.args.block.now in
     let l = c.loop-step in
     let k = l.checker.registers in
@@ -103,7 +103,7 @@ returns-in_err-check_instr-clause-block c =
 
 pub loop-step-preserved : goal.loop-step-preserved
 loop-step-preserved c =
-    let p = c.args.program.now in
+    let p = c.args.of.now.program.now in
     let P = program p in
     let b = c.args.block.now in
     let l = c.loop-step in
@@ -130,11 +130,11 @@ loop-step-preserved c =
 
 pub check_end-requires : goal.check_end-requires
 check_end-requires c =
-    let p = c.args.program.now in
+    let p = c.args.of.now.program.now in
     let b = c.args.block.now in
     let l = c.loop-step in
     let k = l.checker.registers in
-    let labels = labels_grown c.args.types.now l.types p c.args.labels.now l.invariant.grown c.requires.labels in
+    let labels = labels_grown c.args.types.now l.types p c.args.of.now.labels.now l.invariant.grown c.requires.labels in
     record {
       place = record {
         sound = l.invariant.sound;
@@ -152,7 +152,7 @@ returns-clause-grown c = grown_next _ _ _ c.loop-step.invariant.grown c.check_en
 
 pub returns-clause-block : goal.returns-clause-block
 returns-clause-block c =
-    let P = program c.args.program.now in
+    let P = program c.args.of.now.program.now in
     let b = c.args.block.now in
     let l = c.loop-step in
     let k = l.checker.registers in

@@ -14,11 +14,12 @@ abbrev pub invariant-loop-step : goal.invariant-loop-step
 invariant-loop-step l = record {
   grown : Grown l.fn.types l.types;
   sound : IsSound l.types l.checker.registers;
-  same : l.checker.program.now ≡ l.program;
-  labels : l.checker.labels.now ≡ l.labels;
-  formed : WellFormedSeq (length l.program.blocks.items) (length l.program.heap.items) l.checker.registers.names
+  same : l.checker.program.now ≡ l.of.program.now;
+  labels : l.checker.labels.now ≡ l.of.labels.now;
+  formed : WellFormedSeq (length l.of.program.now.blocks.items) (length l.of.program.now.heap.items)
+      l.checker.registers.names
       (seq_of (body (drop l.step-index l.step-items)) (end_of l.block.end));
-  left : IsLeft (program l.program) (end_of l.block.end) l.block.end_span l.block.owes l.checker.registers.names
+  left : IsLeft (program l.of.program.now) (end_of l.block.end) l.block.end_span l.block.owes l.checker.registers.names
       (lookup (file l.block.regs.regs.items)) (known l.types l.checker.registers) l.step-items
       (drop l.step-index l.step-items);
 }

@@ -7,5 +7,5 @@ use Rattle.t_check.proofs.program.check_blocks.Given as goal
 abbrev pub invariant-loop-i : goal.invariant-loop-i
 invariant-loop-i l = record {
   grown : Grown l.fn.types l.types;
-  left : AreLeft (program l.program) l.blocks (drop l.i l.blocks);
+  left : AreLeft (program l.of.program.now) l.blocks (drop l.i l.blocks);
 }

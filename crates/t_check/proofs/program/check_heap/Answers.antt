@@ -18,7 +18,7 @@ use Rattle.t_check.proofs.program.check_heap.Goals as goal
 
 pub check_data-requires-clause-formed : goal.check_data-requires-clause-formed
 check_data-requires-clause-formed c =
-    let p = c.args.program.now in
+    let p = c.args.of.now.program.now in
     let i = c.loop-tuple.tuple-index in
     let x = c.tuple-item.result in
     subst (λ (xs : List Field). FormedData p (data_fields xs)) (sym c.deref.ensures.value)
@@ -29,14 +29,14 @@ pub check_data-requires-clause-place : goal.check_data-requires-clause-place
 check_data-requires-clause-place c =
     record {
       sound = c.none.ensures.sound c.loop-tuple.types;
-      labels = labels_grown c.args.types.now c.loop-tuple.types c.args.program.now c.args.labels.now
+      labels = labels_grown c.args.types.now c.loop-tuple.types c.args.of.now.program.now c.args.of.now.labels.now
           c.loop-tuple.invariant.grown c.requires.labels;
     }
 
 pub returns-in_err-check_data-clause-heap : goal.returns-in_err-check_data-clause-heap
 returns-in_err-check_data-clause-heap c =
     let p = err_from_is_err_and c.from_residual.result c.from_residual.ensures.1 in
-    let P = program c.args.program.now in
+    let P = program c.args.of.now.program.now in
     let x = c.tuple-item.result in
     rw (p.1, p.2)
     (says_map c.check_data.new.types c.in_err-check_data.field-0.0 (DataFaultWith P (spanned_data x).fields)
@@ -53,7 +53,7 @@ returns-in_err-check_data-clause-grown c =
 
 pub loop-tuple-preserved : goal.loop-tuple-preserved
 loop-tuple-preserved c =
-    let P = program c.args.program.now in
+    let P = program c.args.of.now.program.now in
     record {
       grown = grown_next _ _ _ c.loop-tuple.invariant.grown c.in_ok-check_data.ensures.grown;
       left = data_more P c.args.heap.now c.loop-tuple.tuple-index c.tuple-item.result c.loop-tuple-test.true
@@ -64,5 +64,5 @@ loop-tuple-preserved c =
 
 pub returns-clause-heap : goal.returns-clause-heap
 returns-clause-heap c =
-    data_end (program c.args.program.now) c.args.heap.now c.loop-tuple.tuple-index c.loop-tuple-test.false
+    data_end (program c.args.of.now.program.now) c.args.heap.now c.loop-tuple.tuple-index c.loop-tuple-test.false
     c.loop-tuple.invariant.left

@@ -7,5 +7,5 @@ use Rattle.t_check.proofs.program.check_heap.Given as goal
 abbrev pub invariant-loop-tuple : goal.invariant-loop-tuple
 invariant-loop-tuple l = record {
   grown : Grown l.fn.types l.types;
-  left : DataLeft (program l.program) l.heap (drop l.tuple-index l.heap);
+  left : DataLeft (program l.of.program.now) l.heap (drop l.tuple-index l.heap);
 }

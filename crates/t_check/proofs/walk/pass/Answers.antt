@@ -16,7 +16,7 @@ use Rattle.t_check.proofs.walk.pass.Goals as goal
 
 pub index-requires : goal.index-requires
 index-requires c =
-    let p = c.args.program.now in
+    let p = c.args.of.now.program.now in
     omega (arith, block_there p c.args.stand.block c.args.index c.requires.there.0 c.requires.there.1, p.blocks.ok.0)
 
 pub loop-i-init : goal.loop-i-init
@@ -30,7 +30,7 @@ loop-i-init c = record {
 
 pub index-step-requires : goal.index-step-requires
 index-step-requires c =
-    let p = c.args.program.now in
+    let p = c.args.of.now.program.now in
     let x = c.index.result.now in
     let b = c.args.stand.block in
     let there = block_there p b c.args.index c.requires.there.0 c.requires.there.1 in
@@ -43,9 +43,9 @@ index-step-requires c =
 
 pub pass_instr-requires-clause-place : goal.pass_instr-requires-clause-place
 pass_instr-requires-clause-place c =
-    let p = c.args.program.now in
+    let p = c.args.of.now.program.now in
     let l = c.loop-i in
-    let labels = labels_grown c.args.types.now l.types p c.args.labels.now l.invariant.grown c.requires.labels in
+    let labels = labels_grown c.args.types.now l.types p c.args.of.now.labels.now l.invariant.grown c.requires.labels in
     record {
       sound = l.invariant.sound;
       labels = subst (λ (q : TProgram). AreLabels l.types q l.checker.labels.now) (sym l.invariant.same)
@@ -54,7 +54,7 @@ pass_instr-requires-clause-place c =
 
 pub pass_instr-requires-clause-instr : goal.pass_instr-requires-clause-instr
 pass_instr-requires-clause-instr c =
-    let p = c.args.program.now in
+    let p = c.args.of.now.program.now in
     let x = c.index.result.now in
     let b = c.args.stand.block in
     let l = c.loop-i in
@@ -73,7 +73,7 @@ pass_instr-requires-clause-instr c =
 
 pub pass_instr-requires-clause-few : goal.pass_instr-requires-clause-few
 pass_instr-requires-clause-few c =
-    let p = c.args.program.now in
+    let p = c.args.of.now.program.now in
     let x = c.index.result.now in
     let b = c.args.stand.block in
     let l = c.loop-i in
@@ -90,7 +90,7 @@ pass_instr-requires-clause-few c =
 
 pub pass_instr-requires-clause-typed : goal.pass_instr-requires-clause-typed
 pass_instr-requires-clause-typed c =
-    let p = c.args.program.now in
+    let p = c.args.of.now.program.now in
     let x = c.index.result.now in
     let b = c.args.stand.block in
     let l = c.loop-i in
@@ -110,7 +110,7 @@ pass_instr-requires-clause-typed c =
 
 pub loop-i-preserved : goal.loop-i-preserved
 loop-i-preserved c =
-    let p = c.args.program.now in
+    let p = c.args.of.now.program.now in
     let x = c.index.result.now in
     let b = c.args.stand.block in
     let l = c.loop-i in

@@ -9,7 +9,7 @@ abbrev pub invariant-loop-i : goal.invariant-loop-i
 invariant-loop-i l = record {
   grown : Grown l.fn.types l.types;
   sound : IsSound l.types l.checker.registers;
-  same : l.checker.program.now ≡ l.program;
-  labels : l.checker.labels.now ≡ l.labels;
-  known : KnownAt (program l.program) l.block l.i l.checker.registers.names (known l.types l.checker.registers);
+  same : l.checker.program.now ≡ l.of.program.now;
+  labels : l.checker.labels.now ≡ l.of.labels.now;
+  known : KnownAt (program l.of.program.now) l.block l.i l.checker.registers.names (known l.types l.checker.registers);
 }

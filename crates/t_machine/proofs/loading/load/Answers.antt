@@ -61,7 +61,15 @@ invariant_of-result c =
     c.new-registers.result.items c.new-registers.ensures.items _
     c.new-registers.ensures.len c.resize.new.self.items c.in_ok-resize.ensures.items c.index-at.result.now
     c.index-at.ensures in
-    record { stands = ∥∥₁_map c.program-program.ensures.accepted (λ a. (program p, 0, p.whole, a, shows)) }
+    record {
+      stands = ∥∥₁_map c.program-program.ensures.accepted (λ a. record {
+        program = program p;
+        steps = 0;
+        whole = p.whole;
+        accepted = a;
+        shows = shows;
+      });
+    }
 
 pub returns-clause-stands : goal.returns-clause-stands
 returns-clause-stands c =

@@ -20,9 +20,11 @@ returns-then-not-is_int-clause-step c = λ op.
     let g = known c.args.types.now k in
     let us = c.type_of_value.new.types in
     let v = value c.args.v.now in
-    subst (λ (r : Result (Unit {0}) Refusal). IsStep P us k.names g k c.args.span (Arith op c.args.rd c.args.rs v) r)
+    subst (λ (r : Result (Unit {0}) Refusal). IsStep P us k.names g k c.args.span
+    (Arith op c.args.regs.rd c.args.regs.rs v) r)
     (sym c.refused.ensures)
-    (operand P k.names g c.args.span op c.args.rd c.args.rs v (at us c.in_ok-found.found) c.in_ok-check_int.ensures
+    (operand P k.names g c.args.span op c.args.regs.rd c.args.regs.rs v (at us c.in_ok-found.found)
+    c.in_ok-check_int.ensures
     c.in_ok-found.ensures.typed.1 (λ e. absurd (true≢false (sym (c.if-not-is_int.ensures.1 e)))))
 
 pub returns-clause-step : goal.returns-clause-step
@@ -38,12 +40,12 @@ returns-clause-step c = λ op.
     let int = c.if-not-is_int.ensures.0 refl in
     let typed = c.in_ok-found.ensures.typed in
     let noted = c.in_ok-note.ensures us (sound_grown ts us grown k sound) typed.0 typed.2 in
-    let since = noted_since ts us k c.note.new.self c.args.rd (at us c.in_ok-found.found) grown sound noted in (
+    let since = noted_since ts us k c.note.new.self c.args.regs.rd (at us c.in_ok-found.found) grown sound noted in (
       (
         c.in_ok-check_int.ensures,
         subst (Has P k.names g v) int typed.1,
         since
-            ∙ ap (λ (t : Ty). with_reg g c.args.rd t) int,
+            ∙ ap (λ (t : Ty). with_reg g c.args.regs.rd t) int,
       ),
       noted.1,
       noted.2,

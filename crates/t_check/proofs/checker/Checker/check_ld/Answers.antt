@@ -19,7 +19,7 @@ returns-clause-step c =
         t,
         h.1,
         h.2 ∙ ap (λ (b : Bool). Some (AField t b)) c.if-not-flag.false,
-        noted_since ts us k c.note.new.self c.args.rd t grown sound noted,
+        noted_since ts us k c.note.new.self c.args.regs.rd t grown sound noted,
       ),
       noted.1,
       noted.2,

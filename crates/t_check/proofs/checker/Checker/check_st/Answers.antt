@@ -22,7 +22,7 @@ fill-requires-clause-there c =
     let same =
     known_grown ts us c.in_ok-is_initialised.ensures.grown c.args.self.now.registers c.requires.place.sound in (
       TupleTy h.0,
-      ap (λ (g : RegTypes). g c.args.rd) same ∙ h.3,
+      ap (λ (g : RegTypes). g c.args.regs.rd) same ∙ h.3,
       (h.0, h.1, c.in_ok-is_initialised.is_initialised, refl, h.4),
     )
 
@@ -43,8 +43,8 @@ returns-clause-step c =
         h.4,
         h.5,
         h.6,
-        filled_is.0 h.0 (ap (λ (g : RegTypes). g c.args.rd) same ∙ h.3)
-            ∙ ap (λ (g : RegTypes). with_reg g c.args.rd (TupleTy (filled h.0 c.args.field))) same,
+        filled_is.0 h.0 (ap (λ (g : RegTypes). g c.args.regs.rd) same ∙ h.3)
+            ∙ ap (λ (g : RegTypes). with_reg g c.args.regs.rd (TupleTy (filled h.0 c.args.field))) same,
       ),
       filled_is.1,
       filled_is.2,
@@ -71,7 +71,7 @@ returns-then-is_initialised-clause-step c =
         h.5,
         h.6,
         known_grown ts us c.in_ok-is_initialised.ensures.grown k c.requires.place.sound
-            ∙ sym (filled_before (known ts k) c.args.rd h.0 c.args.field h.1 h.3 set),
+            ∙ sym (filled_before (known ts k) c.args.regs.rd h.0 c.args.field h.1 h.3 set),
       ),
       sound_grown ts us c.in_ok-is_initialised.ensures.grown k c.requires.place.sound,
       refl,

@@ -71,12 +71,15 @@ returns-then-not-fits_once-clause-stored c =
     let before = h.4 in
     let longer = grown_length us vs c.in_ok-found.ensures.grown in
     let as_long = ap (λ (xs : List Ty). length xs) same in
-    subst (λ (r : Result Bool Refusal). IsStored ws n g c.args.rd c.args.field c.args.rs s r) (sym c.at_odds.ensures)
-    (says_types ws T13 n s (StoreFaultWith n g s c.args.rd c.args.field c.args.rs) w m (at us w) t (omega arith)
+    subst (λ (r : Result Bool Refusal). IsStored ws n g c.args.regs.rd c.args.field c.args.regs.rs s r)
+    (sym c.at_odds.ensures)
+    (says_types ws T13 n s (StoreFaultWith n g s c.args.regs.rd c.args.field c.args.regs.rs) w m (at us w) t
+    (omega arith)
     (omega arith) (ap (λ (xs : List Ty). at xs w) same ∙ kept) (ap (λ (xs : List Ty). at xs m) same ∙ own)
-    (field_follows g c.args.rd c.args.field s (λ fs u flag. register g c.args.rs s (λ x. fitting T13 n s u x)) h.0 h.1
+    (field_follows g c.args.regs.rd c.args.field s (λ fs u flag. register g c.args.regs.rs s (λ x.
+    fitting T13 n s u x)) h.0 h.1
     (at us w) c.in_ok-wanted.is_initialised _ s h.2
-    (unfit T13 n g c.args.rs s t (at us w) found.0
+    (unfit T13 n g c.args.regs.rs s t (at us w) found.0
     (λ f. true≢false
     (sym (c.fits_once.ensures.fit.1 (subst (λ (u : Ty). Fits u (at vs w)) (sym own) (subst (Fits t) (sym kept) f)))
     ∙ c.if-not-fits_once.true)))))

@@ -20,11 +20,11 @@ put-requires-clause-fits c =
     let us = c.number.new.self in
     let ws = c.number-2.new.self in
     let is = sym c.in_ok-shape.ensures.number.1 ∙ c.in-Some.ensures.0 in
-    let fits = pack_put_fits n (tree c.args.hidden.now) (at us c.in-Some.body) c.requires.few
-    (shallow n (tree c.args.hidden.now) c.requires.hidden)
-    (subst (Shallow n) is (shallow n (tree c.args.shape.now) c.requires.shape)) in
+    let fits = pack_put_fits n (tree c.args.given.now.hidden.now) (at us c.in-Some.body) c.requires.few
+    (shallow n (tree c.args.given.now.hidden.now) c.requires.hidden)
+    (subst (Shallow n) is (shallow n (tree c.args.given.now.shape.now) c.requires.shape)) in
     subst (λ (t : Ty). PutFits 0 t 0 (at ws c.in-Some.body)) (sym c.in_ok-hidden.ensures.number.1)
-    (subst (λ (t : Ty). PutFits 0 (tree c.args.hidden.now) 0 t)
+    (subst (λ (t : Ty). PutFits 0 (tree c.args.given.now.hidden.now) 0 t)
     (sym (grown_at us ws c.in_ok-hidden.ensures.grown c.in-Some.body c.in-Some.ensures.1)) fits)
 
 pub returns-clause-packed : goal.returns-clause-packed
@@ -42,10 +42,11 @@ returns-clause-packed c =
     let fits = c.fits_once.ensures.fit.0 c.if-not-fits_once.false in (
       at us c.in-Some.body,
       is,
-      subst (λ (t : Ty). Fits t (put 0 (tree c.args.hidden.now) (at us c.in-Some.body)))
+      subst (λ (t : Ty). Fits t (put 0 (tree c.args.given.now.hidden.now) (at us c.in-Some.body)))
           (grown_at ts vs all c.args.found c.requires.found) (subst (Fits (at vs c.args.found)) wanted fits),
-      subst (λ (ts : List Ty). IsNumber ts (tree c.args.shape.now) c.in_ok-shape.shape) (sym c.fits_once.ensures.same)
-          (grown_number us vs later (tree c.args.shape.now) c.in_ok-shape.shape c.in_ok-shape.ensures.number),
+      subst (λ (ts : List Ty). IsNumber ts (tree c.args.given.now.shape.now) c.in_ok-shape.shape)
+          (sym c.fits_once.ensures.same)
+          (grown_number us vs later (tree c.args.given.now.shape.now) c.in_ok-shape.shape c.in_ok-shape.ensures.number),
     )
 
 pub returns-in-None-clause-packed : goal.returns-in-None-clause-packed
@@ -54,8 +55,8 @@ returns-in-None-clause-packed c =
     let ts = c.args.types.now in
     let us = c.number.new.self in
     let s = c.args.span in
-    let hidden = tree c.args.hidden.now in
-    let shape = tree c.args.shape.now in
+    let hidden = tree c.args.given.now.hidden.now in
+    let shape = tree c.args.given.now.shape.now in
     let t = at ts c.args.found in
     let is = c.in_ok-shape.ensures.number.1 in
     subst (λ (r : Result ℕ Refusal). IsPacked us n hidden t shape s r) (sym c.at_odds.ensures)
@@ -77,8 +78,8 @@ returns-then-not-fits_once-clause-packed c =
     let wanted = c.in_ok-wanted.ensures.number.1
     ∙ ap₂ (put 0) c.in_ok-hidden.ensures.number.1
     (grown_at us ws c.in_ok-hidden.ensures.grown c.in-Some.body c.in-Some.ensures.1) in
-    let hidden = tree c.args.hidden.now in
-    let shape = tree c.args.shape.now in
+    let hidden = tree c.args.given.now.hidden.now in
+    let shape = tree c.args.given.now.shape.now in
     let m = c.args.found in
     let w = c.in_ok-wanted.wanted in
     let t = at ts m in

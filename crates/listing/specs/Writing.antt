@@ -12,7 +12,7 @@ use Rattle.listing.specs.declared.place.Place.{Place}
 use Rattle.listing.specs.declared.lister.Lister.{Lister}
 
 -- the number is that of the line of the byte at which the place stands
-pub record IsPlace (p : Place) : Type 0 where
+pub record HasLine (p : Place) : Type 0 where
   pub bound : p.at ≤ length p.text.now
   pub number : p.number ≡ lines (take p.at p.text.now)
 
@@ -24,7 +24,7 @@ abbrev pub program_of : Lister → TProg
 program_of l = walked l.walk
 
 pub record IsLister (l : Lister) : Type 0 where
-  pub place : IsPlace l.place
+  pub place : HasLine l.place
   pub walk : IsWalk l.walk
 
 -- both make the listing of the same

@@ -1,7 +1,7 @@
 // The numbers of lines, for places that mostly follow one another.
 ghost use Rattle.std.specs.Prelude.{◌≡◌, ◌≤◌, length, take};
 ghost use Rattle.page_core.specs.Spot.{line_number, lines};
-ghost use Rattle.listing.specs.Writing.{IsPlace};
+ghost use Rattle.listing.specs.Writing.{HasLine};
 
 // How far a text has been gone through, and the number of the line there, from 1 on.
 #[derive(Drop)]
@@ -31,7 +31,7 @@ impl<'a> Place<'a> {
     // The start of a text.
     pub(crate) fn first(text: &'a [u8]) -> Place<'a>
         ensures text { result.text ≡ text.entry }
-        ensures place { IsPlace result }
+        ensures place { HasLine result }
     {
         Place {
             text,
@@ -42,8 +42,8 @@ impl<'a> Place<'a> {
 
     // The number of the line of a byte. Where it stands before the last one, the text is gone through anew.
     pub(crate) fn line_of(&mut self, byte: u64) -> u64
-        requires { IsPlace self.old }
-        ensures place { IsPlace self.new }
+        requires { HasLine self.old }
+        ensures place { HasLine self.new }
         ensures text { self.new.text ≡ self.old.text }
         ensures number { result ≡ line_number self.old.text.now byte }
     {

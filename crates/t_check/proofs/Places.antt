@@ -2,12 +2,12 @@
 use Rattle.std.proofs.Common.{◌≡◌, ℕ, zero, suc, ◌<◌, List, [], ◌∷◌, length, get_or, refl, arith}
 use Rattle.t_types.specs.Tree.{Ty}
 use Rattle.t_intern.specs.Grown.{Grown}
-use Rattle.t_check.specs.Verdict.{IsPlace}
+use Rattle.t_check.specs.Verdict.{KnowsByNumber}
 use Rattle.t_check.specs.declared.checker.Checker.{Checker}
 use Rattle.t_known.proofs.Noting.{sound_grown}
 use Rattle.t_known.proofs.Numbering.{labels_grown}
 
-pub place_grown : (ts us : List Ty) (c : Checker) → Grown ts us → IsPlace ts c → IsPlace us c
+pub place_grown : (ts us : List Ty) (c : Checker) → Grown ts us → KnowsByNumber ts c → KnowsByNumber us c
 place_grown ts us c g h =
     record {
       sound = sound_grown ts us g c.registers h.sound;

@@ -141,7 +141,7 @@ abbrev pub IsLabelled : List Ty → Labelled → Type 0
 IsLabelled ts x = AreLabels ts x.program.now x.labels.now
 
 -- what it knows of the registers and of the labels is by numbers of ts
-pub record IsPlace (ts : List Ty) (c : Checker) : Type 0 where
+pub record KnowsByNumber (ts : List Ty) (c : Checker) : Type 0 where
   pub sound : IsSound ts c.registers
   pub labels : AreLabels ts c.program.now c.labels.now
 

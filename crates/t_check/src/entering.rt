@@ -4,7 +4,7 @@ ghost use Rattle.t_types.specs.Tree.{Ty};
 ghost use Rattle.t_terms.specs.Read.{value};
 ghost use Rattle.t_intern.specs.Grown.{Grown};
 ghost use Rattle.t_known.specs.Known.{known, IsSound};
-ghost use Rattle.t_check.specs.Verdict.{FormedAt, IsPlace, EnteredAt};
+ghost use Rattle.t_check.specs.Verdict.{FormedAt, KnowsByNumber, EnteredAt};
 
 use crate::checker::Checker;
 use crate::unfit::check_code;
@@ -21,7 +21,7 @@ impl Checker<'_> {
         v: &Value,
         span: Span,
     ) -> Result<(), Refusal>
-        requires place { IsPlace types.old self.old }
+        requires place { KnowsByNumber types.old self.old }
         requires value { FormedAt self.old (value v.now) }
         ensures grown { Grown types.old types.new }
         ensures entered { EnteredAt types.old types.new self.old span (value v.now) result }

@@ -9,7 +9,7 @@ ghost use Rattle.t_terms.specs.Tree.{Arith, Bnz, Halt, Ld, Malloc, Mov, Plain, R
 ghost use Rattle.t_terms.specs.Read.{base as base_tree, value, instr, end_of};
 ghost use Rattle.t_intern.specs.Grown.{Grown};
 ghost use Rattle.t_known.specs.Known.{known, IsSound};
-ghost use Rattle.t_check.specs.Verdict.{FormedAt, FormedInstr, FormedEnd, IsPlace, EndedAt, StepsTo, IsInteger};
+ghost use Rattle.t_check.specs.Verdict.{FormedAt, FormedInstr, FormedEnd, KnowsByNumber, EndedAt, StepsTo, IsInteger};
 ghost use Rattle.t_check.specs.Verdict.{IsFieldOf, IsStored};
 
 use crate::checker::Checker;
@@ -33,7 +33,7 @@ impl Checker<'_> {
         i: &Instr,
         span: Span,
     ) -> Result<(), Refusal>
-        requires place { IsPlace types.old self.old }
+        requires place { KnowsByNumber types.old self.old }
         requires instr { FormedInstr self.old.program.now self.old.registers.names (instr i.now) }
         requires few { names_after (instr i.now) self.old.registers.names ≤ max_names }
         ensures grown { Grown types.old types.new }
@@ -68,7 +68,7 @@ impl Checker<'_> {
         v: &Value,
         span: Span,
     ) -> Result<(), Refusal>
-        requires place { IsPlace types.old self.old }
+        requires place { KnowsByNumber types.old self.old }
         requires rd { IsRegister regs.rd }
         requires value { FormedAt self.old (value v.now) }
         ensures grown { Grown types.old types.new }
@@ -104,7 +104,7 @@ impl Checker<'_> {
     }
 
     fn check_bnz(&mut self, types: &mut Types, r: u64, v: &Value, span: Span) -> Result<(), Refusal>
-        requires place { IsPlace types.old self.old }
+        requires place { KnowsByNumber types.old self.old }
         requires value { FormedAt self.old (value v.now) }
         ensures grown { Grown types.old types.new }
         ensures step { StepsTo types.old types.new self.old self.new span (Bnz r (value v.now)) result }
@@ -122,7 +122,7 @@ impl Checker<'_> {
         field: u64,
         span: Span,
     ) -> Result<(), Refusal>
-        requires place { IsPlace types.old self.old }
+        requires place { KnowsByNumber types.old self.old }
         requires rd { IsRegister regs.rd }
         ensures grown { Grown types.old types.new }
         ensures step { StepsTo types.old types.new self.old self.new span (Ld regs.rd regs.rs field) result }
@@ -169,7 +169,7 @@ impl Checker<'_> {
     }
 
     fn check_malloc(&mut self, types: &mut Types, rd: u64, fields: &[TType]) -> Result<(), Refusal>
-        requires place { IsPlace types.old self.old }
+        requires place { KnowsByNumber types.old self.old }
         requires rd { IsRegister rd }
         requires fields { WellFormedTypes self.old.registers.names (type_trees fields.now) }
         ensures grown { Grown types.old types.new }
@@ -191,7 +191,7 @@ impl Checker<'_> {
         v: &Value,
         span: Span,
     ) -> Result<(), Refusal>
-        requires place { IsPlace types.old self.old }
+        requires place { KnowsByNumber types.old self.old }
         requires rd { IsRegister rd }
         requires value { FormedAt self.old (value v.now) }
         ensures grown { Grown types.old types.new }
@@ -230,7 +230,7 @@ impl Checker<'_> {
         field: u64,
         span: Span,
     ) -> Result<(), Refusal>
-        requires place { IsPlace types.old self.old }
+        requires place { KnowsByNumber types.old self.old }
         requires field { field ≤ max_number }
         ensures grown { Grown types.old types.new }
         ensures step { StepsTo types.old types.new self.old self.new span (St regs.rd field regs.rs) result }
@@ -283,7 +283,7 @@ impl Checker<'_> {
         v: &Value,
         span: Span,
     ) -> Result<(), Refusal>
-        requires place { IsPlace types.old self.old }
+        requires place { KnowsByNumber types.old self.old }
         requires rd { IsRegister rd }
         requires value { FormedAt self.old (value v.now) }
         requires few { self.old.registers.names + 1 ≤ max_names }
@@ -308,7 +308,7 @@ impl Checker<'_> {
         end: &End,
         span: Span,
     ) -> Result<(), Refusal>
-        requires place { IsPlace types.old self.old }
+        requires place { KnowsByNumber types.old self.old }
         requires end { FormedEnd self.old.program.now self.old.registers.names (end_of end.now) }
         ensures grown { Grown types.old types.new }
         ensures ended { EndedAt types.old types.new self.old span (end_of end.now) result }

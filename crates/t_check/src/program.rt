@@ -7,7 +7,7 @@ ghost use Rattle.t_terms.specs.Read.{block as block_tree, datum, data_fields, sp
 ghost use Rattle.t_terms.specs.ReadProgram.{program as program_of, spanned_program};
 ghost use Rattle.t_intern.specs.Grown.{Grown, IsNumber};
 ghost use Rattle.t_known.specs.Known.{IsEmpty, IsOfBlock};
-ghost use Rattle.t_check.specs.Verdict.{program_in, FormedBlock, FormedDatum, FormedData, IsPlace, IsBlock, AreBlocks};
+ghost use Rattle.t_check.specs.Verdict.{program_in, FormedBlock, FormedDatum, FormedData, KnowsByNumber, IsBlock, AreBlocks};
 ghost use Rattle.t_check.specs.Verdict.{IsDatum, IsData, IsHeap, IsLabelled, IsProgram};
 
 use crate::checker::{Checker, Labelled};
@@ -120,7 +120,7 @@ pub(crate) fn header(
 impl Checker<'_> {
     // The words of a data tuple in order, where nothing is known of the registers.
     fn check_data(&self, types: &mut Types, fields: &[(Value, TType, Span)]) -> Result<(), Refusal>
-        requires place { IsPlace types.old self.now }
+        requires place { KnowsByNumber types.old self.now }
         requires empty { IsEmpty self.now.registers }
         requires names { self.now.registers.names ≡ 0 }
         requires formed { FormedData self.now.program.now (data_fields fields.now) }
@@ -135,7 +135,7 @@ impl Checker<'_> {
 
     // A word of data.
     fn check_datum(&self, types: &mut Types, field: &(Value, TType, Span)) -> Result<(), Refusal>
-        requires place { IsPlace types.old self.now }
+        requires place { KnowsByNumber types.old self.now }
         requires empty { IsEmpty self.now.registers }
         requires names { self.now.registers.names ≡ 0 }
         requires formed { FormedDatum self.now.program.now (datum field.now) }

@@ -9,7 +9,7 @@ ghost use Rattle.t_intern.specs.Applied.{with_types};
 ghost use Rattle.t_intern.specs.Grown.{Grown, IsNumber};
 ghost use Rattle.t_intern.specs.Nodes.{at, regs_at, RegsBelow};
 ghost use Rattle.t_types.specs.Bounds.{Bounded, OwedFile};
-ghost use Rattle.t_check.specs.Verdict.{FormedAt, FormedBase, IsPlace, BaseTypedAt, TypedAt, AppliedAt, IsInstantiated};
+ghost use Rattle.t_check.specs.Verdict.{FormedAt, FormedBase, KnowsByNumber, BaseTypedAt, TypedAt, AppliedAt, IsInstantiated};
 ghost use Rattle.t_check.specs.Verdict.{IsPacked};
 
 use crate::checker::Checker;
@@ -34,7 +34,7 @@ impl Checker<'_> {
         v: &Value,
         span: Span,
     ) -> Result<u64, Refusal>
-        requires place { IsPlace types.old self.now }
+        requires place { KnowsByNumber types.old self.now }
         requires value { FormedAt self.now (value v.now) }
         ensures grown { Grown types.old types.new }
         ensures typed { TypedAt types.old types.new self.now span (value v.now) result }
@@ -60,7 +60,7 @@ impl Checker<'_> {
         args: &[TType],
         span: Span,
     ) -> Result<u64, Refusal>
-        requires place { IsPlace types.old self.now }
+        requires place { KnowsByNumber types.old self.now }
         requires base { FormedBase self.now.program.now (base_tree base) }
         requires args { WellFormedTypes self.now.registers.names (type_trees args.now) }
         ensures grown { Grown types.old types.new }
@@ -75,7 +75,7 @@ impl Checker<'_> {
     }
 
     fn type_of_base(&self, types: &mut Types, base: Base, span: Span) -> Result<u64, Refusal>
-        requires place { IsPlace types.old self.now }
+        requires place { KnowsByNumber types.old self.now }
         requires base { FormedBase self.now.program.now (base_tree base) }
         ensures grown { Grown types.old types.new }
         ensures typed { BaseTypedAt types.old types.new self.now span (base_tree base) result }
@@ -102,7 +102,7 @@ impl Checker<'_> {
         args: &[TType],
         span: Span,
     ) -> Result<u64, Refusal>
-        requires place { IsPlace types.old self.now }
+        requires place { KnowsByNumber types.old self.now }
         requires found { found < length types.old }
         requires bounded { Bounded self.now.registers.names (at types.old found) }
         requires some { 0 < length args.now }

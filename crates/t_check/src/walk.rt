@@ -11,7 +11,7 @@ ghost use Rattle.t_rules.specs.Rules.{Accepted};
 ghost use Rattle.t_intern.specs.Grown.{Grown};
 ghost use Rattle.t_check.specs.Checked.{checked_program};
 ghost use Rattle.t_known.specs.Known.{known, IsSound};
-ghost use Rattle.t_check.specs.Verdict.{FormedInstr, IsLabelled, IsPlace, program_in};
+ghost use Rattle.t_check.specs.Verdict.{FormedInstr, IsLabelled, KnowsByNumber, program_in};
 ghost use Rattle.t_check.specs.Walks.{IsFileOf, IsKnownFile, IsKnownRegister, IsTyped, IsPassed, IsStand};
 ghost use Rattle.t_check.specs.Walks.{IsStandAt, IsWalk, walked};
 
@@ -50,7 +50,7 @@ pub struct Walk<'a> {
 impl Checker<'_> {
     // Passes an instruction that is typed.
     fn pass_instr(&mut self, types: &mut Types, i: &Instr, span: Span) -> Result<(), OutOfMemory>
-        requires place { IsPlace types.old self.old }
+        requires place { KnowsByNumber types.old self.old }
         requires instr { FormedInstr self.old.program.now self.old.registers.names (instr i.now) }
         requires few { names_after (instr i.now) self.old.registers.names ≤ max_names }
         requires typed { IsTyped types.old self.old (instr i.now) }

@@ -13,7 +13,7 @@ use Rattle.t_rules.specs.Rules.{Accepted}
 use Rattle.t_rules.specs.Machine as M
 use Rattle.t_rules.specs.Machine.{Where, Next, Into, State, Place, After, HaltsWithin}
 use Rattle.t_rules.specs.Times.{Entries, entries, entered_by}
-use Rattle.t_rules.specs.Erase.{ESeq, EThen, EJmp, EHalt, EAt, EStep, EGoes, no_ewords, held}
+use Rattle.t_rules.specs.Erase.{ESeq, EThen, EJmp, EHalt, EAt, EStep, EGoes, no_ewords, field_word}
 use Rattle.t_rules.specs.Erase.{erase_datum, erase_block, erase_blocks, estep}
 use Rattle.t_rules.specs.ErasedRuns.{RunsErase, HaltsErased, StepsFirst}
 use Rattle.t_rules.specs.LawsTimes.{TimesWithinEntries}
@@ -115,7 +115,7 @@ fields_word [] (d ∷ ds) f = absurd f
 fields_word (c ∷ cs) [] f = absurd f
 fields_word (c ∷ cs) (d ∷ ds) f =
     let r = reads_word no_ewords nothing [] none_fit c.value d.value f.0.0 in
-    ap₂ (λ o q. o ∷ q) (ap held r.2 ∙ sym (ap slot r.1)) (fields_word cs ds f.1)
+    ap₂ (λ o q. o ∷ q) (ap field_word r.2 ∙ sym (ap slot r.1)) (fields_word cs ds f.1)
 
 heap_word : (xs : List AConsts) (ds : List TData) → Tuples xs ds → map (map erase_datum) ds ≡ heap (start_heap xs)
 heap_word [] [] f = refl

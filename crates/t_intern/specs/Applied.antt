@@ -14,10 +14,7 @@ row_types (MoreFields t flag fs) = t ∷ row_types fs
 
 abbrev pub types_in : Ty → List Ty
 types_in (TupleTy fs) = row_types fs
-types_in IntTy = []
-types_in (VarTy i) = []
-types_in (CodeTy owes file) = []
-types_in (ExistsTy t) = []
+types_in _ = []
 
 -- numbers as fields that are not filled
 abbrev pub unfilled : List ℕ → List (ℕ × Bool)

@@ -19,14 +19,14 @@ use Rattle.t_machine.specs.Numbers.{numbers, AreRising}
 use Rattle.t_machine.specs.ProgramLaws.{ProgramLaws}
 use Rattle.t_machine.specs.Runs.{filled, field_in, tuples_of, IsFieldAfter}
 use Rattle.t_machine.specs.State.{Shows, ShowsSome}
-use Rattle.t_machine.specs.Words.{word, held, shown_word}
+use Rattle.t_machine.specs.Words.{word, register_word, shown_word}
 use Rattle.t_machine.specs.declared.code.Code.{Code}
 use Rattle.t_machine.specs.declared.heap.Heap.{Heap}
 use Rattle.t_machine.proofs.Found.{some_at}
 use Rattle.t_machine.proofs.Numbered.{numbers_length}
 use Rattle.t_machine.proofs.Tuples.{tuple_count}
 
-filled_held : (ns : List ℕ) (w : Word) → filled (numbered ns (word w)) ≡ option_map (numbered ns) (held w)
+filled_held : (ns : List ℕ) (w : Word) → filled (numbered ns (word w)) ≡ option_map (numbered ns) (register_word w)
 filled_held ns (Int i) = refl
 filled_held ns (Address a) = refl
 filled_held ns (Label l) = refl
@@ -34,7 +34,7 @@ filled_held ns (Empty n) = refl
 
 filled_words : (ns : List ℕ) (r : Option Word) →
     option_and_then filled (option_map (numbered ns) (option_map word r))
-    ≡ option_and_then (λ w. option_map (numbered ns) (held w)) r
+    ≡ option_and_then (λ w. option_map (numbered ns) (register_word w)) r
 filled_words ns None = refl
 filled_words ns (Some w) = filled_held ns w
 
@@ -79,7 +79,7 @@ module _ (laws : ProgramLaws) (P : TProg) (m : ℕ) (x : Heap) (ws : List Word) 
       s.erased.erased.1.1).0 ∙ ap tuples_of (sym s.erased.erased.1.2)
 
   pub field_is : (o : Option Shown) →
-      option_map shown_word o ≡ option_and_then (λ w. option_map (numbered (numbers x)) (held w)) r →
+      option_map shown_word o ≡ option_and_then (λ w. option_map (numbered (numbers x)) (register_word w)) r →
       IsFieldAfter P m a j o
   field_is o e t p run =
       e ∙ sym (filled_words (numbers x) r) ∙ ap (option_and_then filled) (sym here)

@@ -12,7 +12,7 @@ use Rattle.t_terms.specs.Read.{body}
 use Rattle.t_terms.specs.declared.instr.Instr.{Instr}
 use Rattle.idx_core.specs.declared.span.Span.{Span}
 use Rattle.t_rules.specs.Erase.{ESeq, erase_end, erase_seq}
-use Rattle.t_machine.specs.Places.{PlaceList, place_of}
+use Rattle.t_machine.specs.Places.{PlaceList, register_place}
 use Rattle.t_machine.specs.Laid.{size, sizes, begins, Within, PlacesAreReadBack, InBlock, InBlocks, HasPlace, Adds}
 
 -- one block more
@@ -85,14 +85,15 @@ in_last [] c r h = inl h
 in_last (d ∷ cs) c r h = inr (in_last cs c r h)
 
 pub named_more : (m n : PlaceList) (cs : List ESeq) (c : ESeq) →
-    ((r k : ℕ) → place_of m r ≡ Some k → InBlocks cs r) → Adds m n (InBlock c) → (r k : ℕ) →
-    place_of n r ≡ Some k → InBlocks (cs ++ c ∷ []) r
+    ((r k : ℕ) → register_place m r ≡ Some k → InBlocks cs r) → Adds m n (InBlock c) → (r k : ℕ) →
+    register_place n r ≡ Some k → InBlocks (cs ++ c ∷ []) r
 named_more m n cs c named adds r k h =
     ⊎_elim (λ (x : HasPlace m r). in_more cs c r (named r x.0 x.1)) (λ (x : InBlock c r). in_last cs c r x) (adds r k h)
 
 -- a register that gets a place
 pub one_added : (old new : PlaceList) (register : ℕ) →
-    ((q : ℕ) → is_at (nat_cmp register) q ≡ false → place_of new q ≡ place_of old q) → Adds old new (λ r. r ≡ register)
+    ((q : ℕ) → is_at (nat_cmp register) q ≡ false → register_place new q ≡ register_place old q) → Adds old new (λ r.
+    r ≡ register)
 one_added old new register keeps r k h =
     ⊎_elim
     (λ (lt : r < register). let other : is_at (nat_cmp register) r ≡ false =

@@ -15,7 +15,7 @@ use Rattle.t_terms.specs.Spanned.{plain_datum, plain_fields}
 use Rattle.t_rules.specs.Erase.{EInstr, ESeq, EThen, EJmp, EHalt, erase_block, erase_datum, drop_seq}
 use Rattle.t_machine.specs.Places.{PlaceList, Extends}
 use Rattle.t_machine.specs.Action.{Action, action, Arith, Bnz, Ld, Malloc, Mov, St, Jmp, Halt}
-use Rattle.t_machine.specs.Code.{IsPlace, IsBase, IsNumber, IsTarget, IsInstr, IsEnd, Holds, HoldsBlocks}
+use Rattle.t_machine.specs.Code.{IsRegisterAt, IsBase, IsNumber, IsTarget, IsInstr, IsEnd, Holds, HoldsBlocks}
 use Rattle.t_machine.specs.Laid.{size, sizes, begins}
 use Rattle.t_machine.specs.Lowering.{IsLoaded}
 use Rattle.t_machine.specs.declared.code.Operand.{Operand}
@@ -28,7 +28,7 @@ use Rattle.t_machine.specs.declared.code.Instruction.{Instruction}
 use Rattle.t_machine.proofs.Laying.{begins_more, sizes_more}
 
 module _ (m n : PlaceList) (es : List ℕ) (e : Extends m n) where
-  place_extends : (k : ℕ) (b : TBase) → IsPlace m k b → IsPlace n k b
+  place_extends : (k : ℕ) (b : TBase) → IsRegisterAt m k b → IsRegisterAt n k b
   place_extends k b h = (h.0, e h.0 k h.1, h.2)
 
   base_extends : (v : Operand) (b : TBase) → IsBase m v b → IsBase n v b

@@ -17,9 +17,9 @@ use Rattle.t_rules.specs.Erase.{ESeq, EThen, EHeap, ERegs, EAt, EStep, EGoes, ba
 use Rattle.t_rules.specs.Erase.{on_full, enter, estep}
 use Rattle.t_collect.specs.Kept.{next_numbers, next_made}
 use Rattle.t_machine.specs.Numbers.{numbers, made}
-use Rattle.t_machine.specs.Places.{PlaceList, place_of, ArePlaces}
+use Rattle.t_machine.specs.Places.{PlaceList, register_place, ArePlaces}
 use Rattle.t_collect.specs.Words.{address_of}
-use Rattle.t_machine.specs.Words.{word, held, regs_of}
+use Rattle.t_machine.specs.Words.{word, register_word, regs_of}
 use Rattle.t_collect.specs.Cells.{cells_of}
 use Rattle.t_collect.specs.Tuples.{starts_from}
 use Rattle.t_machine.specs.Heap.{IsHeap, Started, AllStarted, HasField, cell_of, field_of}
@@ -171,7 +171,8 @@ module _ (blocks : List ESeq) (m : PlaceList) (os : List Instruction) (es : List
       }
 
   -- the register at d gets the word v
-  put_in : (rd d : ℕ) (v : Word) (w : EWord) (us : List Word) → place_of m rd ≡ Some d → held v ≡ Some w →
+  put_in : (rd d : ℕ) (v : Word) (w : EWord) (us : List Word) → register_place m rd ≡ Some d → register_word v ≡ Some w
+      →
       us ≡ slice_set ws d v → with_reg R rd w ≡ regs_of m us
   put_in rd d v w us pd hv e = writes m ws places count rd d v w pd hv ∙ ap (regs_of m) (sym e)
 
@@ -182,8 +183,8 @@ module _ (blocks : List ESeq) (m : PlaceList) (os : List Instruction) (es : List
   kept us e = ap (λ z. length z) e ∙ count
 
   module _ (r : ESeq) (st : EStep) where
-    adds : (op : Op) (d s : ℕ) (v : Number) (rd rs : ℕ) (b : TBase) → place_of m rd ≡ Some d →
-        place_of m rs ≡ Some s → IsNumber m v b → estep blocks (EAt h R (EThen (EArith op rd rs b) r)) ≡ Some st →
+    adds : (op : Op) (d s : ℕ) (v : Number) (rd rs : ℕ) (b : TBase) → register_place m rd ≡ Some d →
+        register_place m rs ≡ Some s → IsNumber m v b → estep blocks (EAt h R (EThen (EArith op rd rs b) r)) ≡ Some st →
         Works blocks m es x h ws (Arith op d s v) (EThen (EArith op rd rs b) r)
     adds op d s v rd rs b pd ps pb e =
         let one = int_read (R rs) (λ i. on_int (base_word R b) (λ j. putting rd r (EInt (compute op i j)))) st e in
@@ -223,7 +224,7 @@ module _ (blocks : List ESeq) (m : PlaceList) (os : List Instruction) (es : List
               }),
         )
 
-    bnz : (s : ℕ) (v : Target) (q : ℕ) (b : TBase) → place_of m q ≡ Some s → IsTarget m es v b →
+    bnz : (s : ℕ) (v : Target) (q : ℕ) (b : TBase) → register_place m q ≡ Some s → IsTarget m es v b →
         estep blocks (EAt h R (EThen (EBnz q b) r)) ≡ Some st → Works blocks m es x h ws (Bnz s v) (EThen
         (EBnz q b) r)
     bnz s v q b ps pb e =
@@ -273,7 +274,7 @@ module _ (blocks : List ESeq) (m : PlaceList) (os : List Instruction) (es : List
               leads.2),
         )
 
-    ld : (d s i rd rs : ℕ) → place_of m rd ≡ Some d → place_of m rs ≡ Some s → estep blocks (EAt h R (EThen
+    ld : (d s i rd rs : ℕ) → register_place m rd ≡ Some d → register_place m rs ≡ Some s → estep blocks (EAt h R (EThen
         (ELd rd rs i) r)) ≡ Some st → Works blocks m es x h ws (Ld d s i) (EThen (ELd rd rs i) r)
     ld d s i rd rs pd ps e =
         let loads = λ (t : List EWord). on_full (slice_get t i) (putting rd r) in
@@ -325,7 +326,8 @@ module _ (blocks : List ESeq) (m : PlaceList) (os : List Instruction) (es : List
             on_full o (putting rd r) ≡ putting rd r w
         loaded o w rd e k = ap (λ z. on_full z (putting rd r)) e ∙ full_is w (putting rd r) k
 
-    malloc : (d k rd : ℕ) → place_of m rd ≡ Some d → Works blocks m es x h ws (Malloc d k) (EThen (EMalloc rd k) r)
+    malloc : (d k rd : ℕ) → register_place m rd ≡ Some d → Works blocks m es x h ws (Malloc d k)
+        (EThen (EMalloc rd k) r)
     malloc d k rd pd = (
       in_range m ws places count rd d pd,
       (λ y us a n leads.
@@ -352,7 +354,7 @@ module _ (blocks : List ESeq) (m : PlaceList) (os : List Instruction) (es : List
           }),
     )
 
-    mov : (d : ℕ) (v : Operand) (rd : ℕ) (b : TBase) → place_of m rd ≡ Some d → IsBase m v b →
+    mov : (d : ℕ) (v : Operand) (rd : ℕ) (b : TBase) → register_place m rd ≡ Some d → IsBase m v b →
         Started S (data_word v) → estep blocks (EAt h R (EThen (EMov rd b) r)) ≡ Some st →
         Works blocks m es x h ws (Mov d v) (EThen (EMov rd b) r)
     mov d v rd b pd pb started e =
@@ -376,7 +378,8 @@ module _ (blocks : List ESeq) (m : PlaceList) (os : List Instruction) (es : List
           }),
         )
 
-    store : (d i s rd rs : ℕ) → place_of m rd ≡ Some d → place_of m rs ≡ Some s → estep blocks (EAt h R (EThen
+    store : (d i s rd rs : ℕ) → register_place m rd ≡ Some d → register_place m rs ≡ Some s → estep blocks
+        (EAt h R (EThen
         (ESt rd i rs) r)) ≡ Some st → Works blocks m es x h ws (St d i s) (EThen (ESt rd i rs) r)
     store d i s rd rs pd ps e =
         let fills = λ (a : ℕ) (t : List EWord) (w : EWord). cond (nat_lt i (length t)) (Some (EGoes Next (EAt

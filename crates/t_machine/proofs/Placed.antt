@@ -12,9 +12,9 @@ use Rattle.t_rules.specs.Machine.{State, At, Place, Spot, After}
 use Rattle.t_rules.specs.LawsSound.{regs_of}
 use Rattle.t_rules.specs.Erase.{ERegs, ESeq, EThen, EJmp, EHalt, EAt, erase, erase_blocks, erase_regs, drop_seq}
 use Rattle.t_machine.specs.ProgramLaws.{ProgramLaws}
-use Rattle.t_machine.specs.Places.{PlaceList, place_of}
+use Rattle.t_machine.specs.Places.{PlaceList, register_place}
 use Rattle.t_machine.specs.Placing.{begin_at, IsBlockAt}
-use Rattle.t_machine.specs.Words.{held, shown_word, regs_of as held_in}
+use Rattle.t_machine.specs.Words.{register_word, shown_word, regs_of as held_in}
 use Rattle.t_machine.specs.Laid.{size, sizes, begins, Within}
 use Rattle.t_machine.specs.State.{Shows, ShowsSome}
 use Rattle.t_machine.specs.Runs.{IsPlaceAfter, IsRegAfter}
@@ -126,18 +126,19 @@ pub start_is : (es : List ℕ) (b n : ℕ) → b < length es → n ≡ get_or es
 start_is es b n lt is = get_or_from_slice_get es b n 0 (slice_get_read es (length es) b n refl lt is)
 
 -- the words of the machine, by its places
-pub word_none : (ns : List ℕ) (places : PlaceList) (ws : List Word) (r : ℕ) → place_of places r ≡ None →
+pub word_none : (ns : List ℕ) (places : PlaceList) (ws : List Word) (r : ℕ) → register_place places r ≡ None →
     option_map shown_word None ≡ option_map (numbered ns) (held_in places ws r)
 word_none ns places ws r e =
-    sym (ap (λ o. option_map (numbered ns) (option_and_then (λ k. option_and_then held (slice_get ws k)) o)) e)
+    sym (ap (λ o. option_map (numbered ns) (option_and_then (λ k. option_and_then register_word (slice_get ws k)) o)) e)
 
 pub word_some : (ns : List ℕ) (places : PlaceList) (ws : List Word) (r k : ℕ) (w : Word) (o : Option Shown) →
-    place_of places r ≡ Some k → k < length ws → w ≡ get_or ws k w →
-    option_map shown_word o ≡ option_map (numbered ns) (held w) →
+    register_place places r ≡ Some k → k < length ws → w ≡ get_or ws k w →
+    option_map shown_word o ≡ option_map (numbered ns) (register_word w) →
     option_map shown_word o ≡ option_map (numbered ns) (held_in places ws r)
 word_some ns places ws r k w o e lt is same =
-    same ∙ ap (option_map (numbered ns)) (sym (ap (option_and_then (λ j. option_and_then held (slice_get ws j))) e
-    ∙ ap (option_and_then held) (slice_get_read ws (length ws) k w refl lt is)))
+    same ∙ ap (option_map (numbered ns)) (sym (ap (option_and_then (λ j. option_and_then register_word
+    (slice_get ws j))) e
+    ∙ ap (option_and_then register_word) (slice_get_read ws (length ws) k w refl lt is)))
 
 points_prop : (n : ℕ) (w : Word) → IsProp (PointsBelow n w)
 points_prop n (Address a) = le_prop
@@ -154,11 +155,11 @@ module _ (laws : ProgramLaws) (x : Heap) (ws : List Word) (code : Code) (at : �
   pub some_begun : begin_at code.entries.items 0 ≤ at
   some_begun = ∥∥₁_elim some le_prop (λ k. first_begun laws k.program k.steps x ws code at k.shows)
 
-  pub some_word : (r k : ℕ) → place_of code.places r ≡ Some k → k < length ws
+  pub some_word : (r k : ℕ) → register_place code.places r ≡ Some k → k < length ws
   some_word r k e = ∥∥₁_elim some le_prop (λ z. let lt = z.shows.machine.has_places.0 r k e in
       omega (arith, lt, z.shows.machine.has_words))
 
-  pub some_shown : (r k : ℕ) (w : Word) → place_of code.places r ≡ Some k → w ≡ get_or ws k w →
+  pub some_shown : (r k : ℕ) (w : Word) → register_place code.places r ≡ Some k → w ≡ get_or ws k w →
       PointsBelow (length x.starts.items) w
   some_shown r k w e is = ∥∥₁_elim some (points_prop (length x.starts.items) w) (λ z.
       let lt = z.shows.machine.has_places.0 r k e in

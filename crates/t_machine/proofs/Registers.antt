@@ -11,10 +11,10 @@ use Rattle.t_terms.specs.Tree as tree
 use Rattle.t_terms.specs.Registers.{with_reg}
 use Rattle.t_rules.specs.Erase.{EWord, EInt, EAddress, ELabel, EEmpty, base_word}
 use Rattle.t_rules.specs.Erase.{no_ewords}
-use Rattle.t_machine.specs.Places.{PlaceList, place_of, ArePlaces}
+use Rattle.t_machine.specs.Places.{PlaceList, register_place, ArePlaces}
 use Rattle.t_collect.specs.Words.{tuple_of, IsInteger}
-use Rattle.t_machine.specs.Words.{word, held, regs_of}
-use Rattle.t_machine.specs.Code.{IsPlace, IsBase, IsNoNumber, IsNumber}
+use Rattle.t_machine.specs.Words.{word, register_word, regs_of}
+use Rattle.t_machine.specs.Code.{IsRegisterAt, IsBase, IsNoNumber, IsNumber}
 use Rattle.t_machine.specs.Steps.{InRange, NumberInRange, at_place, value_of, number_of}
 use Rattle.t_collect.specs.declared.word.Word.{Word}
 use Rattle.t_collect.specs.declared.word.Word.TheVariants.{Int, Address, Label, Empty}
@@ -23,38 +23,39 @@ use Rattle.t_machine.specs.declared.code.Operand.TheVariants as O
 use Rattle.t_machine.specs.declared.code.Number.{Number}
 use Rattle.t_machine.specs.declared.code.Number.TheVariants as N
 
-held_at : (ws : List Word) (k : ℕ) (w : EWord) → option_and_then held (slice_get ws k) ≡ Some w →
-    (k < length ws) × (held (at_place ws k) ≡ Some w)
+held_at : (ws : List Word) (k : ℕ) (w : EWord) → option_and_then register_word (slice_get ws k) ≡ Some w →
+    (k < length ws) × (register_word (at_place ws k) ≡ Some w)
 held_at [] k w h = cc
 held_at (x ∷ ws) zero w h = (omega arith, h)
 held_at (x ∷ ws) (suc k) w h = let rest = held_at ws k w h in let lt = rest.0 in (omega arith, rest.1)
 
-pub held_int : (v : Word) (i : ℤ) → held v ≡ Some (EInt i) → v ≡ Int i
+pub held_int : (v : Word) (i : ℤ) → register_word v ≡ Some (EInt i) → v ≡ Int i
 held_int (Int j) i h = let e : j ≡ i = cc in ap Int e
 held_int (Address a) i h = cc
 held_int (Label l) i h = cc
 held_int (Empty n) i h = cc
 
-pub held_address : (v : Word) (a : ℕ) → held v ≡ Some (EAddress a) → (b : ℕ) × (v ≡ Address b) × (tuple_of b ≡ a)
+pub held_address : (v : Word) (a : ℕ) → register_word v ≡ Some (EAddress a) → (b : ℕ) × (v ≡ Address b) ×
+    (tuple_of b ≡ a)
 held_address (Address b) a h = let e : tuple_of b ≡ a = cc in (b, refl, e)
 held_address (Int j) a h = cc
 held_address (Label l) a h = cc
 held_address (Empty n) a h = cc
 
-pub held_label : (v : Word) (l : ℕ) → held v ≡ Some (ELabel l) → v ≡ Label l
+pub held_label : (v : Word) (l : ℕ) → register_word v ≡ Some (ELabel l) → v ≡ Label l
 held_label (Label k) l h = let e : k ≡ l = cc in ap Label e
 held_label (Int j) l h = cc
 held_label (Address a) l h = cc
 held_label (Empty n) l h = cc
 
-pub held_word : (v : Word) (w : EWord) → held v ≡ Some w → word v ≡ w
+pub held_word : (v : Word) (w : EWord) → register_word v ≡ Some w → word v ≡ w
 held_word (Int i) w h = cc
 held_word (Address a) w h = cc
 held_word (Label l) w h = cc
 held_word (Empty n) w h = cc
 
--- a word that is not empty is held
-pub held_full : (v : Word) (w : EWord) → (w ≡ EEmpty → ⊥) → word v ≡ w → held v ≡ Some w
+-- a word that is not empty is register_word
+pub held_full : (v : Word) (w : EWord) → (w ≡ EEmpty → ⊥) → word v ≡ w → register_word v ≡ Some w
 held_full (Int i) w full e = ap Some e
 held_full (Address a) w full e = ap Some e
 held_full (Label l) w full e = ap Some e
@@ -82,15 +83,16 @@ same_or_not r q = ⊎_elim
     (cases_lt r q)
 
 module _ (m : PlaceList) (ws : List Word) where
-  pub reads : (r k : ℕ) (w : EWord) → regs_of m ws r ≡ Some w → place_of m r ≡ Some k →
-      (k < length ws) × (held (at_place ws k) ≡ Some w)
-  reads r k w h e = held_at ws k w (sym (ap (option_and_then (λ j. option_and_then held (slice_get ws j))) e) ∙ h)
+  pub reads : (r k : ℕ) (w : EWord) → regs_of m ws r ≡ Some w → register_place m r ≡ Some k →
+      (k < length ws) × (register_word (at_place ws k) ≡ Some w)
+  reads r k w h e = held_at ws k w (sym (ap (option_and_then (λ j. option_and_then register_word (slice_get ws j))) e) ∙
+      h)
 
   module _ (places : ArePlaces m) (count : length ws ≡ length m) where
-    pub in_range : (r k : ℕ) → place_of m r ≡ Some k → k < length ws
+    pub in_range : (r k : ℕ) → register_place m r ≡ Some k → k < length ws
     in_range r k e = let lt = places.0 r k e in omega arith
 
-    pub place_in_range : (k : ℕ) (b : TBase) → IsPlace m k b → k < length ws
+    pub place_in_range : (k : ℕ) (b : TBase) → IsRegisterAt m k b → k < length ws
     place_in_range k b h = in_range h.0 k h.1
 
     pub operand_in_range : (v : Operand) (b : TBase) → IsBase m v b → InRange (length ws) v
@@ -99,42 +101,43 @@ module _ (m : PlaceList) (ws : List Word) where
     operand_in_range (O.Label l) b h = tt
     operand_in_range (O.Data d) b h = tt
 
-    written : (r d : ℕ) (v : Word) (w : EWord) → place_of m r ≡ Some d → held v ≡ Some w → (q : ℕ) (o : Option ℕ) →
-        place_of m q ≡ o → regs_of m (slice_set ws d v) q ≡ cond (nat_eq r q) (Some w) (regs_of m ws q)
+    written : (r d : ℕ) (v : Word) (w : EWord) → register_place m r ≡ Some d → register_word v ≡ Some w → (q : ℕ)
+        (o : Option ℕ) →
+        register_place m q ≡ o → regs_of m (slice_set ws d v) q ≡ cond (nat_eq r q) (Some w) (regs_of m ws q)
     written r d v w e h q None f =
-        let apart : r ≢ q = λ s. let z : Some d ≡ None = sym e ∙ ap (place_of m) s ∙ f in cc in
+        let apart : r ≢ q = λ s. let z : Some d ≡ None = sym e ∙ ap (register_place m) s ∙ f in cc in
         let test : nat_eq r q ≡ false = grind (arith, nat_tests) in
-        ap (option_and_then (λ k. option_and_then held (slice_get (slice_set ws d v) k))) f
-        ∙ sym (ap (option_and_then (λ k. option_and_then held (slice_get ws k))) f)
+        ap (option_and_then (λ k. option_and_then register_word (slice_get (slice_set ws d v) k))) f
+        ∙ sym (ap (option_and_then (λ k. option_and_then register_word (slice_get ws k))) f)
         ∙ sym (ap (λ b. cond b (Some w) (regs_of m ws q)) test)
     written r d v w e h q (Some k) f = ⊎_elim
         (λ (same : r ≡ q).
         let test : nat_eq r q ≡ true = grind (arith, nat_tests) in
-        let z : Some d ≡ Some k = sym e ∙ ap (place_of m) same ∙ f in
+        let z : Some d ≡ Some k = sym e ∙ ap (register_place m) same ∙ f in
         let at : k ≡ d = cc in
-        ap (option_and_then (λ j. option_and_then held (slice_get (slice_set ws d v) j))) f
-        ∙ ap (λ j. option_and_then held (slice_get (slice_set ws d v) j)) at
-        ∙ ap (option_and_then held) (set_same ws d v (in_range r d e)) ∙ h
+        ap (option_and_then (λ j. option_and_then register_word (slice_get (slice_set ws d v) j))) f
+        ∙ ap (λ j. option_and_then register_word (slice_get (slice_set ws d v) j)) at
+        ∙ ap (option_and_then register_word) (set_same ws d v (in_range r d e)) ∙ h
         ∙ sym (ap (λ b. cond b (Some w) (regs_of m ws q)) test))
         (λ (apart : r ≢ q).
         let test : nat_eq r q ≡ false = grind (arith, nat_tests) in
         let other : k ≢ d = λ z. apart (places.1 r q k (e ∙ ap Some (sym z)) f) in
-        ap (option_and_then (λ j. option_and_then held (slice_get (slice_set ws d v) j))) f
-        ∙ ap (option_and_then held) (set_other ws d k v other)
-        ∙ sym (ap (option_and_then (λ j. option_and_then held (slice_get ws j))) f)
+        ap (option_and_then (λ j. option_and_then register_word (slice_get (slice_set ws d v) j))) f
+        ∙ ap (option_and_then register_word) (set_other ws d k v other)
+        ∙ sym (ap (option_and_then (λ j. option_and_then register_word (slice_get ws j))) f)
         ∙ sym (ap (λ b. cond b (Some w) (regs_of m ws q)) test))
         (same_or_not r q)
 
-    pub writes : (r d : ℕ) (v : Word) (w : EWord) → place_of m r ≡ Some d → held v ≡ Some w →
+    pub writes : (r d : ℕ) (v : Word) (w : EWord) → register_place m r ≡ Some d → register_word v ≡ Some w →
         with_reg (regs_of m ws) r w ≡ regs_of m (slice_set ws d v)
-    writes r d v w e h = fun_ext (λ q. sym (written r d v w e h q (place_of m q) refl))
+    writes r d v w e h = fun_ext (λ q. sym (written r d v w e h q (register_place m q) refl))
 
-    pub placed : (k : ℕ) (b : TBase) (w : EWord) → IsPlace m k b → base_word (regs_of m ws) b ≡ Some w →
-        held (at_place ws k) ≡ Some w
+    pub placed : (k : ℕ) (b : TBase) (w : EWord) → IsRegisterAt m k b → base_word (regs_of m ws) b ≡ Some w →
+        register_word (at_place ws k) ≡ Some w
     placed k b w h e = (reads h.0 k w (sym (ap (base_word (regs_of m ws)) h.2) ∙ e) h.1).1
 
     pub operand : (v : Operand) (b : TBase) (w : EWord) → IsBase m v b → base_word (regs_of m ws) b ≡ Some w →
-        held (value_of ws v) ≡ Some w
+        register_word (value_of ws v) ≡ Some w
     operand (O.Register k) b w h e = placed k b w h e
     operand (O.Int i) b w h e = sym (ap (base_word (regs_of m ws)) h) ∙ e
     operand (O.Label l) b w h e = sym (ap (base_word (regs_of m ws)) h) ∙ e
@@ -165,15 +168,15 @@ set_count (x ∷ ws) zero v = refl
 set_count (x ∷ ws) (suc d) v = ap suc (set_count ws d v)
 
 -- at first no register has a word
-empty_at : (n k : ℕ) → option_and_then held (slice_get (replicate n (Empty 0)) k) ≡ None
+empty_at : (n k : ℕ) → option_and_then register_word (slice_get (replicate n (Empty 0)) k) ≡ None
 empty_at zero k = refl
 empty_at (suc n) zero = refl
 empty_at (suc n) (suc k) = empty_at n k
 
-none_yet : (n : ℕ) (o : Option ℕ) → option_and_then (λ k. option_and_then held (slice_get
+none_yet : (n : ℕ) (o : Option ℕ) → option_and_then (λ k. option_and_then register_word (slice_get
     (replicate n (Empty 0)) k)) o ≡ None
 none_yet n None = refl
 none_yet n (Some k) = empty_at n k
 
 pub no_words_yet : (m : PlaceList) (n : ℕ) → no_ewords ≡ regs_of m (replicate n (Empty 0))
-no_words_yet m n = fun_ext (λ q. sym (none_yet n (place_of m q)))
+no_words_yet m n = fun_ext (λ q. sym (none_yet n (register_place m q)))

@@ -20,7 +20,7 @@ use Rattle.t_collect.specs.Words.{tuple_of}
 use Rattle.t_collect.specs.Kept.{numbered, WordBelow, Keeps}
 use Rattle.std.specs.List.{All}
 use Rattle.std.specs.Prelude.{option_map, slice_index}
-use Rattle.std.proofs.lemmas.List.{length-map}
+use Rattle.std.proofs.lemmas.List.{length-map, length-replicate}
 use Rattle.t_machine.proofs.Addresses.{started_below}
 use Rattle.t_machine.proofs.Numbered.{numbers_length, numbers_new}
 use Rattle.t_machine.proofs.Tuples.{field_found, starts_count, tuple_count}
@@ -38,10 +38,6 @@ use Rattle.t_machine.specs.declared.heap.Heap.{Heap}
 use Rattle.t_machine.specs.declared.code.Code.{Code}
 use Rattle.t_machine.proofs.Loads.{first_entry, erased_count}
 use Rattle.t_machine.proofs.Registers.{no_words_yet}
-
-replicate_count : (n : ℕ) (w : Word) → length (replicate n w) ≡ n
-replicate_count zero w = refl
-replicate_count (suc n) w = ap suc (replicate_count n w)
 
 take_none : (T : Type 0) (n : ℕ) → take {A = T} n [] ≡ []
 take_none T zero = refl
@@ -167,7 +163,7 @@ begins laws P x ws code at some is laid paired places heap fresh in_heap in_code
         entered = entry;
         placed = omega arith;
         has_places = places;
-        has_words = ap (λ us. length us) words ∙ replicate_count (length code.places) (Empty 0);
+        has_words = ap (λ us. length us) words ∙ length-replicate (length code.places) (Empty 0);
         has_heap = heap;
         heap_started = in_heap;
         words_started = All-same (Started S) ws

@@ -1,8 +1,8 @@
 -- How the blocks lie in the code, and which registers have places.
 use Rattle.std.specs.Prelude.{◌≡◌, ℕ, zero, suc, ◌+◌, ◌<◌, List, [], ◌∷◌, length, Some, ◌⊎◌}
-use Rattle.t_terms.specs.Tree.{TBase, Reg, Int, Label, Data}
+use Rattle.t_terms.specs.Tree.{TBase, Reg}
 use Rattle.t_rules.specs.Erase.{EInstr, EArith, EBnz, ELd, EMalloc, EMov, ESt, ESeq, EThen, EJmp, EHalt}
-use Rattle.t_machine.specs.Places.{PlaceList, place_of}
+use Rattle.t_machine.specs.Places.{PlaceList, register_place}
 use Rattle.t_machine.specs.declared.code.Code.{Code}
 
 -- the number of instructions of a block, its end among them
@@ -38,9 +38,7 @@ PlacesAreReadBack =
 -- the register stands in the operand, the instruction, the block, one of the blocks
 abbrev pub InBase : TBase → ℕ → Type 0
 InBase (Reg q) r = r ≡ q
-InBase (Int i) r = ⊥
-InBase (Label l) r = ⊥
-InBase (Data d) r = ⊥
+InBase _ r = ⊥
 
 abbrev pub InInstr : EInstr → ℕ → Type 0
 InInstr (EArith op d s b) r = (r ≡ d) ⊎ ((r ≡ s) ⊎ InBase b r)
@@ -62,12 +60,12 @@ InBlocks (c ∷ cs) r = InBlock c r ⊎ InBlocks cs r
 
 -- the register has a place
 abbrev pub HasPlace : PlaceList → ℕ → Type 0
-HasPlace m r = (k : ℕ) × (place_of m r ≡ Some k)
+HasPlace m r = (k : ℕ) × (register_place m r ≡ Some k)
 
 -- of the registers that have a place in n, each has one in m or is among these
 abbrev pub Adds : PlaceList → PlaceList → (ℕ → Type 0) → Type 0
-Adds m n among = (r k : ℕ) → place_of n r ≡ Some k → HasPlace m r ⊎ among r
+Adds m n among = (r k : ℕ) → register_place n r ≡ Some k → HasPlace m r ⊎ among r
 
 -- no register has a place but those in the blocks
 abbrev pub IsNamed : Code → List ESeq → Type 0
-IsNamed x cs = (r k : ℕ) → place_of x.places r ≡ Some k → InBlocks cs r
+IsNamed x cs = (r k : ℕ) → register_place x.places r ≡ Some k → InBlocks cs r

@@ -8,15 +8,15 @@ use Rattle.std.specs.Map.{lookup}
 abbrev pub PlaceList : Type 0
 PlaceList = List (ℕ × ℕ)
 
-abbrev pub place_of : PlaceList → ℕ → Option ℕ
-place_of m r = lookup (is_at (nat_cmp r)) m
+abbrev pub register_place : PlaceList → ℕ → Option ℕ
+register_place m r = lookup (is_at (nat_cmp r)) m
 
 -- each place is below the number of places, and no two registers have one place
 abbrev pub ArePlaces : PlaceList → Type 0
 ArePlaces m =
-    ((r k : ℕ) → place_of m r ≡ Some k → k < length m)
-    × ((r q k : ℕ) → place_of m r ≡ Some k → place_of m q ≡ Some k → r ≡ q)
+    ((r k : ℕ) → register_place m r ≡ Some k → k < length m)
+    × ((r q k : ℕ) → register_place m r ≡ Some k → register_place m q ≡ Some k → r ≡ q)
 
 -- each register that has a place in m has it in n too
 abbrev pub Extends : PlaceList → PlaceList → Type 0
-Extends m n = (r k : ℕ) → place_of m r ≡ Some k → place_of n r ≡ Some k
+Extends m n = (r k : ℕ) → register_place m r ≡ Some k → register_place n r ≡ Some k

@@ -7,7 +7,7 @@ ghost use Rattle.t_terms.specs.Spanned.{plain_fields};
 ghost use Rattle.t_terms.specs.Whole.{WellFormedValue, WellFormedInstr, WellFormedBlock, WellFormedBlocks};
 ghost use Rattle.t_terms.specs.Whole.{WellFormedData, WellFormedHeap};
 ghost use Rattle.t_check.specs.Checked.{checked_program};
-ghost use Rattle.t_rules.specs.Erase.{ESeq, EHeap, ELd, EMov, ESt, erase_blocks, base_word, no_ewords, held};
+ghost use Rattle.t_rules.specs.Erase.{ESeq, EHeap, ELd, EMov, ESt, erase_blocks, base_word, no_ewords, field_word};
 ghost use Rattle.t_rules.specs.Erase.{erase_value, erase_instr, erase_end, erase_block, erase_datum};
 ghost use Rattle.t_collect.specs.Cells.{cells_of};
 ghost use Rattle.t_machine.specs.Heap.{IsHeap, IsFresh, Started, AllStarted};
@@ -106,7 +106,7 @@ fn load_tuple(
 // The word of a value of data, which names no register.
 fn load_word(v: &Value, starts: &[u32]) -> Result<Word, OutOfMemory>
     requires { (p : ℕ) × (n : ℕ) × WellFormedValue p (length starts.now) n (value_tree v.now) }
-    ensures same { IfOk result (λ w. word w ≡ held (base_word no_ewords (erase_value (value_tree v.now)))) }
+    ensures same { IfOk result (λ w. word w ≡ field_word (base_word no_ewords (erase_value (value_tree v.now)))) }
     ensures started { IfOk result (Started starts.now) }
 {
     match base_of(v) {

@@ -1,6 +1,6 @@
 // Places of registers.
 ghost use Rattle.std.specs.Prelude.{◌≡◌, Some, IfOk, OnOk, length, []};
-ghost use Rattle.t_machine.specs.Places.{PlaceList, place_of, ArePlaces, Extends};
+ghost use Rattle.t_machine.specs.Places.{PlaceList, register_place, ArePlaces, Extends};
 ghost use Rattle.t_machine.specs.Laid.{Adds};
 
 use idx_core::OutOfMemory;
@@ -45,14 +45,14 @@ impl Places {
 
     // The place of a register, where it has one.
     pub(crate) fn find(&self, register: u64) -> Option<u32>
-        ensures { result ≡ place_of self.now register }
+        ensures { result ≡ register_place self.now register }
     {
         self.map.get(&register).copied()
     }
 
     // The place of a register, a new one where it has none yet.
     pub(crate) fn place(&mut self, register: u64) -> Result<u32, OutOfMemory>
-        ensures place { IfOk result (λ k. place_of self.new register ≡ Some k) }
+        ensures place { IfOk result (λ k. register_place self.new register ≡ Some k) }
         ensures kept { OnOk result (Extends self.old self.new) }
         ensures only { OnOk result (Adds self.old self.new (λ r. r ≡ register)) }
     {

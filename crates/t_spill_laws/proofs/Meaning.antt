@@ -15,7 +15,7 @@ use Rattle.t_rules.specs.Times.{places}
 use Rattle.t_rules.specs.LawsSound.{heap_of, regs_of, code_of}
 use Rattle.t_rules.specs.HeapTypes.{HeapHas, start_types}
 use Rattle.t_rules.specs.Erase.{EInt, EAddress, ESeq, EHalt, EHeap, ERegs, EState, EAt, EStep, EGoes, estep, erase}
-use Rattle.t_rules.specs.Erase.{erase_seq, erase_block, erase_blocks, erase_heap, erase_datum, erase_value, held}
+use Rattle.t_rules.specs.Erase.{erase_seq, erase_block, erase_blocks, erase_heap, erase_datum, erase_value, field_word}
 use Rattle.t_rules.specs.Erase.{base_word, no_ewords, EHaltedWith, Erased}
 use Rattle.t_rules.proofs.Lock.{lockstep, erased_starts, erased_next, erased_halts_alike, halted_erased, halted_none}
 use Rattle.t_rules.proofs.Erasing.{heap_erased}
@@ -207,7 +207,7 @@ map_at f (x ∷ xs) (suc i) y e = map_at f xs i y e
 -- what stands in data, spilled
 module _ (top : ℕ) (P : TProg) where
   value_image : (p n : ℕ) (v : TValue) → WellFormedValue p (length P.heap) n v →
-      image (row 0 P.heap) (data_word v) ≡ Some (held (base_word no_ewords (sp_base (λ r. 1) (erase_value v))))
+      image (row 0 P.heap) (data_word v) ≡ Some (field_word (base_word no_ewords (sp_base (λ r. 1) (erase_value v))))
   value_image p n (Plain (Reg r) ts) h = refl
   value_image p n (Plain (Int i) ts) h = refl
   value_image p n (Plain (Label l) ts) h = refl
@@ -220,7 +220,7 @@ module _ (top : ℕ) (P : TProg) where
   data_images p [] h = tt
   data_images p (x ∷ xs) h = (
     value_image p 0 x.value h.0.0
-        ∙ ap (λ b. Some (held (base_word no_ewords b))) (sym (erase_sp top (λ r. 1) x.value)),
+        ∙ ap (λ b. Some (field_word (base_word no_ewords b))) (sym (erase_sp top (λ r. 1) x.value)),
     data_images p xs h.1,
   )
 

@@ -24,7 +24,7 @@ use Rattle.t_rules.proofs.OneStep.{step_one, halted_no_step}
 use Rattle.t_rules.proofs.Runs.{runs_on}
 use Rattle.t_spill_rules.specs.Spill.{Layout, layout, after as laid, kept, step_size, sizes, thens, code, entry}
 use Rattle.t_spill_rules.specs.Spill.{spilled_above, sp_block}
-use Rattle.t_spill_laws.specs.Correct.{origin_in, sizes_of, origin_above, IsPlace, times_in, CountsKept}
+use Rattle.t_spill_laws.specs.Correct.{origin_in, sizes_of, origin_above, IsPlaceOf, times_in, CountsKept}
 use Rattle.t_spill_laws.proofs.Typed.{kept_types}
 use Rattle.t_spill_laws.proofs.Erased.{esize, step_then, erase_then, slots_left}
 use Rattle.t_spill_laws.proofs.Walks.{walk, on_next, enter_step}
@@ -660,7 +660,7 @@ module _ (top : ℕ) (some : 1 ≤ top) (P : TProg) (whole : Whole P) (acc : Acc
             let y = cnt_is d (origin_in (sizes_of top P (slice_get P.blocks d)) i) (p ∷ ps) in let z = h d i in
             omega (arith, x, y, z)
 
-    from_places : (p : Place) → IsPlace (spilled_above top P) p → IsPlace P (origin_above top P p)
+    from_places : (p : Place) → IsPlaceOf (spilled_above top P) p → IsPlaceOf P (origin_above top P p)
     from_places (Spot zero i) h = first_at P.blocks acc.0
       where
         first_at : (bs : List TBlock) → FirstTakesNothing bs → (x : TBlock) × (slice_get bs 0 ≡ Some x)

@@ -29,8 +29,8 @@ abbrev pub origin : ℕ → TProg → Place → Place
 origin k P = origin_above (lows k) P
 
 -- a place of a program
-abbrev pub IsPlace : TProg → Place → Type 0
-IsPlace P (Spot b i) = (x : TBlock) × (slice_get P.blocks b ≡ Some x) × (i ≤ thens x.code)
+abbrev pub IsPlaceOf : TProg → Place → Type 0
+IsPlaceOf P (Spot b i) = (x : TBlock) × (slice_get P.blocks b ≡ Some x) × (i ≤ thens x.code)
 
 -- how often a place is in a list
 abbrev pub times_in : Place → List Place → ℕ
@@ -39,7 +39,7 @@ times_in (Spot b i) ps = count_by (is_spot b i) ps
 -- Each place comes from a place. And for each number of steps of the second program there is one of the first, so that
 -- each place is executed at most as often as its origin is the place of a state among those up to that number.
 pub record CountsKept (P Q : TProg) (from : Place → Place) : Type 0 where
-  pub from_place : (p : Place) → IsPlace Q p → IsPlace P (from p)
+  pub from_place : (p : Place) → IsPlaceOf Q p → IsPlaceOf P (from p)
   pub counts : (m2 : ℕ) (s2 : State) (p2 : Place) (run2 : After Q m2 s2 p2) →
       (m : ℕ) × (s : State) × (p : Place) × (run : After P m s p)
       × ((b i : ℕ) → Times Q m2 s2 p2 run2 b i ≤ times_in (from (Spot b i)) (p ∷ places P m s p run))

@@ -82,9 +82,9 @@ abbrev pub code_number : Fault → ℕ
 code_number (Source code span) = source_number code
 code_number (Tal code span) = tal_number code
 
-abbrev pub place_of : Fault → Span
-place_of (Source code span) = span
-place_of (Tal code span) = span
+abbrev pub fault_place : Fault → Span
+fault_place (Source code span) = span
+fault_place (Tal code span) = span
 
 -- a status, and how many bytes what is made has
 abbrev pub put : ℕ → ℕ → Made
@@ -95,7 +95,7 @@ abbrev pub of_fault : Fault → Made
 of_fault fault = record {
   status = number_of (status_of fault);
   code = code_number fault;
-  start = (place_of fault).start;
-  end = (place_of fault).end;
+  start = (fault_place fault).start;
+  end = (fault_place fault).end;
   length = 0;
 }

@@ -1,6 +1,6 @@
 // What is told a host.
 ghost use Rattle.std.specs.Prelude.{◌≡◌};
-ghost use Rattle.talc_c.specs.Answers.{put, place_of, of_fault};
+ghost use Rattle.talc_c.specs.Answers.{put, fault_place, of_fault};
 
 use crate::codes::code_number;
 use idx_core::Span;
@@ -42,8 +42,8 @@ pub(crate) fn put(status: u32, length: u64) -> Made
     }
 }
 
-fn place_of(fault: Fault) -> Span
-    ensures { result ≡ place_of fault }
+fn fault_place(fault: Fault) -> Span
+    ensures { result ≡ fault_place fault }
 {
     match fault {
         Fault::Source(_, span) => span,
@@ -55,7 +55,7 @@ fn place_of(fault: Fault) -> Span
 pub(crate) fn of_fault(fault: Fault) -> Made
     ensures { result ≡ of_fault fault }
 {
-    let place = place_of(fault);
+    let place = fault_place(fault);
     Made {
         status: u32::from(fault.status().number()),
         code: code_number(fault),

@@ -14,7 +14,7 @@ pub record Counted (text : List ℕ) (n number begin : ℕ) : Type 0 where
   pub least : number ≤ n + 1
   pub bound : begin ≤ n
 
-pub record IsPlace (p : Place) : Type 0 where
+pub record HasLine (p : Place) : Type 0 where
   pub bound : p.at ≤ length p.text.now
   pub line : Counted p.text.now p.at p.number p.begin
 
@@ -31,7 +31,7 @@ abbrev pub tokens_of : Writer → List Token
 tokens_of w = w.cursor.tokens.now
 
 pub record IsWriter (w : Writer) : Type 0 where
-  pub place : IsPlace w.place
+  pub place : HasLine w.place
   pub cursor : IsCursor w.cursor
 
 -- both write the page of the same

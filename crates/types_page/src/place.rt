@@ -1,7 +1,7 @@
 // Lines and columns of bytes that mostly follow one another.
 ghost use Rattle.std.specs.Prelude.{◌≡◌, ◌<◌, ◌≤◌, ◌+◌, length, if◌then◌else◌};
 ghost use Rattle.page_core.specs.Spot.{line_number, column, ends_line};
-ghost use Rattle.types_page.specs.Writing.{IsPlace, Counted};
+ghost use Rattle.types_page.specs.Writing.{HasLine, Counted};
 
 // How far a text has been gone through; the number of the line there, from 1 on, and where it begins.
 #[derive(Drop)]
@@ -47,7 +47,7 @@ impl<'a> Place<'a> {
     // The start of a text.
     pub(crate) fn first(text: &'a [u8]) -> Place<'a>
         ensures text { result.text ≡ text.entry }
-        ensures place { IsPlace result }
+        ensures place { HasLine result }
     {
         Place {
             text,
@@ -60,8 +60,8 @@ impl<'a> Place<'a> {
     // The line of a byte and its column there, both from 1 on. Where it stands before the last one, the text is gone
     // through anew.
     pub(crate) fn to(&mut self, byte: u64) -> (u64, u64)
-        requires { IsPlace self.old }
-        ensures place { IsPlace self.new }
+        requires { HasLine self.old }
+        ensures place { HasLine self.new }
         ensures text { self.new.text ≡ self.old.text }
         ensures line { result.0 ≡ line_number self.old.text.now byte }
         ensures column { result.1 ≡ column self.old.text.now byte }

@@ -15,7 +15,8 @@ use Rattle.c_rules.specs.Close.{with_var, open_if, with_decl, in_call}
 use Rattle.c_laws.proofs.Envs.{or_left, or_right}
 use Rattle.c_laws.proofs.Types.{ren_ctype, sub_ctype, gen_ctypes, names_gen}
 use Rattle.c_laws.proofs.TypeEnvs.{AgreeT, ScopeIn, agreeT_further, agreeT_fewer, agreeT_ren, agreeT_open}
-use Rattle.c_laws.proofs.Ranges.{or_split, scope_in_kren, in_ctype, kept_fewer, kept_back, lift_back, d_in, d_type}
+use Rattle.c_laws.proofs.Ranges.{or_split, scope_in_kren, in_ctype, kept_fewer, kept_back, lift_back, d_in}
+use Rattle.k_terms.proofs.Types.{d_type}
 use Rattle.c_laws.proofs.Ranges.{d_free}
 use Rattle.c_laws.proofs.Meaning.{ctypes_count}
 use Rattle.std.proofs.lemmas.Bool.{and_parts as and_split}

@@ -1,6 +1,6 @@
 -- Which type variables occur, and that they are in scope.
 use Rattle.std.proofs.Common.{◌≡◌, ◌<◌, ◌⊎◌, inl, inr, ℕ, zero, suc, Bool, true, false, ◌||◌, ◌&&◌, List, [], ◌∷◌}
-use Rattle.std.proofs.Common.{refl, sym, ap, ◌∙◌, subst, ap₂, arith, eq-eqb, eqb-true, nat_eq}
+use Rattle.std.proofs.Common.{refl, sym, ap, ◌∙◌, subst, arith, eq-eqb, eqb-true, nat_eq}
 use Rattle.calc_core.specs.Ends.{lift, under, after_one}
 use Rattle.k_terms.specs.K.{KTy, KTys, TKInt, TKVar, TKTuple, TKCode, TKExists, TKRef, NoKTys, MoreKTys, KVal, KVar}
 use Rattle.k_terms.specs.K.{KInt, KTuple, KCode, KVals, NoKVals, MoreKVals, KDecl, KName, KProj, KArith, KPack}
@@ -222,39 +222,6 @@ d_in (KUnpack v) n g t s h = v_in v n g (TKExists t) s h
 d_in (KCell v) n g t s h = subst (KIn n) (sym h.1) (v_in v n g h.0 s h.2)
 d_in (KGet v) n g t s h = v_in v n g (TKRef t) s h
 d_in (KSet v w) n g t s h = subst (KIn n) (sym h.1) tt
-
--- the type that is read off is the one that typing gives
-at_type : (g : List KTy) (i : ℕ) (t : KTy) → KAt g i t → ktype_at g i ≡ t
-at_type [] i t a = absurd a
-at_type (u ∷ g) zero t a = sym a
-at_type (u ∷ g) (suc i) t a = at_type g i t a
-
-field_type : (i : ℕ) (ts : KTys) (t : KTy) → KField i ts t → kfield i ts ≡ t
-field_type i NoKTys t a = absurd a
-field_type zero (MoreKTys u us) t a = absurd a
-field_type (suc zero) (MoreKTys u us) t a = sym a
-field_type (suc (suc i)) (MoreKTys u us) t a = field_type (suc i) us t a
-
-mutual
-  pub v_type : (v : KVal) (n : ℕ) (g : List KTy) (t : KTy) → KHas n g v t → kv_type g v ≡ t
-  v_type (KVar i) n g t h = at_type g i t h
-  v_type (KInt m) n g t h = sym h
-  v_type (KTuple vs) n g t h = ap TKTuple (vs_type vs n g h.0 h.2) ∙ sym h.1
-  v_type (KCode owes args body) n g t h = sym h.0
-
-  pub vs_type : (vs : KVals) (n : ℕ) (g : List KTy) (ts : KTys) → KHave n g vs ts → kvs_type g vs ≡ ts
-  vs_type NoKVals n g ts h = sym h
-  vs_type (MoreKVals v vs) n g ts h = ap₂ MoreKTys (v_type v n g h.0 h.3) (vs_type vs n g h.1 h.4) ∙ sym h.2
-
-pub d_type : (d : KDecl) (n : ℕ) (g : List KTy) (t : KTy) → KGives n g d t → kd_type g d ≡ t
-d_type (KName v) n g t h = v_type v n g t h
-d_type (KProj i v) n g t h = ap (kproj_type i) (v_type v n g (TKTuple h.0) h.1) ∙ field_type i h.0 t h.2
-d_type (KArith op v w) n g t h = sym h.0
-d_type (KPack hid v shape) n g t h = sym h.2
-d_type (KUnpack v) n g t h = ap kopen_type (v_type v n g (TKExists t) h)
-d_type (KCell v) n g t h = ap TKRef (v_type v n g h.0 h.2) ∙ sym h.1
-d_type (KGet v) n g t h = ap kheld_type (v_type v n g (TKRef t) h)
-d_type (KSet v w) n g t h = sym h.1
 
 -- the type variables of a type that is read off
 at_free : (g : List KTy) (i j : ℕ) → tfree j (ktype_at g i) ≡ true → tfree_kept j (λ k. nat_eq k i) g ≡ true

@@ -23,11 +23,13 @@ use Rattle.c_laws.proofs.Types.{gen_ctype, scons_gen, under_lift, cup_under, cup
 use Rattle.c_laws.proofs.Types.{kept_name, picked_count}
 use Rattle.c_laws.proofs.TypeEnvs.{AgreeT, SameLength, ScopeIn, same_length, keep_type, kept_types, onto_kept, tsize}
 use Rattle.c_laws.proofs.TypeEnvs.{kept_tsize, kept_ccount, at_append, at_onto, gdrop, gdrop_append, kept_agreeT}
-use Rattle.c_laws.proofs.TypeEnvs.{ctypes_of, glength, kargs_append, cargs_of, kargs_length, args_agreeT, CVarAt, tdrop}
+use Rattle.c_laws.proofs.TypeEnvs.{ctypes_of, glength, kargs_append, cargs_of, kargs_length, args_agreeT, CVarAt}
+use Rattle.c_laws.proofs.TypeEnvs.{tdrop}
 use Rattle.c_laws.proofs.TypeEnvs.{tdrop_step}
 use Rattle.c_laws.proofs.Ranges.{or_split, lift_lt, under_lt, in_kren, scope_in_kren, scope_in_args, in_ctype}
 use Rattle.c_laws.proofs.Ranges.{in_ctypes}
-use Rattle.c_laws.proofs.Ranges.{kept_lt, rank_lt, tfree_back, kept_back, lift_back, kept_args, d_type, v_type, v_range}
+use Rattle.c_laws.proofs.Ranges.{kept_lt, rank_lt, tfree_back, kept_back, lift_back, kept_args, v_range}
+use Rattle.k_terms.proofs.Types.{d_type, v_type}
 use Rattle.c_laws.proofs.Ranges.{t_range}
 use Rattle.c_laws.proofs.Meaning.{ctypes_count}
 use Rattle.k_terms.specs.Each.{KAll, KHasWith, KHaveWith, KGivesWith, KTypedWith}

@@ -5,11 +5,12 @@ use Rattle.std.specs.Prelude.{◌==◌}
 use Rattle.std.proofs.lemmas.Bool.{cases_lt, cases_eq, eq-eqb, ne_eqb}
 use Rattle.calc_core.specs.Ends.{enters}
 use Rattle.calc_core.specs.Ends as B
-use Rattle.k_terms.specs.K.{KTy, NoKTys, MoreKTys, KVal, KVar, KInt, KTuple, KCode, KVals, NoKVals, MoreKVals, KDecl}
-use Rattle.k_terms.specs.K.{KName, KProj, KArith, KPack, KUnpack, KCell, KGet, KSet, KTm, KLet, KCall, KIf, KHalt}
-use Rattle.k_terms.specs.K.{kv_next, kvs_next, kd_next, kt_next}
+use Rattle.k_terms.specs.K.{KTy, NoKTys, MoreKTys, KVal, KCode, NoKVals, MoreKVals}
+use Rattle.k_terms.specs.K.{KName, KTm, KLet, KCall}
+use Rattle.k_terms.specs.K.{kv_next, kt_next}
 use Rattle.calc_core.specs.Words.{WCode, NoWords, MoreWords, size}
 use Rattle.k_terms.specs.Meaning.{KCodeAt, KWord, KWords, kv_value, kopen, kenter}
+use Rattle.k_terms.proofs.Numbers.{next_v, next_t}
 use Rattle.f_terms.specs.Eval.{Val, Vals, Result, Gives, Spent, Stuck, then_eval}
 use Rattle.k_laws.specs.Cps.{kat}
 use Rattle.k_laws.specs.Translates.{Thing, stands, named, Form, AnyRest, Bind, Pass, to_rest, deliver, as_value}
@@ -28,36 +29,11 @@ pub same_or : (c e : ℕ) → ((c ≡ e) × (one (c == e) ≡ 1)) ⊎ (one (c ==
 same_or c e = ⊎_elim (λ q. inl (q, ap one (eq-eqb c e q))) (λ q. inr (ap one (ne_eqb c e q))) (cases_eq c e)
 
 -- the numbers of codes only grow
-mutual
-  pub le_v : (v : KVal) (b : ℕ) → b ≤ kv_next b v
-  le_v (KVar i) b = omega arith
-  le_v (KInt n) b = omega arith
-  le_v (KTuple vs) b = le_vs vs b
-  le_v (KCode owes args body) b = let r = le_t body (suc b) in omega (arith, r)
+pub le_v : (v : KVal) (b : ℕ) → b ≤ kv_next b v
+le_v v b = omega (arith, next_v v b)
 
-  le_vs : (vs : KVals) (b : ℕ) → b ≤ kvs_next b vs
-  le_vs NoKVals b = omega arith
-  le_vs (MoreKVals v vs) b = let x = le_v v b in let y = le_vs vs (kv_next b v) in omega (arith, x, y)
-
-  le_d : (d : KDecl) (b : ℕ) → b ≤ kd_next b d
-  le_d (KName v) b = le_v v b
-  le_d (KProj i v) b = le_v v b
-  le_d (KArith op v w) b = let x = le_v v b in let y = le_v w (kv_next b v) in omega (arith, x, y)
-  le_d (KPack h v s) b = le_v v b
-  le_d (KUnpack v) b = le_v v b
-  le_d (KCell v) b = le_v v b
-  le_d (KGet v) b = le_v v b
-  le_d (KSet v w) b = let x = le_v v b in let y = le_v w (kv_next b v) in omega (arith, x, y)
-
-  pub le_t : (t : KTm) (b : ℕ) → b ≤ kt_next b t
-  le_t (KLet d t) b = let x = le_d d b in let y = le_t t (kd_next b d) in omega (arith, x, y)
-  le_t (KCall f ts vs) b = let x = le_v f b in let y = le_vs vs (kv_next b f) in omega (arith, x, y)
-  le_t (KIf v a z) b =
-      let x = le_v v b in
-      let y = le_t a (kv_next b v) in
-      let w = le_t z (kt_next (kv_next b v) a) in
-      omega (arith, x, y, w)
-  le_t (KHalt v) b = le_v v b
+pub le_t : (t : KTm) (b : ℕ) → b ≤ kt_next b t
+le_t t b = omega (arith, next_t t b)
 
 has_unique : (k : KWords) (l : ℕ) (v w : KWord) → Has k l v → Has k l w → v ≡ w
 has_unique NoWords l v w h i = elim h [ ]

@@ -1,11 +1,8 @@
 -- The types that are computed are those of typing.
-use Rattle.std.proofs.Common.{◌≡◌, ◌∙◌, ◌-◌, ◌∷◌, ℕ, zero, suc, List, [], ap, ap₂, sym, subst, arith}
+use Rattle.std.proofs.Common.{◌≡◌, ◌∙◌, ◌-◌, ◌∷◌, ℕ, suc, List, ap, ap₂, sym, subst, arith}
 use Rattle.calc_core.specs.Ends.{lift}
 use Rattle.calc_core.proofs.Lifts.{lift_is}
-use Rattle.k_terms.specs.K.{KTy, KTys, KVal, KVar, KInt, KTuple, KCode, KVals, NoKVals, MoreKVals, KName, KProj}
-use Rattle.k_terms.specs.K.{KArith, KPack, KUnpack, KCell, KGet, KSet, TKTuple, TKRef, NoKTys, MoreKTys}
-use Rattle.k_terms.specs.Types.{kv_type, kvs_type, kfield, kproj_type, kopen_type, kheld_type, ktype_at}
-use Rattle.k_terms.specs.Typing.{KAt, KField, KHas, KHave}
+use Rattle.k_terms.proofs.Types.{at_type, field_type as at_field, d_type}
 use Rattle.c_terms.specs.C.{CTy, CTys, TCVar, TCTuple, TCCode, TCRef, MoreCTys, CVal, CVar, CInt, CTuple, CCode}
 use Rattle.c_terms.specs.C.{CApply, CPack, CVals, NoCVals, MoreCVals, CName, CProj, CArith, CUnpack, CCell}
 use Rattle.c_terms.specs.C.{CGet, CSet, ccount}
@@ -18,40 +15,10 @@ use Rattle.let_types.specs.Closed as c
 use Rattle.let_types.specs.Hoisted as h
 use Rattle.let_types.specs.Laws.{ClosedTypes, CpsTypes, HoistedTypes}
 
-at_type : (g : List KTy) (i : ℕ) (t : KTy) → KAt g i t → ktype_at g i ≡ t
-at_type [] i t e = absurd e
-at_type (u ∷ g) zero t e = sym e
-at_type (u ∷ g) (suc i) t e = at_type g i t e
-
-at_field : (i : ℕ) (us : KTys) (t : KTy) → KField i us t → kfield i us ≡ t
-at_field i NoKTys t e = absurd e
-at_field zero (MoreKTys u us) t e = absurd e
-at_field (suc zero) (MoreKTys u us) t e = sym e
-at_field (suc (suc i)) (MoreKTys u us) t e = at_field (suc i) us t e
-
 -- ---- in continuation-passing style
 
-mutual
-  of_k : (n : ℕ) (g : List KTy) (v : KVal) (t : KTy) → KHas n g v t → kv_type g v ≡ t
-  of_k n g (KVar i) t e = at_type g i t e
-  of_k n g (KInt m) t e = sym e
-  of_k n g (KTuple vs) t e = ap TKTuple (of_ks n g vs e.0 e.2) ∙ sym e.1
-  of_k n g (KCode owes args body) t e = sym e.0
-
-  of_ks : (n : ℕ) (g : List KTy) (vs : KVals) (ts : KTys) → KHave n g vs ts → kvs_type g vs ≡ ts
-  of_ks n g NoKVals ts e = sym e
-  of_ks n g (MoreKVals v vs) ts e = ap₂ MoreKTys (of_k n g v e.0 e.3) (of_ks n g vs e.1 e.4) ∙ sym e.2
-
 pub cps_types : CpsTypes
-cps_types n g (KName v) t e = of_k n g v t e
-cps_types n g (KProj i v) t e =
-    ap (kproj_type i) (of_k n g v (TKTuple e.0) e.1) ∙ at_field i e.0 t e.2
-cps_types n g (KArith op v w) t e = sym e.0
-cps_types n g (KPack hidden v s) t e = sym e.2
-cps_types n g (KUnpack v) t e = ap kopen_type (of_k n g v _ e)
-cps_types n g (KCell v) t e = ap TKRef (of_k n g v e.0 e.2) ∙ sym e.1
-cps_types n g (KGet v) t e = ap kheld_type (of_k n g v (TKRef t) e)
-cps_types n g (KSet v w) t e = sym e.1
+cps_types n g x t h = d_type x n g t h
 
 -- ---- closed
 

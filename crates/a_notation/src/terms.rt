@@ -12,7 +12,7 @@ ghost use Rattle.a_notation.specs.Scopes.{behind, below, branch, node_text, open
 use crate::lines::write_form;
 use crate::scope::{Scope, Source, Walk};
 use crate::types::write_type;
-use a_scope::{Entry, declare, show};
+use a_scope::{Declaration, Entry, declare, show};
 use a_terms::{AForm, ANode};
 use idx_core::{OutOfMemory, sum};
 use page_core::write_margin;
@@ -138,15 +138,13 @@ fn step_let<'a>(
         walk.old.scopes.items walk.new.scopes.items text.old.items text.new.items) }
 {
     let values = node.values.as_slice();
-    let types = declare(
-        of.alloc,
-        of.program,
-        &mut walk.vars,
-        scope.types,
-        0,
-        &node.form,
+    let decl = Declaration {
+        names: scope.types,
+        form: &node.form,
         values,
-    )?;
+        register: 0,
+    };
+    let types = declare(of.alloc, of.program, &mut walk.vars, &decl)?;
     let note = note_of_last(of, &walk.vars, types)?;
     write_node(text, node, &scope, &note)?;
     let next = scope_behind(&scope, types)?;

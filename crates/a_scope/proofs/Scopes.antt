@@ -1,7 +1,7 @@
 -- Variables in scope, and types of values.
 use Rattle.std.proofs.Common.{◌≡◌, ℕ, zero, suc, ◌+◌, ◌-◌, ◌<◌, ◌≤◌, ◌++◌, List, [], ◌∷◌, length, map, take, get_or}
 use Rattle.std.proofs.Common.{slice_get, Option, Some, None, refl, sym, ap, ap₂, ◌∙◌, subst, arith, length-append}
-use Rattle.std.proofs.lemmas.List.{take_more, take_all}
+use Rattle.std.proofs.lemmas.List.{take_more, take_all, map_push}
 use Rattle.idx_core.specs.Laws.{shift_zero_law, shift_add_law}
 use Rattle.a_terms.specs.Tree as a
 use Rattle.a_terms.specs.Tree.{ashift}
@@ -116,14 +116,10 @@ shown_more k e le =
     let s : suc k - e.names ≡ k - e.names + 1 = omega (arith, le) in
     ap (λ n. ashift n 0 (noted e)) s ∙ sym (shift_add_law a_part a_over (k - e.names) 1 0 (noted e))
 
-map_snoc : (f : a.ATy → a.ATy) (xs : List a.ATy) (x : a.ATy) → map f (xs ++ x ∷ []) ≡ map f xs ++ f x ∷ []
-map_snoc f [] x = refl
-map_snoc f (y ∷ ys) x = ap (λ zs. f y ∷ zs) (map_snoc f ys x)
-
 pub scope_more : (k : ℕ) (es : List Entry) → Under k es → scope (suc k) es ≡ map (ashift 1 0) (scope k es)
 scope_more k [] u = refl
 scope_more k (e ∷ es) u = ap₂ (λ g t. g ++ t ∷ []) (scope_more k es u.1) (shown_more k e u.0)
-    ∙ sym (map_snoc (ashift 1 0) (scope k es) (shown k e))
+    ∙ sym (map_push (ashift 1 0) (scope k es) (shown k e))
 
 one_more : (k : ℕ) (es : List Entry) (e : Entry) (t : a.ATy) → shown k e ≡ t → scope k (es ++ e ∷ []) ≡ t ∷ scope k es
 one_more k es e t is = scope_snoc k es e ∙ ap (λ u. u ∷ scope k es) is

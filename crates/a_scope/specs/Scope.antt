@@ -7,6 +7,8 @@ use Rattle.a_terms.specs.Read.{atree, atrees}
 use Rattle.a_terms.specs.declared.nodes.AWrap.{AWrap}
 use Rattle.a_terms.specs.declared.nodes.AWrap.TheVariants.{Apply, Pack}
 use Rattle.a_terms.specs.Program.{program_in}
+use Rattle.a_terms.specs.NodeTrees.{a_values, a_decl}
+use Rattle.a_scope.specs.declared.declaring.Declaration.{Declaration}
 use Rattle.a_scope.specs.declared.scope.Around.{Around}
 use Rattle.a_scope.specs.declared.scope.Entry.{Entry}
 use Rattle.a_scope.specs.declared.noted.Noted.{Noted}
@@ -68,6 +70,10 @@ Held p k es v e = (Some (shown k e) ≡ type_of p (scope k es) v) × (Under k es
 abbrev pub wrap_type : AWrap → Option a.ATy → Option a.ATy
 wrap_type (Apply ts) o = applied o (atrees ts.items)
 wrap_type (Pack h s) o = Some (atree s)
+
+-- a declaration as a tree
+abbrev pub decl_tree : Declaration → a.ADecl
+decl_tree d = a_decl d.form.now (a_values d.values.now)
 
 -- the type of the variable that is declared
 abbrev pub decl_ty : a.AProg → List a.ATy → a.ADecl → a.ATy

@@ -5,7 +5,7 @@ ghost use Rattle.a_terms.specs.Typing.{type_of, or_int, filled_of as the_filled_
 ghost use Rattle.a_terms.specs.NodeTrees.{a_value, a_values, is_decl, a_decl};
 ghost use Rattle.a_terms.specs.Arity.{AArity};
 ghost use Rattle.a_terms.specs.Program.{program_in};
-ghost use Rattle.a_scope.specs.Scope.{scope, Under, Stands, MayStand, decl_ty, type_here};
+ghost use Rattle.a_scope.specs.Scope.{scope, Under, Stands, MayStand, decl_tree, decl_ty, type_here};
 ghost use Rattle.a_scope.specs.declared.scope.Entry.{Entry as TheEntry};
 
 use crate::field::{body_entry, field_entry};
@@ -146,34 +146,41 @@ fn declared_entry<'a>(
     }
 }
 
-/// One more variable, in this register: the type names in scope then. An error is want of memory.
+/// A declaration where it stands: how many type names are in scope before it, its form and its values, and the register
+/// of its variable.
+#[derive(Clone, Copy, Drop)]
+pub struct Declaration<'a> {
+    pub names: u64,
+    pub form: &'a AForm,
+    pub values: &'a [AValue],
+    pub register: u64,
+}
+
+/// One more variable: the type names in scope then. An error is want of memory.
 pub fn declare<'a>(
     alloc: Global,
     program: &AProgram,
     vars: &mut Vec<Entry<'a>>,
-    names: u64,
-    register: u64,
-    form: &'a AForm,
-    values: &'a [AValue],
+    decl: &Declaration<'a>,
 ) -> Result<u64, OutOfMemory>
-    requires form { is_decl form.now ≡ true }
-    requires arity { AArity form.now (a_values values.now) }
-    requires under { Under names vars.old.items }
-    ensures names { IfOk result (λ r. r ≡ more_vars (a_decl form.now (a_values values.now)) names) }
-    ensures scope { OnOk result (scope (more_vars (a_decl form.now (a_values values.now)) names) vars.new.items
-        ≡ declared (program_in program.now) (scope names vars.old.items) (a_decl form.now (a_values values.now))) }
-    ensures more { OnOk result ((e : TheEntry) × (e.names ≤ more_vars (a_decl form.now (a_values values.now)) names)
-        × (e.register ≡ register) × (vars.new.items ≡ vars.old.items ++ e ∷ [])) }
+    requires form { is_decl decl.now.form.now ≡ true }
+    requires arity { AArity decl.now.form.now (a_values decl.now.values.now) }
+    requires under { Under decl.now.names vars.old.items }
+    ensures names { IfOk result (λ r. r ≡ more_vars (decl_tree decl.now) decl.now.names) }
+    ensures scope { OnOk result (scope (more_vars (decl_tree decl.now) decl.now.names) vars.new.items
+        ≡ declared (program_in program.now) (scope decl.now.names vars.old.items) (decl_tree decl.now)) }
+    ensures more { OnOk result ((e : TheEntry) × (e.names ≤ more_vars (decl_tree decl.now) decl.now.names)
+        × (e.register ≡ decl.now.register) × (vars.new.items ≡ vars.old.items ++ e ∷ [])) }
 {
-    let after = names_after(form, values, names)?;
+    let after = names_after(decl.form, decl.values, decl.names)?;
     let around = Around {
         alloc,
         program,
         vars: &*vars,
-        names,
+        names: decl.names,
     };
-    let made = declared_entry(&around, form, values)?;
-    let entry = placed(made, register);
+    let made = declared_entry(&around, decl.form, decl.values)?;
+    let entry = placed(made, decl.register);
     vars.push(entry)?;
     Ok(after)
 }

@@ -8,7 +8,7 @@ mod scope;
 mod sharing;
 mod value;
 
-pub use declaring::declare;
+pub use declaring::{Declaration, declare};
 pub use noted::Noted;
 pub use scope::{Entry, noted_lent, noted_now, placed, show};
 pub use value::{first, second, type_of_value};

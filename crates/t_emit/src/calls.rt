@@ -1,9 +1,8 @@
 // Instructions are emitted for calls.
-ghost use Rattle.std.specs.Prelude.{◌≡◌, ◌+◌, ◌<◌, ◌≤◌, ◌^◌, ℕ, suc, List, ◌∷◌, [], drop, length, IfOk, OnOk};
-ghost use Rattle.t_types.specs.Tree.{Ty};
+ghost use Rattle.std.specs.Prelude.{◌≡◌, ◌+◌, ◌<◌, ◌≤◌, ◌^◌, ℕ, List, drop, length, IfOk, OnOk};
 ghost use Rattle.t_terms.specs.Tree.{TSeq, Ends};
 ghost use Rattle.t_terms.specs.Read.{end_of};
-ghost use Rattle.t_emit.specs.Code.{Grows, onto, places, after_saves};
+ghost use Rattle.t_emit.specs.Code.{Grows, onto, places, after_saves, call_from};
 ghost use Rattle.t_gen_rules.specs.Gen.{call_code, above_saved, places_saved, saved as saved_code, owns, reads, later};
 ghost use Rattle.t_gen_rules.specs.Gen.{tys};
 ghost use Rattle.a_terms.specs.Tree.{AVal};
@@ -15,6 +14,7 @@ ghost use Rattle.a_scope.specs.Scope.{homes};
 use crate::code::{emit_move, plain, put};
 use crate::constants::apply_constant;
 use crate::decls::bare_variable;
+use crate::emitter::Emitter;
 use crate::values::{after, emit_small, register};
 use a_scope::{Entry, first};
 use a_terms::{ABase, AType, AValue};
@@ -58,94 +58,115 @@ fn named_later(vars: &[Entry], saved: &[(u64, u64)], r: u64, values: &[AValue], 
     names(vars, saved, r, first(values))
 }
 
-// Register r is saved in register `above`, if it has to be: the first free register then.
+// A call: the variables in scope, its values, of which the first is the code, and the types that it is applied to.
+#[derive(Clone, Copy, Drop)]
+pub(crate) struct Call<'b, 'a> {
+    pub(crate) alloc: Global,
+    pub(crate) vars: &'b [Entry<'a>],
+    pub(crate) values: &'b [AValue],
+    pub(crate) types: &'b [AType],
+}
+
+// The registers that were saved, each with the one that it was saved in, and the first register that holds nothing.
+#[derive(Drop)]
+pub(crate) struct Saves {
+    pub(crate) pairs: Vec<(u64, u64)>,
+    pub(crate) free: u64,
+}
+
+// Register r is saved in the first free one, if it has to be.
 fn save(
     alloc: Global,
     code: &mut Vec<(Instr, Span)>,
-    saved: &mut Vec<(u64, u64)>,
-    above: u64,
+    saves: &mut Saves,
     r: u64,
     lost: bool,
-) -> Result<u64, OutOfMemory>
-    ensures above { IfOk result (λ a. a ≡ above_saved lost above) }
-    ensures places { OnOk result ((m : List ℕ) → after_saves saved.new.items m
-        ≡ places_saved lost above r (after_saves saved.old.items m)) }
-    ensures code { OnOk result (Grows code.old.items code.new.items (saved_code lost above r)) }
+) -> Result<(), OutOfMemory>
+    ensures free { OnOk result (saves.new.free ≡ above_saved lost saves.old.free) }
+    ensures places { OnOk result ((m : List ℕ) → after_saves saves.new.pairs.items m
+        ≡ places_saved lost saves.old.free r (after_saves saves.old.pairs.items m)) }
+    ensures code { OnOk result (Grows code.old.items code.new.items (saved_code lost saves.old.free r)) }
 {
     if lost {
+        let above = saves.free;
         let v = plain(alloc, Base::Reg(r));
         put(code, Instr::Mov { rd: above, v })?;
-        saved.push((r, above))?;
+        saves.pairs.push((r, above))?;
         let next = after(above)?;
-        Ok(next)
+        saves.free = next;
+        Ok(())
     } else {
-        Ok(above)
+        Ok(())
     }
 }
 
-// Argument i is put into register i: the first free register then.
+// Argument i is put into register i.
 fn emit_argument(
-    alloc: Global,
+    call: &Call,
     code: &mut Vec<(Instr, Span)>,
-    vars: &[Entry],
-    saved: &mut Vec<(u64, u64)>,
-    above: u64,
-    values: &[AValue],
+    saves: &mut Saves,
     i: usize,
-) -> Result<u64, OutOfMemory>
-    requires i { i < length values.now }
-    ensures { IfOk result (λ a. (ts : List Ty) → onto code.new.items (call_code (suc i) a
-        (places vars.now saved.new.items) (a_values (drop (i + 1) values.now)) (top no_value (a_values values.now)) ts)
-        ≡ onto code.old.items (call_code i above (places vars.now saved.old.items)
-        (a_values (drop i values.now)) (top no_value (a_values values.now)) ts)) }
+) -> Result<(), OutOfMemory>
+    requires i { i < length call.now.values.now }
+    ensures { OnOk result (onto code.new.items (call_from (i + 1) call.now saves.new)
+        ≡ onto code.old.items (call_from i call.now saves.old)) }
 {
-    let v = &values[i];
+    let v = &call.values[i];
     let r = i as u64;
-    let lost = !is_in(vars, saved, r, v) && named_later(vars, saved, r, values, i + 1);
-    let free = save(alloc, code, saved, above, r, lost)?;
-    let held = emit_small(alloc, code, vars, saved, free, v)?;
+    let lost = !is_in(call.vars, &saves.pairs, r, v)
+        && named_later(call.vars, &saves.pairs, r, call.values, i + 1);
+    save(call.alloc, code, saves, r, lost)?;
+    let emitter = Emitter {
+        alloc: call.alloc,
+        vars: call.vars,
+        spare: saves.free,
+    };
+    let held = emit_small(&emitter, code, &saves.pairs, v)?;
     emit_move(code, r, held)?;
-    Ok(free)
+    Ok(())
 }
 
-// The jump of a call, whose code is the first value.
-fn emit_jump(
-    alloc: Global,
-    code: &mut Vec<(Instr, Span)>,
-    vars: &[Entry],
-    saved: &[(u64, u64)],
-    above: u64,
-    v: &AValue,
-    types: &[AType],
-) -> Result<End, OutOfMemory>
-    ensures { IfOk result (λ r. (j : ℕ) → onto code.new.items (Ends (end_of r)) ≡ onto code.old.items
-        (call_code j above (places vars.now saved.now) [] (a_value v.now) (tys (atrees types.now)))) }
+// The jump of a call, after its arguments.
+fn emit_jump(call: &Call, code: &mut Vec<(Instr, Span)>, saves: &Saves) -> Result<End, OutOfMemory>
+    requires some { 1 ≤ length call.now.values.now }
+    ensures { IfOk result (λ r. (i : ℕ) → length call.now.values.now ≤ i
+        → onto code.new.items (Ends (end_of r)) ≡ onto code.old.items (call_from i call.now saves.now)) }
 {
-    let held = emit_small(alloc, code, vars, saved, above, v)?;
-    let goes = apply_constant(alloc, held, types)?;
+    let emitter = Emitter {
+        alloc: call.alloc,
+        vars: call.vars,
+        spare: saves.free,
+    };
+    let held = emit_small(&emitter, code, &saves.pairs, first(call.values))?;
+    let goes = apply_constant(call.alloc, held, call.types)?;
     Ok(End::Jmp(goes))
 }
 
-/// The instructions of a call, and its jump: `above` and the registers after it hold nothing. An error is want of
-/// memory.
+/// The instructions of a call, and its jump. An error is want of memory.
 pub fn emit_call(
-    alloc: Global,
+    emitter: &Emitter,
     code: &mut Vec<(Instr, Span)>,
-    vars: &[Entry],
-    above: u64,
     values: &[AValue],
     types: &[AType],
 ) -> Result<End, OutOfMemory>
     requires some { IsSome (a_values values.now) }
-    ensures { IfOk result (λ r. onto code.new.items (Ends (end_of r)) ≡
-        onto code.old.items (call_code 1 above (homes vars.now) (others (a_values values.now))
+    ensures { IfOk result (λ r. onto code.new.items (Ends (end_of r)) ≡ onto code.old.items
+        (call_code 1 emitter.now.spare (homes emitter.now.vars.now) (others (a_values values.now))
         (top no_value (a_values values.now)) (tys (atrees types.now)))) }
 {
-    let mut saved = Vec::new(alloc);
-    let mut free = above;
+    let call = Call {
+        alloc: emitter.alloc,
+        vars: emitter.vars,
+        values,
+        types,
+    };
+    let mut saves = Saves {
+        pairs: Vec::new(emitter.alloc),
+        free: emitter.spare,
+    };
     for i in 1..values.len() {
-        free = emit_argument(alloc, code, vars, &mut saved, free, values, i)?;
+        emit_argument(&call, code, &mut saves, i)?;
     }
-    let end = emit_jump(alloc, code, vars, &saved, free, first(values), types)?;
+    let end = emit_jump(&call, code, &saves)?;
     Ok(end)
 }

@@ -1,21 +1,20 @@
 // Instructions are emitted for declarations.
 ghost use Rattle.std.specs.Prelude.{◌≡◌, ℕ, true, Bool, Option, OnOk, IfOk};
 ghost use Rattle.t_terms.specs.Tree.{TSeq};
-ghost use Rattle.t_emit.specs.Code.{Grows, bare_var, both_used, both_names, kept};
+ghost use Rattle.t_emit.specs.Code.{Grows, bare_var, both_used, both_names, kept, decl_by};
 ghost use Rattle.t_gen_rules.specs.Gen.{free as the_free, owner as the_owner, target as the_target, spare as the_spare};
-ghost use Rattle.t_gen_rules.specs.Gen.{decl_code};
 ghost use Rattle.a_terms.specs.NodeTrees.{a_value, a_values, is_decl, a_decl};
 ghost use Rattle.a_terms.specs.Tree.{ATm, Value as TheValue, Proj, Arith, Unpack, Init};
 ghost use Rattle.a_terms.specs.Arity.{AArity};
 ghost use Rattle.a_scope.specs.Scope.{homes};
 
 use crate::code::put;
+use crate::emitter::{Emitter, Target};
 use crate::types::written_all;
 use crate::values::{after, emit_into, emit_settled, emit_value, register_now};
 use a_scope::{Entry, first, second};
 use a_terms::{ABase, AForm, AValue};
 use idx_core::{Op, OutOfMemory, Span};
-use std::alloc::Global;
 use t_terms::Instr;
 
 /// The variable that a value is, if it is one with nothing around it.
@@ -68,84 +67,58 @@ pub fn target(vars: &[Entry], form: &AForm, values: &[AValue], both: bool, free:
     }
 }
 
-/// The instructions of a declaration, whose variable's register is `rd`; `spare` and those after it hold nothing. An
-/// error is want of memory.
+/// The instructions of a declaration, whose variable gets this target. An error is want of memory.
 pub fn emit_declaration(
-    alloc: Global,
+    target: &Target,
     code: &mut Vec<(Instr, Span)>,
-    vars: &[Entry],
-    spare: u64,
-    rd: u64,
     form: &AForm,
     values: &[AValue],
 ) -> Result<(), OutOfMemory>
     requires form { is_decl form.now ≡ true }
     requires arity { AArity form.now (a_values values.now) }
     ensures { OnOk result (Grows code.old.items code.new.items
-        (decl_code spare (homes vars.now) rd (a_decl form.now (a_values values.now)))) }
+        (decl_by target.now (a_decl form.now (a_values values.now)))) }
 {
     match form {
-        AForm::Value => Ok(name(alloc, code, vars, spare, rd, first(values))?),
-        AForm::Proj(i) => Ok(project(alloc, code, vars, rd, *i, first(values))?),
-        AForm::Arith(op) => Ok(operate(
-            alloc,
-            code,
-            vars,
-            spare,
-            rd,
-            *op,
-            first(values),
-            second(values),
-        )?),
-        AForm::Unpack => Ok(open(alloc, code, vars, rd, first(values))?),
+        AForm::Value => Ok(name(target, code, first(values))?),
+        AForm::Proj(i) => Ok(project(target, code, *i, first(values))?),
+        AForm::Arith(op) => Ok(operate(target, code, *op, first(values), second(values))?),
+        AForm::Unpack => Ok(open(target, code, first(values))?),
         AForm::Malloc(types) => {
-            let types = written_all(alloc, types)?;
+            let types = written_all(target.emitter.alloc, types)?;
+            let rd = target.rd;
             put(code, Instr::Malloc { rd, types })?;
             Ok(())
         }
-        AForm::Init(i) => Ok(initialise(
-            alloc,
-            code,
-            vars,
-            spare,
-            rd,
-            *i,
-            first(values),
-            second(values),
-        )?),
+        AForm::Init(i) => Ok(initialise(target, code, *i, first(values), second(values))?),
         _ => unreachable!(),
     }
 }
 
 // A value, in the register of its name.
-fn name(
-    alloc: Global,
-    code: &mut Vec<(Instr, Span)>,
-    vars: &[Entry],
-    spare: u64,
-    rd: u64,
-    v: &AValue,
-) -> Result<(), OutOfMemory>
-    ensures { OnOk result (Grows code.old.items code.new.items
-        (decl_code spare (homes vars.now) rd (TheValue (a_value v.now)))) }
+fn name(target: &Target, code: &mut Vec<(Instr, Span)>, v: &AValue) -> Result<(), OutOfMemory>
+    ensures { OnOk result (Grows code.old.items code.new.items (decl_by target.now (TheValue (a_value v.now)))) }
 {
-    emit_into(alloc, code, vars, spare, rd, v)?;
+    emit_into(&target.emitter, code, target.rd, v)?;
     Ok(())
 }
 
 // The load of a value's field i.
 fn project(
-    alloc: Global,
+    target: &Target,
     code: &mut Vec<(Instr, Span)>,
-    vars: &[Entry],
-    rd: u64,
     i: u64,
     v: &AValue,
 ) -> Result<(), OutOfMemory>
-    ensures { OnOk result (Grows code.old.items code.new.items
-        (decl_code 0 (homes vars.now) rd (Proj i (a_value v.now)))) }
+    ensures { OnOk result (Grows code.old.items code.new.items (decl_by target.now (Proj i (a_value v.now)))) }
 {
-    let rs = emit_settled(alloc, code, vars, rd, v)?;
+    let rd = target.rd;
+    let emitter = Emitter {
+        alloc: target.emitter.alloc,
+        vars: target.emitter.vars,
+        spare: rd,
+    };
+    let rs = emit_settled(&emitter, code, v)?;
     let field = i.saturating_sub(1);
     put(code, Instr::Ld { rd, rs, field })?;
     Ok(())
@@ -153,45 +126,39 @@ fn project(
 
 // The operation on two values.
 fn operate(
-    alloc: Global,
+    target: &Target,
     code: &mut Vec<(Instr, Span)>,
-    vars: &[Entry],
-    spare: u64,
-    rd: u64,
     op: Op,
     v: &AValue,
     w: &AValue,
 ) -> Result<(), OutOfMemory>
     ensures { OnOk result (Grows code.old.items code.new.items
-        (decl_code spare (homes vars.now) rd (Arith op (a_value v.now) (a_value w.now)))) }
+        (decl_by target.now (Arith op (a_value v.now) (a_value w.now)))) }
 {
-    let rs = emit_settled(alloc, code, vars, spare, v)?;
-    let next = after(spare)?;
-    let right = emit_value(alloc, code, vars, next, w)?;
-    put(
-        code,
-        Instr::Arith {
-            op,
-            rd,
-            rs,
-            v: right,
-        },
-    )?;
+    let rd = target.rd;
+    let rs = emit_settled(&target.emitter, code, v)?;
+    let next = after(target.emitter.spare)?;
+    let emitter = Emitter {
+        alloc: target.emitter.alloc,
+        vars: target.emitter.vars,
+        spare: next,
+    };
+    let v = emit_value(&emitter, code, w)?;
+    put(code, Instr::Arith { op, rd, rs, v })?;
     Ok(())
 }
 
 // What a package holds.
-fn open(
-    alloc: Global,
-    code: &mut Vec<(Instr, Span)>,
-    vars: &[Entry],
-    rd: u64,
-    v: &AValue,
-) -> Result<(), OutOfMemory>
-    ensures { OnOk result (Grows code.old.items code.new.items
-        (decl_code 0 (homes vars.now) rd (Unpack (a_value v.now)))) }
+fn open(target: &Target, code: &mut Vec<(Instr, Span)>, v: &AValue) -> Result<(), OutOfMemory>
+    ensures { OnOk result (Grows code.old.items code.new.items (decl_by target.now (Unpack (a_value v.now)))) }
 {
-    let held = emit_value(alloc, code, vars, rd, v)?;
+    let rd = target.rd;
+    let emitter = Emitter {
+        alloc: target.emitter.alloc,
+        vars: target.emitter.vars,
+        spare: rd,
+    };
+    let held = emit_value(&emitter, code, v)?;
     put(code, Instr::Unpack { rd, v: held })?;
     Ok(())
 }
@@ -208,21 +175,24 @@ fn spare_besides(spare: u64, rd: u64) -> Result<u64, OutOfMemory>
 
 // The store of a value in a tuple's field i.
 fn initialise(
-    alloc: Global,
+    target: &Target,
     code: &mut Vec<(Instr, Span)>,
-    vars: &[Entry],
-    spare: u64,
-    rd: u64,
     i: u64,
     v: &AValue,
     w: &AValue,
 ) -> Result<(), OutOfMemory>
     ensures { OnOk result (Grows code.old.items code.new.items
-        (decl_code spare (homes vars.now) rd (Init (a_value v.now) i (a_value w.now)))) }
+        (decl_by target.now (Init (a_value v.now) i (a_value w.now)))) }
 {
-    let next = spare_besides(spare, rd)?;
-    emit_into(alloc, code, vars, next, rd, v)?;
-    let rs = emit_settled(alloc, code, vars, next, w)?;
+    let rd = target.rd;
+    let next = spare_besides(target.emitter.spare, rd)?;
+    let emitter = Emitter {
+        alloc: target.emitter.alloc,
+        vars: target.emitter.vars,
+        spare: next,
+    };
+    emit_into(&emitter, code, rd, v)?;
+    let rs = emit_settled(&emitter, code, w)?;
     let field = i.saturating_sub(1);
     put(code, Instr::St { rd, field, rs })?;
     Ok(())

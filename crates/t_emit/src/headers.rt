@@ -3,14 +3,14 @@ ghost use Rattle.std.specs.Prelude.{◌≡◌, ◌+◌, ◌<◌, ◌^◌, ◌++�
 ghost use Rattle.t_types.specs.Read.{tree, file as file_tree, types as type_trees};
 ghost use Rattle.t_terms.specs.Tree.{TSeq, Then, Bnz, Plain, Label};
 ghost use Rattle.t_terms.specs.Read.{blocks_of};
-ghost use Rattle.t_emit.specs.Code.{Grows, Listed, chosen, with_type};
-ghost use Rattle.t_emit.specs.Code.{reserved};
-ghost use Rattle.t_gen_rules.specs.Gen.{ty, place, insert, test_code, tvars, header as the_header};
+ghost use Rattle.t_emit.specs.Code.{Grows, Listed, chosen, with_type, test_by, third_block};
+ghost use Rattle.t_gen_rules.specs.Gen.{ty, place, insert, tvars};
 ghost use Rattle.a_terms.specs.NodeTrees.{a_value};
 ghost use Rattle.a_scope.specs.Scope.{shown, scope, homes};
 
 use crate::blocks::reserve;
 use crate::code::put;
+use crate::emitter::Emitter;
 use crate::types::written;
 use crate::values::emit_settled;
 use a_scope::{Entry, show};
@@ -108,32 +108,36 @@ pub fn header(
     Ok(regs)
 }
 
-/// The instructions of an `if0` up to its second part; the block of its third part, which uses these variables, is
-/// reserved at the end. Register `spare` holds nothing. An error is want of memory.
+/// The third part of an `if0`: how many type names are in scope, and which variables it uses, in ascending order.
+#[derive(Clone, Copy, Drop)]
+pub struct Third<'t> {
+    pub names: u64,
+    pub used: &'t [u64],
+}
+
+/// The instructions of an `if0` up to its second part; the block of its third part is reserved at the end. An error is
+/// want of memory.
 pub fn emit_if0(
-    alloc: Global,
+    emitter: &Emitter,
     out: &mut Vec<Block>,
     code: &mut Vec<(Instr, Span)>,
-    vars: &[Entry],
-    spare: u64,
-    names: u64,
-    third: &[u64],
+    third: &Third,
     v: &AValue,
 ) -> Result<(), OutOfMemory>
     ensures code { OnOk result (Grows code.old.items code.new.items
-        (test_code spare names (homes vars.now) (a_value v.now) (length out.old.items))) }
-    ensures out { OnOk result ((u : ℕ → Bool) → Listed u 0 third.now → blocks_of out.new.items
-        ≡ blocks_of out.old.items ++ reserved names (the_header u (homes vars.now) (scope names vars.now)) ∷ []) }
+        (test_by emitter.now third.now (a_value v.now) (length out.old.items))) }
+    ensures out { OnOk result ((u : ℕ → Bool) → Listed u 0 third.now.used.now
+        → blocks_of out.new.items ≡ blocks_of out.old.items ++ third_block emitter.now third.now u ∷ []) }
 {
     let block = out.len() as u64;
-    let r = emit_settled(alloc, code, vars, spare, v)?;
-    let types = names_in_scope(alloc, names)?;
+    let r = emit_settled(emitter, code, v)?;
+    let types = names_in_scope(emitter.alloc, third.names)?;
     let target = Value::Plain {
         base: Base::Label(block),
         types,
     };
     put(code, Instr::Bnz { r, v: target })?;
-    let registers = header(alloc, vars, names, third)?;
-    reserve(alloc, out, names, registers)?;
+    let registers = header(emitter.alloc, emitter.vars, third.names, third.used)?;
+    reserve(emitter.alloc, out, third.names, registers)?;
     Ok(())
 }

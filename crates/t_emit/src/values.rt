@@ -2,13 +2,14 @@
 ghost use Rattle.std.specs.Prelude.{◌≡◌, ℕ, suc, IfOk, OnOk};
 ghost use Rattle.t_terms.specs.Tree.{TSeq};
 ghost use Rattle.t_terms.specs.Read.{value as value_tree};
-ghost use Rattle.t_emit.specs.Code.{Grows, wrap_small, wrap_boxed, seen, places};
+ghost use Rattle.t_emit.specs.Code.{Grows, wrap_small, wrap_boxed, seen, places, small_by, unnest_by};
 ghost use Rattle.t_gen_rules.specs.Gen.{place, small, unnest, instead, home, settle, move};
 ghost use Rattle.a_terms.specs.NodeTrees.{base as base_tree, a_value};
 ghost use Rattle.a_scope.specs.Scope.{homes};
 
 use crate::code::{boxed, emit_move, emit_settle, plain};
 use crate::constants::apply_constant;
+use crate::emitter::Emitter;
 use crate::types::written;
 use a_scope::Entry;
 use a_terms::{ABase, AValue, AWrap};
@@ -124,73 +125,66 @@ fn small_wrap(
     }
 }
 
-/// A value in place, after the instructions for it: those for packages inside packages, by register `spare`. An error
+/// A value in place, after the instructions for it: those for packages inside packages, by the spare register. An error
 /// is want of memory.
 pub fn emit_small(
-    alloc: Global,
+    emitter: &Emitter,
     code: &mut Vec<(Instr, Span)>,
-    vars: &[Entry],
     saved: &[(u64, u64)],
-    spare: u64,
     v: &AValue,
 ) -> Result<Value, OutOfMemory>
-    ensures value { IfOk result (λ r. value_tree r ≡ small spare (places vars.now saved.now) (a_value v.now)) }
+    ensures value { IfOk result (λ r. value_tree r
+        ≡ small emitter.now.spare (places emitter.now.vars.now saved.now) (a_value v.now)) }
     ensures code { OnOk result (Grows code.old.items code.new.items
-        (unnest spare (places vars.now saved.now) (a_value v.now))) }
+        (unnest emitter.now.spare (places emitter.now.vars.now saved.now) (a_value v.now))) }
 {
-    let mut made = small_base(alloc, vars, saved, v.base)?;
+    let mut made = small_base(emitter.alloc, emitter.vars, saved, v.base)?;
     for w in &v.wraps {
-        made = small_wrap(alloc, code, spare, made, w)?;
+        made = small_wrap(emitter.alloc, code, emitter.spare, made, w)?;
     }
     Ok(made)
 }
 
 /// A value in place, where no register was saved. An error is want of memory.
 pub fn emit_value(
-    alloc: Global,
+    emitter: &Emitter,
     code: &mut Vec<(Instr, Span)>,
-    vars: &[Entry],
-    spare: u64,
     v: &AValue,
 ) -> Result<Value, OutOfMemory>
-    ensures value { IfOk result (λ r. value_tree r ≡ small spare (homes vars.now) (a_value v.now)) }
-    ensures code { OnOk result (Grows code.old.items code.new.items (unnest spare (homes vars.now) (a_value v.now))) }
+    ensures value { IfOk result (λ r. value_tree r ≡ small_by emitter.now (a_value v.now)) }
+    ensures code { OnOk result (Grows code.old.items code.new.items (unnest_by emitter.now (a_value v.now))) }
 {
-    let saved = Vec::new(alloc);
-    let made = emit_small(alloc, code, vars, &saved, spare, v)?;
+    let saved = Vec::new(emitter.alloc);
+    let made = emit_small(emitter, code, &saved, v)?;
     Ok(made)
 }
 
-/// A value in a register, its own or `spare`: which. An error is want of memory.
+/// A value in a register, its own or the spare one: which. An error is want of memory.
 pub fn emit_settled(
-    alloc: Global,
+    emitter: &Emitter,
     code: &mut Vec<(Instr, Span)>,
-    vars: &[Entry],
-    spare: u64,
     v: &AValue,
 ) -> Result<u64, OutOfMemory>
-    ensures value { IfOk result (λ r. r ≡ home spare (small spare (homes vars.now) (a_value v.now))) }
-    ensures code { OnOk result (Grows code.old.items code.new.items (λ rest. unnest spare (homes vars.now)
-        (a_value v.now) (settle spare (small spare (homes vars.now) (a_value v.now)) rest))) }
+    ensures value { IfOk result (λ r. r ≡ home emitter.now.spare (small_by emitter.now (a_value v.now))) }
+    ensures code { OnOk result (Grows code.old.items code.new.items (λ rest. unnest_by emitter.now (a_value v.now)
+        (settle emitter.now.spare (small_by emitter.now (a_value v.now)) rest))) }
 {
-    let held = emit_value(alloc, code, vars, spare, v)?;
-    let r = emit_settle(code, spare, held)?;
+    let held = emit_value(emitter, code, v)?;
+    let r = emit_settle(code, emitter.spare, held)?;
     Ok(r)
 }
 
 /// A value in this register. An error is want of memory.
 pub fn emit_into(
-    alloc: Global,
+    emitter: &Emitter,
     code: &mut Vec<(Instr, Span)>,
-    vars: &[Entry],
-    spare: u64,
     r: u64,
     v: &AValue,
 ) -> Result<(), OutOfMemory>
-    ensures { OnOk result (Grows code.old.items code.new.items (λ rest. unnest spare (homes vars.now)
-        (a_value v.now) (move r (small spare (homes vars.now) (a_value v.now)) rest))) }
+    ensures { OnOk result (Grows code.old.items code.new.items (λ rest. unnest_by emitter.now (a_value v.now)
+        (move r (small_by emitter.now (a_value v.now)) rest))) }
 {
-    let held = emit_value(alloc, code, vars, spare, v)?;
+    let held = emit_value(emitter, code, v)?;
     emit_move(code, r, held)?;
     Ok(())
 }

@@ -1,7 +1,7 @@
 -- The bodies of a program, one after the other.
 use Rattle.std.proofs.Common.{◌≡◌, ℕ, zero, suc, ◌+◌, ◌<◌, ◌≤◌, ◌++◌, List, [], ◌∷◌, length, take, drop, get_or, refl}
 use Rattle.std.proofs.Common.{sym, ap, ap₂, ◌∙◌, subst, arith, length-append}
-use Rattle.std.proofs.lemmas.List.{drop_more}
+use Rattle.std.proofs.lemmas.List.{drop_more, drop_all}
 use Rattle.t_types.specs.Tree.{NoRegs, TFile}
 use Rattle.t_terms.specs.Tree.{TBlock}
 use Rattle.t_gen.specs.Filling.{Job, finish, reserves, jobs}
@@ -106,16 +106,10 @@ block_long prog at k o n e =
       term = a_tree k.body.items;
     }) e
 
-nil_drop : {T : Type 0} (xs : List T) (i : ℕ) → length xs ≤ i → drop i xs ≡ []
-nil_drop [] zero le = refl
-nil_drop [] (suc i) le = refl
-nil_drop (x ∷ xs) zero le = absurd (omega arith)
-nil_drop (x ∷ xs) (suc i) le = nil_drop xs i (omega arith)
-
 pub blocks_end : (prog : a.AProg) (ks : List ABlock) (i : ℕ) (o all : List TBlock) → length ks ≤ i →
     finish prog (length o) o (jobs (i + 1) (a_blocks (drop i ks))) ≡ all → o ≡ all
 blocks_end prog ks i o all le h =
-    ap (λ (xs : List ABlock). finish prog (length o) o (jobs (i + 1) (a_blocks xs))) (sym (nil_drop ks i le)) ∙ h
+    ap (λ (xs : List ABlock). finish prog (length o) o (jobs (i + 1) (a_blocks xs))) (sym (drop_all i ks le)) ∙ h
 
 pub rows_at : (ks : List ABlock) (i : ℕ) (k : ABlock) → i < length ks → k ≡ get_or ks i k → ARows ks →
     ARow k.body.items 1

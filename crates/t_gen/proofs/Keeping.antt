@@ -1,6 +1,7 @@
 -- What further variables leave as it is.
-use Rattle.std.proofs.Common.{◌≡◌, ℕ, zero, suc, ◌+◌, ◌≤◌, ◌++◌, List, [], ◌∷◌, length, take, drop, refl, sym, ap, ap₂}
+use Rattle.std.proofs.Common.{◌≡◌, ℕ, ◌+◌, ◌≤◌, ◌++◌, List, [], ◌∷◌, length, take, drop, refl, sym, ap, ap₂}
 use Rattle.std.proofs.Common.{◌∙◌, subst, arith}
+use Rattle.std.proofs.lemmas.List.{take-append-le, take_all, take-append-drop, length-take-le}
 use Rattle.t_terms.specs.Tree.{TSeq, TBlock}
 use Rattle.t_emit.specs.Code.{onto}
 use Rattle.t_gen.specs.Filling.{Job, finish, finish_from}
@@ -16,27 +17,6 @@ use Rattle.t_gen.specs.declared.state.Place.{Place}
 use Rattle.t_gen.specs.Keeps.{Keeps}
 use Rattle.t_gen.specs.Pending.{tops, jobs_at, pend, Fit, KeepsAll}
 
-pub take_front : {T : Type 0} (xs ys : List T) (v : ℕ) → v ≤ length xs → take v (xs ++ ys) ≡ take v xs
-take_front xs ys zero le = refl
-take_front [] ys (suc v) le = absurd (omega arith)
-take_front (x ∷ xs) ys (suc v) le = ap (λ zs. x ∷ zs) (take_front xs ys v (omega arith))
-
-pub whole : {T : Type 0} (xs : List T) (v : ℕ) → length xs ≤ v → take v xs ≡ xs
-whole [] zero le = refl
-whole [] (suc v) le = refl
-whole (x ∷ xs) zero le = absurd (omega arith)
-whole (x ∷ xs) (suc v) le = ap (λ zs. x ∷ zs) (whole xs v (omega arith))
-
-split : {T : Type 0} (xs : List T) (v : ℕ) → take v xs ++ drop v xs ≡ xs
-split xs zero = refl
-split [] (suc v) = refl
-split (x ∷ xs) (suc v) = ap (λ zs. x ∷ zs) (split xs v)
-
-length_take_le : {T : Type 0} (xs : List T) (v : ℕ) → v ≤ length xs → length (take v xs) ≡ v
-length_take_le xs zero le = refl
-length_take_le [] (suc v) le = absurd (omega arith)
-length_take_le (x ∷ xs) (suc v) le = ap suc (length_take_le xs v (omega arith))
-
 pub tops_push : (ps : List Place) (p : Place) → tops (ps ++ p ∷ []) ≡ p ∷ tops ps
 tops_push [] p = refl
 tops_push (q ∷ ps) p = ap (λ qs. qs ++ q ∷ []) (tops_push ps p)
@@ -51,7 +31,7 @@ jobs_keep b m es ys (p ∷ ps) ts f le =
       places = homes g;
       vars = scope p.names g;
       term = top no_term ts;
-    } ∷ js) (take_front es ys p.vars (omega (arith, f.1)))
+    } ∷ js) (take-append-le p.vars es ys (omega (arith, f.1)))
     (jobs_keep b p.vars es ys ps (others ts) f.3 (omega (arith, f.1)))
 
 pub fit_keep : (b c m n : ℕ) (es ys : List Entry) (ps : List Place) → Fit b es m ps → m ≤ length es → b ≤ c → m ≤ n →
@@ -60,7 +40,7 @@ fit_keep b c m n es ys [] f le bc mn = tt
 fit_keep b c m n es ys (p ∷ ps) f le bc mn = (
   omega (arith, f.0),
   omega (arith, f.1),
-  subst (Under p.names) (sym (take_front es ys p.vars (omega (arith, f.1)))) f.2,
+  subst (Under p.names) (sym (take-append-le p.vars es ys (omega (arith, f.1)))) f.2,
   fit_keep b c p.vars p.vars es ys ps f.3 (omega (arith, f.1)) bc (omega arith),
 )
 
@@ -69,7 +49,7 @@ fit_back b m es ys [] f le = tt
 fit_back b m es ys (p ∷ ps) f le = (
   f.0,
   f.1,
-  subst (Under p.names) (take_front es ys p.vars (omega (arith, f.1))) f.2,
+  subst (Under p.names) (take-append-le p.vars es ys (omega (arith, f.1))) f.2,
   fit_back b p.vars es ys ps f.3 (omega (arith, f.1)),
 )
 
@@ -83,25 +63,27 @@ fit_more b c m n es (p ∷ ps) f bc mn =
 pub fit_cut : (b : ℕ) (es kept : List Entry) (p : Place) (ps : List Place) → kept ≡ take p.vars es →
     Fit b es (length es) (p ∷ ps) → Fit b kept (length kept) (p ∷ ps)
 fit_cut b es kept p ps cut f =
-    let n : length kept ≡ p.vars = ap length cut ∙ length_take_le es p.vars f.1 in
-    let same : es ≡ kept ++ drop p.vars es = sym (split es p.vars) ∙ ap (λ xs. xs ++ drop p.vars es) (sym cut) in
+    let n : length kept ≡ p.vars = ap length cut ∙ length-take-le p.vars es f.1 in
+    let same : es ≡ kept ++ drop p.vars es = sym (take-append-drop p.vars es) ∙ ap (λ xs.
+    xs ++ drop p.vars es) (sym cut) in
     let g : Fit b (kept ++ drop p.vars es) p.vars ps = subst (λ xs. Fit b xs p.vars ps) same f.3 in (
       f.0,
       omega (arith, n),
-      subst (Under p.names) (sym cut ∙ sym (whole kept p.vars (omega (arith, n)))) f.2,
+      subst (Under p.names) (sym cut ∙ sym (take_all p.vars kept (omega (arith, n)))) f.2,
       fit_back b p.vars kept (drop p.vars es) ps g (omega (arith, n)),
     )
 
 pub count_cut : (b : ℕ) (es kept : List Entry) (p : Place) (ps : List Place) → kept ≡ take p.vars es →
     Fit b es (length es) (p ∷ ps) → p.vars ≡ length kept
-count_cut b es kept p ps cut f = sym (ap length cut ∙ length_take_le es p.vars f.1)
+count_cut b es kept p ps cut f = sym (ap length cut ∙ length-take-le p.vars es f.1)
 
 pub pend_cut : (prog : a.AProg) (b : ℕ) (es kept : List Entry) (out : List TBlock) (pre : TSeq → TSeq) (p : Place)
     (ps : List Place) (ts : List a.ATm) → kept ≡ take p.vars es → Fit b es (length es) (p ∷ ps) →
     pend prog kept out pre (p ∷ ps) ts ≡ pend prog es out pre (p ∷ ps) ts
 pend_cut prog b es kept out pre p ps ts cut f =
-    let n : length kept ≡ p.vars = ap length cut ∙ length_take_le es p.vars f.1 in
-    let same : es ≡ kept ++ drop p.vars es = sym (split es p.vars) ∙ ap (λ xs. xs ++ drop p.vars es) (sym cut) in
+    let n : length kept ≡ p.vars = ap length cut ∙ length-take-le p.vars es f.1 in
+    let same : es ≡ kept ++ drop p.vars es = sym (take-append-drop p.vars es) ∙ ap (λ xs.
+    xs ++ drop p.vars es) (sym cut) in
     let g = fit_cut b es kept p ps cut f in
     let js : jobs_at kept ps (others ts) ≡ jobs_at es ps (others ts) =
     sym (ap (λ xs. jobs_at xs ps (others ts)) same
@@ -113,7 +95,7 @@ pend_cut prog b es kept out pre p ps ts cut f =
       places = homes vs;
       vars = scope p.names vs;
       term = top no_term ts;
-    }) ks) (whole kept p.vars (omega (arith, n)) ∙ cut) js
+    }) ks) (take_all p.vars kept (omega (arith, n)) ∙ cut) js
 
 -- the registers of the variables that are used
 pub keeps_keep : (b m : ℕ) (es ys : List Entry) (ps : List Place) (ts : List a.ATm) → Fit b es m ps → m ≤ length es →
@@ -121,7 +103,7 @@ pub keeps_keep : (b m : ℕ) (es ys : List Entry) (ps : List Place) (ts : List a
 keeps_keep b m es ys [] ts f le k = tt
 keeps_keep b m es ys (p ∷ ps) ts f le k = (
   subst (λ xs. Keeps p.registers (homes xs) (used (top no_term ts)))
-      (sym (take_front es ys p.vars (omega (arith, f.1)))) k.0,
+      (sym (take-append-le p.vars es ys (omega (arith, f.1)))) k.0,
   keeps_keep b p.vars es ys ps (others ts) f.3 (omega (arith, f.1)) k.1,
 )
 
@@ -129,7 +111,7 @@ keeps_back : (b m : ℕ) (es ys : List Entry) (ps : List Place) (ts : List a.ATm
     KeepsAll (es ++ ys) ps ts → KeepsAll es ps ts
 keeps_back b m es ys [] ts f le k = tt
 keeps_back b m es ys (p ∷ ps) ts f le k = (
-  subst (λ xs. Keeps p.registers (homes xs) (used (top no_term ts))) (take_front es ys p.vars (omega (arith, f.1)))
+  subst (λ xs. Keeps p.registers (homes xs) (used (top no_term ts))) (take-append-le p.vars es ys (omega (arith, f.1)))
       k.0,
   keeps_back b p.vars es ys ps (others ts) f.3 (omega (arith, f.1)) k.1,
 )
@@ -137,11 +119,12 @@ keeps_back b m es ys (p ∷ ps) ts f le k = (
 pub keeps_cut : (b : ℕ) (es kept : List Entry) (p : Place) (ps : List Place) (ts : List a.ATm) →
     kept ≡ take p.vars es → Fit b es (length es) (p ∷ ps) → KeepsAll es (p ∷ ps) ts → KeepsAll kept (p ∷ ps) ts
 keeps_cut b es kept p ps ts cut f k =
-    let n : length kept ≡ p.vars = ap length cut ∙ length_take_le es p.vars f.1 in
-    let same : es ≡ kept ++ drop p.vars es = sym (split es p.vars) ∙ ap (λ xs. xs ++ drop p.vars es) (sym cut) in
+    let n : length kept ≡ p.vars = ap length cut ∙ length-take-le p.vars es f.1 in
+    let same : es ≡ kept ++ drop p.vars es = sym (take-append-drop p.vars es) ∙ ap (λ xs.
+    xs ++ drop p.vars es) (sym cut) in
     let g = fit_cut b es kept p ps cut f in (
       subst (λ xs. Keeps p.registers (homes xs) (used (top no_term ts)))
-          (sym cut ∙ sym (whole kept p.vars (omega (arith, n)))) k.0,
+          (sym cut ∙ sym (take_all p.vars kept (omega (arith, n)))) k.0,
       keeps_back b p.vars kept (drop p.vars es) ps (others ts) g.3 (omega (arith, n))
           (subst (λ xs. KeepsAll xs ps (others ts)) same k.1),
     )

@@ -1,6 +1,7 @@
 -- What one node does.
 use Rattle.std.proofs.Common.{◌≡◌, ℕ, suc, ◌+◌, ◌-◌, ◌≤◌, ◌++◌, List, [], ◌∷◌, length, take, true, refl, sym, ap, ap₂}
 use Rattle.std.proofs.Common.{◌∙◌, subst, arith, length-append}
+use Rattle.std.proofs.lemmas.List.{take_all}
 use Rattle.idx_core.specs.declared.span.Span.{Span}
 use Rattle.t_terms.specs.Tree.{TSeq, TBlock}
 use Rattle.t_terms.specs.Read.{blocks_of}
@@ -28,7 +29,7 @@ use Rattle.t_gen.specs.declared.told.Ahead.{Ahead}
 use Rattle.t_gen.specs.declared.state.Place.{Place}
 use Rattle.t_gen.specs.Pending.{tops, job, jobs_at, pend, Fit, KeepsAll, Stepped}
 use Rattle.t_gen.specs.Keeps.{Keeps}
-use Rattle.t_gen.proofs.Keeping.{whole, tops_push, jobs_keep, fit_keep, keeps_keep, fit_more, from_same, pend_finish}
+use Rattle.t_gen.proofs.Keeping.{tops_push, jobs_keep, fit_keep, keeps_keep, fit_more, from_same, pend_finish}
 use Rattle.t_gen.proofs.Keeping.{under_push}
 use Rattle.a_terms.proofs.Weighed.{length_values}
 
@@ -57,10 +58,10 @@ module _ (prog : a.AProg) (p q : Place) (x : a.ADecl) (ts : List a.ATm) (es fs :
   out = blocks_of o
 
   whole_es : take p.vars es ≡ es
-  whole_es = whole es p.vars (omega (arith, count))
+  whole_es = take_all p.vars es (omega (arith, count))
 
   whole_fs : take q.vars fs ≡ fs
-  whole_fs = whole fs q.vars (omega (arith, all))
+  whole_fs = take_all q.vars fs (omega (arith, all))
 
   is_tops : tops qs ≡ q ∷ tops ps
   is_tops = ap tops pushed ∙ tops_push ps q
@@ -158,7 +159,7 @@ pub end_stepped : (prog : a.AProg) (p : Place) (t : a.ATm) (ts : List a.ATm) (es
 end_stepped prog p t ts es ps o n c d count none filled f step keeps =
     let out = blocks_of o in
     let at = length out in
-    let whole_es : take p.vars es ≡ es = whole es p.vars (omega (arith, count)) in
+    let whole_es : take p.vars es ≡ es = take_all p.vars es (omega (arith, count)) in
     let g = scope p.names es in
     let m = homes es in
     let long : length (blocks_of n) ≡ at = ap length filled ∙ fill_length p.block (onto c (code p.names m at t)) out in
@@ -207,7 +208,7 @@ module _ (prog : a.AProg) (p q s : Place) (v : a.AVal) (ts : List a.ATm) (es : L
       (reserved p.names (header (used (top no_term (others ts))) (homes es) (scope p.names es)) ∷ []) ∙ omega arith
 
   whole_at : (w : ℕ) → w ≡ p.vars → take w es ≡ es
-  whole_at w e = whole es w (omega (arith, count, e))
+  whole_at w e = take_all w es (omega (arith, count, e))
 
   is_job : (k : Place) (b : ℕ) (t : a.ATm) → k.block ≡ b → k.names ≡ p.names → k.vars ≡ p.vars →
       job es k t ≡ record { block = b; names = p.names; places = homes es; vars = scope p.names es; term = t }
@@ -285,7 +286,7 @@ module _ (prog : a.AProg) (p q s : Place) (v : a.AVal) (ts : List a.ATm) (es : L
 pub keeps_first : (p : Place) (ps : List Place) (es : List Entry) (t : a.ATm) (ts : List a.ATm) → p.vars ≡ length es →
     KeepsAll es (p ∷ ps) (t ∷ ts) → Keeps p.registers (homes es) (used t)
 keeps_first p ps es t ts count k =
-    subst (λ (xs : List Entry). Keeps p.registers (homes xs) (used t)) (whole es p.vars (omega (arith, count))) k.0
+    subst (λ (xs : List Entry). Keeps p.registers (homes xs) (used t)) (take_all p.vars es (omega (arith, count))) k.0
 
 -- the arguments of a call are all values but the first
 pub length_arguments : (vs : List AValue) → length (others (a_values vs)) ≡ length vs - 1

@@ -2,7 +2,7 @@
 use Rattle.std.proofs.Common.{◌≡◌, ℕ, suc, ◌+◌, ◌<◌, ◌++◌, List, [], ◌∷◌, length, take, drop, get_or, sym, ap}
 use Rattle.std.proofs.Common.{ap₂, ◌∙◌, subst, arith, length-append}
 use Rattle.std.specs.Prelude.{Bool}
-use Rattle.std.proofs.lemmas.List.{drop_more, nil_from_length as nil_from}
+use Rattle.std.proofs.lemmas.List.{drop_more, nil_from_length as nil_from, take_all}
 use Rattle.idx_core.specs.declared.span.Span.{Span}
 use Rattle.t_terms.specs.Tree.{TBlock}
 use Rattle.t_terms.specs.Read.{blocks_of}
@@ -22,7 +22,7 @@ use Rattle.t_gen.specs.declared.state.Place.{Place}
 use Rattle.t_gen.specs.Pending.{tops, body_job, pend, Fit, KeepsAll, Stepped}
 use Rattle.t_gen.specs.Keeps.{Keeps}
 use Rattle.t_gen_rules.specs.Gen.{used}
-use Rattle.t_gen.proofs.Keeping.{whole, tops_push, fit_cut, count_cut, keeps_cut, pend_cut}
+use Rattle.t_gen.proofs.Keeping.{tops_push, fit_cut, count_cut, keeps_cut, pend_cut}
 
 -- what the loop keeps: with what is left of the nodes, the whole comes out
 pub record Walked (prog : a.AProg) (rest : List ANode) (es : List Entry) (ps : List Place) (o : List Block)
@@ -39,7 +39,7 @@ pub walk_begins : (prog : a.AProg) (nodes : List ANode) (es : List Entry) (p : P
     (finish prog (length (blocks_of o)) (blocks_of o)
     (body_job p.block p.names (homes es) (scope p.names es) nodes ∷ []))
 walk_begins prog nodes es p ps o c row under none is count lt keeps =
-    let all : take p.vars es ≡ es = whole es p.vars (omega (arith, count)) in
+    let all : take p.vars es ≡ es = take_all p.vars es (omega (arith, count)) in
     record {
       row = subst (λ n. ARow nodes n) (sym (ap length is)) row;
       fit = subst (λ xs. Fit (length (blocks_of o)) es (length es) (tops xs)) (sym is)
@@ -91,7 +91,7 @@ module _ (prog : a.AProg) (before rest : List ANode) (node : ANode) (es kept : L
   walk_held =
       let u = used (top no_term (a_build node.form (a_values node.values.items) (a_onto rest []))) in (
         u,
-        subst (λ (xs : List Entry). Keeps p.registers (homes xs) u) (whole kept p.vars (omega (arith, walk_count)))
+        subst (λ (xs : List Entry). Keeps p.registers (homes xs) u) (take_all p.vars kept (omega (arith, walk_count)))
             walk_keeps.0,
       )
 

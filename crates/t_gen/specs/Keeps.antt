@@ -26,9 +26,5 @@ is_one (Some i) n = i == n
 
 -- whether a declaration stores variable n in a tuple
 abbrev pub stores : a.ADecl → ℕ → Bool
-stores (a.Value v) n = false
-stores (a.Proj i v) n = false
-stores (a.Arith o v w) n = false
-stores (a.Unpack v) n = false
-stores (a.Malloc ts) n = false
 stores (a.Init v i w) n = uses w n
+stores _ n = false

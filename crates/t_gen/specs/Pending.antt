@@ -18,6 +18,7 @@ use Rattle.t_gen.specs.Uses.{Listed, mem}
 use Rattle.t_gen.specs.declared.told.Ahead.{Ahead}
 use Rattle.t_gen_rules.specs.Gen.{used, uses}
 use Rattle.t_gen.specs.Keeps.{Keeps}
+use Rattle.t_gen.specs.declared.body.Start.{Start}
 use Rattle.t_gen.specs.declared.state.Place.{Place}
 
 -- the newest first
@@ -28,6 +29,10 @@ tops (p ∷ ps) = tops ps ++ p ∷ []
 -- the body of a block
 abbrev pub body_job : ℕ → ℕ → List ℕ → List a.ATy → List ANode → Job
 body_job n k m g ns = record { block = n; names = k; places = m; vars = g; term = a_tree ns }
+
+-- the same where it starts
+abbrev pub start_job : Start → List ANode → Job
+start_job s ns = body_job s.block s.names (homes s.vars.items) (scope s.names s.vars.items) ns
 
 -- a term at a place
 abbrev pub job : List Entry → Place → a.ATm → Job

@@ -9,10 +9,10 @@ ghost use Rattle.a_terms.specs.Arity.{ARow};
 ghost use Rattle.a_scope.specs.Scope.{scope, homes, Under};
 ghost use Rattle.a_terms.specs.Tree.{arity};
 ghost use Rattle.t_gen_rules.specs.Gen.{rows};
-ghost use Rattle.t_gen.specs.Pending.{body_job};
+ghost use Rattle.t_gen.specs.Pending.{start_job};
 
 use crate::choosing::registers_of;
-use crate::state::{Place, Walk};
+use crate::state::{Place, Turn, Walk};
 use crate::step::step;
 use crate::{Aheads, look_ahead};
 use a_scope::{Entry, noted_lent, placed};
@@ -21,24 +21,31 @@ use idx_core::OutOfMemory;
 use std::alloc::Global;
 use t_terms::Block;
 
+/// Where a body begins: its block, how many type names are in scope, and its variables.
+#[derive(Drop)]
+pub struct Start<'a> {
+    pub block: usize,
+    pub names: u64,
+    pub vars: Vec<Entry<'a>>,
+}
+
 /// The blocks of one body: its own, which is reserved, and those of its third parts at the end.
 pub fn emit_body<'a>(
     alloc: Global,
     program: &AProgram,
     out: &mut Vec<Block>,
-    block: usize,
-    names: u64,
-    vars: Vec<Entry<'a>>,
+    start: Start<'a>,
     nodes: &'a [ANode],
 ) -> Result<(), OutOfMemory>
     requires one { ARow nodes.now 1 }
-    requires under { Under names vars.items }
-    requires homes { homes vars.items ≡ rows (length vars.items) }
-    requires block { block < length out.old.items }
+    requires under { Under start.names start.vars.items }
+    requires homes { homes start.vars.items ≡ rows (length start.vars.items) }
+    requires block { start.block < length out.old.items }
     ensures { OnOk result (blocks_of out.new.items ≡ finish (program_in program.now)
         (length (blocks_of out.old.items)) (blocks_of out.old.items)
-        (body_job block names (homes vars.entry.items) (scope names vars.entry.items) nodes.now ∷ [])) }
+        (start_job start.entry nodes.now ∷ [])) }
 {
+    let Start { block, names, vars } = start;
     let count = vars.len();
     let Aheads {
         each: mut aheads,
@@ -46,6 +53,7 @@ pub fn emit_body<'a>(
     } = look_ahead(alloc, nodes)?;
     let registers = registers_of(alloc, &vars, &first)?;
     let mut walk = Walk {
+        alloc,
         code: Vec::new(alloc),
         vars,
         places: Vec::new(alloc),
@@ -64,7 +72,11 @@ pub fn emit_body<'a>(
             unreachable!()
         };
         walk.vars.truncate(place.vars);
-        step(alloc, program, out, &mut walk, place, node, &ahead)?;
+        let turn = Turn {
+            place,
+            ahead: &ahead,
+        };
+        step(program, out, &mut walk, turn, node)?;
     }
     Ok(())
 }

@@ -9,7 +9,7 @@ ghost use Rattle.t_gen_rules.specs.Gen.{generated_blocks};
 ghost use Rattle.t_emit.specs.Code.{reserved};
 ghost use Rattle.t_gen.specs.Filling.{finish, reserves, jobs};
 
-use crate::body::{arguments, emit_body};
+use crate::body::{Start, arguments, emit_body};
 use a_terms::{ABlock, ANode, AProgram};
 use idx_core::OutOfMemory;
 use std::alloc::Global;
@@ -45,7 +45,12 @@ fn emit_block(
         (jobs at (a_blocks (block.now ∷ [])))) }
 {
     let vars = arguments(alloc, block.owes, &block.args)?;
-    emit_body(alloc, program, out, at, block.owes, vars, &block.body)?;
+    let start = Start {
+        block: at,
+        names: block.owes,
+        vars,
+    };
+    emit_body(alloc, program, out, start, &block.body)?;
     Ok(())
 }
 
@@ -62,7 +67,12 @@ pub fn all_blocks(
     ensures { IfOk result (λ r. blocks_of r.items ≡ generated_blocks (program_in program.now) (a_tree main.now)) }
 {
     let mut out = reserve_all(alloc, blocks)?;
-    emit_body(alloc, program, &mut out, 0, 0, Vec::new(alloc), main)?;
+    let start = Start {
+        block: 0,
+        names: 0,
+        vars: Vec::new(alloc),
+    };
+    emit_body(alloc, program, &mut out, start, main)?;
     for i in 0..blocks.len() {
         emit_block(alloc, program, &mut out, i + 1, &blocks[i])?;
     }

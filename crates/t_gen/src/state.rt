@@ -6,6 +6,7 @@ ghost use Rattle.t_emit.specs.Code.{onto};
 ghost use Rattle.t_emit.specs.Code.{fill};
 ghost use Rattle.a_terms.specs.NodeTrees.{is_decl};
 
+use crate::Ahead;
 use crate::registers::Registers;
 use a_scope::Entry;
 use a_terms::AForm;
@@ -25,10 +26,18 @@ pub struct Place {
     pub registers: Registers,
 }
 
+/// The term that comes next: where it stands, and what is told of it.
+#[derive(Drop)]
+pub struct Turn<'t> {
+    pub place: Place,
+    pub ahead: &'t Ahead,
+}
+
 /// A walk over the nodes of a body: the code so far of the block that is open, the variables that are in scope, and
 /// where the terms that are still to come stand, the next one last.
 #[derive(Drop)]
 pub struct Walk<'a> {
+    pub alloc: Global,
     pub code: Vec<(Instr, Span)>,
     pub vars: Vec<Entry<'a>>,
     pub places: Vec<Place>,

@@ -15,41 +15,40 @@ ghost use Rattle.t_gen.specs.Pending.{tops, Fit, KeepsAll, Parting, Ready, Stepp
 
 use crate::Ahead;
 use crate::choosing::{above, choose, registers_of, release_all};
-use crate::state::{Place, Walk, close_block, declares};
-use a_scope::{declare, first};
+use crate::state::{Place, Turn, Walk, close_block, declares};
+use a_scope::{Declaration, declare, first};
 use a_terms::{AForm, ANode, AProgram, AType, AValue};
 use idx_core::OutOfMemory;
-use std::alloc::Global;
 use t_emit::calls::emit_call;
 use t_emit::decls::emit_declaration;
-use t_emit::headers::emit_if0;
+use t_emit::headers::{Third, emit_if0};
 use t_emit::values::emit_into;
+use t_emit::{Emitter, Target};
 use t_terms::{Block, End};
 
 // A declaration.
 fn step_let<'a>(
-    alloc: Global,
     program: &AProgram,
     walk: &mut Walk<'a>,
-    place: Place,
+    turn: Turn,
     form: &'a AForm,
     values: &'a [AValue],
-    ahead: &Ahead,
 ) -> Result<(), OutOfMemory>
     requires form { is_decl form.now ≡ true }
     requires arity { AArity form.now (a_values values.now) }
-    requires vars { place.vars ≡ length walk.old.vars.items }
+    requires vars { turn.place.vars ≡ length walk.old.vars.items }
     requires fit { (b : ℕ) × Fit b walk.old.vars.items (length walk.old.vars.items)
-        (place ∷ tops walk.old.places.items) }
-    requires held { (u : ℕ → Bool) × Keeps place.registers (homes walk.old.vars.items) u }
+        (turn.place ∷ tops walk.old.places.items) }
+    requires held { (u : ℕ → Bool) × Keeps turn.place.registers (homes walk.old.vars.items) u }
     ensures { OnOk result ((o : List TheBlock) (ts : List ATm)
-        → Ending (a_decl form.now (a_values values.now)) (top no_term ts) ahead.now
-        → Ready o walk.old.vars.items place walk.old.places.items
-        → KeepsAll walk.old.vars.items (place ∷ tops walk.old.places.items)
-        (a_let (a_decl form.now (a_values values.now)) ts) → Stepped (program_in program.now) place ts
+        → Ending (a_decl form.now (a_values values.now)) (top no_term ts) turn.entry.ahead.now
+        → Ready o walk.old.vars.items turn.entry.place walk.old.places.items
+        → KeepsAll walk.old.vars.items (turn.entry.place ∷ tops walk.old.places.items)
+        (a_let (a_decl form.now (a_values values.now)) ts) → Stepped (program_in program.now) turn.entry.place ts
         (a_let (a_decl form.now (a_values values.now))) 1 walk.old.vars.items walk.new.vars.items
         walk.old.places.items walk.new.places.items o o walk.old.code.items walk.new.code.items) }
 {
+    let Turn { place, ahead } = turn;
     let Place {
         block,
         names,
@@ -58,8 +57,20 @@ fn step_let<'a>(
     } = place;
     let spare = above(&registers, 0)?;
     let rd = choose(&mut registers, &walk.vars, form, values, ahead)?;
-    emit_declaration(alloc, &mut walk.code, &walk.vars, spare, rd, form, values)?;
-    let names = declare(alloc, program, &mut walk.vars, names, rd, form, values)?;
+    let emitter = Emitter {
+        alloc: walk.alloc,
+        vars: &walk.vars,
+        spare,
+    };
+    let target = Target { emitter, rd };
+    emit_declaration(&target, &mut walk.code, form, values)?;
+    let decl = Declaration {
+        names,
+        form,
+        values,
+        register: rd,
+    };
+    let names = declare(walk.alloc, program, &mut walk.vars, &decl)?;
     let vars = walk.vars.len();
     walk.places.push(Place {
         block,
@@ -72,7 +83,6 @@ fn step_let<'a>(
 
 // A call.
 fn step_call(
-    alloc: Global,
     out: &mut Vec<Block>,
     walk: &mut Walk,
     place: Place,
@@ -93,14 +103,18 @@ fn step_call(
 {
     let arguments = values.len() as u64 - 1;
     let above = above(&place.registers, arguments)?;
-    let end = emit_call(alloc, &mut walk.code, &walk.vars, above, values, types)?;
-    close_block(alloc, out, &mut walk.code, place.block, end);
+    let emitter = Emitter {
+        alloc: walk.alloc,
+        vars: &walk.vars,
+        spare: above,
+    };
+    let end = emit_call(&emitter, &mut walk.code, values, types)?;
+    close_block(walk.alloc, out, &mut walk.code, place.block, end);
     Ok(())
 }
 
 // The end of the program.
 fn step_halt(
-    alloc: Global,
     out: &mut Vec<Block>,
     walk: &mut Walk,
     place: Place,
@@ -118,14 +132,18 @@ fn step_halt(
         out.old.items out.new.items walk.old.code.items walk.new.code.items) }
 {
     let spare = above(&place.registers, 0)?;
-    emit_into(alloc, &mut walk.code, &walk.vars, spare, 1, first(values))?;
-    close_block(alloc, out, &mut walk.code, place.block, End::Halt);
+    let emitter = Emitter {
+        alloc: walk.alloc,
+        vars: &walk.vars,
+        spare,
+    };
+    emit_into(&emitter, &mut walk.code, 1, first(values))?;
+    close_block(walk.alloc, out, &mut walk.code, place.block, End::Halt);
     Ok(())
 }
 
 // A branch: the third part waits below the second.
 fn step_if(
-    alloc: Global,
     out: &mut Vec<Block>,
     walk: &mut Walk,
     place: Place,
@@ -156,18 +174,18 @@ fn step_if(
         block: out.len(),
         names,
         vars,
-        registers: registers_of(alloc, &walk.vars, &ahead.third)?,
+        registers: registers_of(walk.alloc, &walk.vars, &ahead.third)?,
     };
-    emit_if0(
-        alloc,
-        out,
-        &mut walk.code,
-        &walk.vars,
+    let emitter = Emitter {
+        alloc: walk.alloc,
+        vars: &walk.vars,
         spare,
+    };
+    let branch = Third {
         names,
-        &ahead.third,
-        first(values),
-    )?;
+        used: &ahead.third,
+    };
+    emit_if0(&emitter, out, &mut walk.code, &branch, first(values))?;
     release_all(&mut registers, &walk.vars, &ahead.gone, None)?;
     let second = Place {
         block,
@@ -182,42 +200,42 @@ fn step_if(
 
 /// One node, at a place.
 pub fn step<'a>(
-    alloc: Global,
     program: &AProgram,
     out: &mut Vec<Block>,
     walk: &mut Walk<'a>,
-    place: Place,
+    turn: Turn,
     node: &'a ANode,
-    ahead: &Ahead,
 ) -> Result<(), OutOfMemory>
     requires arity { AArity node.now.form (a_values node.now.values.items) }
-    requires vars { place.vars ≡ length walk.old.vars.items }
-    requires fit { Ready out.old.items walk.old.vars.items place walk.old.places.items }
-    requires held { (u : ℕ → Bool) × Keeps place.registers (homes walk.old.vars.items) u }
-    ensures { OnOk result ((ts : List ATm) → Tells node.now.form (a_values node.now.values.items) ts ahead.now
-        → KeepsAll walk.old.vars.items (place ∷ tops walk.old.places.items)
+    requires vars { turn.place.vars ≡ length walk.old.vars.items }
+    requires fit { Ready out.old.items walk.old.vars.items turn.place walk.old.places.items }
+    requires held { (u : ℕ → Bool) × Keeps turn.place.registers (homes walk.old.vars.items) u }
+    ensures { OnOk result ((ts : List ATm)
+        → Tells node.now.form (a_values node.now.values.items) ts turn.entry.ahead.now
+        → KeepsAll walk.old.vars.items (turn.entry.place ∷ tops walk.old.places.items)
         (a_build node.now.form (a_values node.now.values.items) ts)
-        → Stepped (program_in program.now) place ts
+        → Stepped (program_in program.now) turn.entry.place ts
         (a_build node.now.form (a_values node.now.values.items)) (a_kids node.now.form)
         walk.old.vars.items walk.new.vars.items walk.old.places.items walk.new.places.items
         out.old.items out.new.items walk.old.code.items walk.new.code.items) }
 {
     let values = node.values.as_slice();
     if declares(&node.form) {
-        step_let(alloc, program, walk, place, &node.form, values, ahead)?;
+        step_let(program, walk, turn, &node.form, values)?;
         return Ok(());
     }
+    let Turn { place, ahead } = turn;
     match &node.form {
         AForm::Call(types) => {
-            step_call(alloc, out, walk, place, types, values)?;
+            step_call(out, walk, place, types, values)?;
             Ok(())
         }
         AForm::Halt => {
-            step_halt(alloc, out, walk, place, values)?;
+            step_halt(out, walk, place, values)?;
             Ok(())
         }
         AForm::If0 => {
-            step_if(alloc, out, walk, place, values, ahead)?;
+            step_if(out, walk, place, values, ahead)?;
             Ok(())
         }
         _ => unreachable!(),

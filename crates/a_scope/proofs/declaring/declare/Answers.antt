@@ -1,20 +1,20 @@
 use Rattle.std.proofs.Common.{◌∙◌, ap, arith}
 use Rattle.a_terms.specs.Typing.{more_vars}
-use Rattle.a_terms.specs.NodeTrees.{a_values, a_decl}
 use Rattle.a_terms.specs.Program.{program_in}
-use Rattle.a_scope.specs.Scope.{scope, decl_ty}
+use Rattle.a_scope.specs.Scope.{scope, decl_tree, decl_ty}
 use Rattle.a_scope.proofs.Scopes.{declared_is}
 use Rattle.a_scope.proofs.declaring.declare.Goals as goal
 
 pub returns-clause-scope : goal.returns-clause-scope
 returns-clause-scope c =
-    let x = a_decl c.args.form.now (a_values c.args.values.now) in
+    let x = decl_tree c.args.decl.now in
+    let k = c.args.decl.now.names in
     let p = program_in c.args.program.now in
     let es = c.args.vars.now.items in
     let e = c.placed-entry.result in
-    declared_is p x c.args.names es _ e c.in_ok-push.ensures.items c.requires.under (
-    c.placed-entry.ensures.shown (more_vars x c.args.names) ∙ c.in_ok-made.ensures.0
-    ∙ ap (λ us. decl_ty p (scope c.args.names us) x) c.deref.ensures.value
+    declared_is p x k es _ e c.in_ok-push.ensures.items c.requires.under (
+    c.placed-entry.ensures.shown (more_vars x k) ∙ c.in_ok-made.ensures.0
+    ∙ ap (λ us. decl_ty p (scope k us) x) c.deref.ensures.value
     )
 
 pub returns-clause-more : goal.returns-clause-more

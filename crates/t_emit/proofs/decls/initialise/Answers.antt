@@ -9,10 +9,10 @@ use Rattle.t_emit.proofs.decls.initialise.Goals as goal
 
 pub returns : goal.returns
 returns c = λ rest.
-    let m = homes c.args.vars.now in
+    let m = homes c.args.target.now.emitter.vars.now in
     let v = a_value c.args.v.now in
     let w = a_value c.args.w.now in
-    let r = c.args.rd in
+    let r = c.args.target.now.rd in
     let i = c.args.i in
     let t = c.in_ok-next.next in
     let less : c.saturating_sub-field.result ≡ i - 1 = omega (arith, c.saturating_sub-field.ensures) in

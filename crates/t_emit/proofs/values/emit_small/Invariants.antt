@@ -9,9 +9,11 @@ use Rattle.t_emit.proofs.values.emit_small.Given as goal
 abbrev pub invariant-loop-w : goal.invariant-loop-w
 invariant-loop-w l = record {
   made : value l.made
-      ≡ small l.spare (places l.vars l.saved) (wrapped (base l.v.base) (take l.w-index l.v.wraps.items));
+      ≡ small l.emitter.spare (places l.emitter.vars.now l.saved)
+      (wrapped (base l.v.base) (take l.w-index l.v.wraps.items));
   code : (rest : TSeq) →
       onto l.code.items rest
       ≡ onto l.fn.code.items
-      (unnest l.spare (places l.vars l.saved) (wrapped (base l.v.base) (take l.w-index l.v.wraps.items)) rest);
+      (unnest l.emitter.spare (places l.emitter.vars.now l.saved)
+      (wrapped (base l.v.base) (take l.w-index l.v.wraps.items)) rest);
 }

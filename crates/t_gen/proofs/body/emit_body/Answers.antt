@@ -16,11 +16,12 @@ use Rattle.t_gen.proofs.body.emit_body.Goals as goal
 
 pub loop-node-init : goal.loop-node-init
 loop-node-init c =
-    let es = c.args.vars.items in
+    let s = c.args.start in
+    let es = s.vars.items in
     let ns = c.args.nodes.now in
     let u = used (a_tree ns) in
     let rs = c.in_ok-registers.registers in
-    let p : Place = record { block = c.args.block; names = c.args.names; vars = c.len-count.result; registers = rs } in
+    let p : Place = record { block = s.block; names = s.names; vars = c.len-count.result; registers = rs } in
     let own : Own (homes es) u = subst (λ m. Own m u) (sym c.requires.homes) (rows_own (length es) u) in
     let some = subst (λ (xs : List ℕ). Holds rs (among each (homes es) xs)) c.deref-2.ensures.value
     (subst (λ (xs : List Entry). Holds rs (among each (homes xs) c.deref-2.result.now)) c.deref.ensures.value

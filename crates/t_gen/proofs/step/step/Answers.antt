@@ -52,13 +52,13 @@ returns-then-declares c = λ ts told k.
     let is = sym c.declares.ensures ∙ c.if-declares.true in
     let b = build_decl f (a_values c.args.node.now.values.items) is in
     let same = c.as_slice-values.ensures.value in
-    let w = c.args.ahead.now in
+    let w = c.args.turn.ahead.now in
     let t = told_ending f (a_values c.args.node.now.values.items) ts w is told in
     let t2 = subst (λ xs. Ending (a_decl f (a_values xs)) (top no_term ts) w) (sym same) t in
     let e = b.0 ∙ ap (λ xs. a_let (a_decl f (a_values xs))) (sym same) in
     stepped_as e b.1
     (c.in_ok-step_let.ensures c.args.out.now.items ts t2 c.requires.fit
-    (keeps_as c.args.walk.now.vars.items c.args.place c.args.walk.now.places.items ts e k))
+    (keeps_as c.args.walk.now.vars.items c.args.turn.place c.args.walk.now.places.items ts e k))
 
 pub returns-in_ok-step_call-in-Call : goal.returns-in_ok-step_call-in-Call
 returns-in_ok-step_call-in-Call c = λ rest told k.
@@ -67,7 +67,7 @@ returns-in_ok-step_call-in-Call c = λ rest told k.
     (sym c.as_slice-values.ensures.value) (sym c.deref.ensures.value) in
     stepped_as e (ap a_kids c.in-Call.is)
     (c.in_ok-step_call-in-Call.ensures (program_in c.args.program.now) rest c.requires.fit
-    (keeps_as c.args.walk.now.vars.items c.args.place c.args.walk.now.places.items rest e k))
+    (keeps_as c.args.walk.now.vars.items c.args.turn.place c.args.walk.now.places.items rest e k))
 
 pub returns-in_ok-step_halt-in-Halt : goal.returns-in_ok-step_halt-in-Halt
 returns-in_ok-step_halt-in-Halt c = λ rest told k.
@@ -75,11 +75,11 @@ returns-in_ok-step_halt-in-Halt c = λ rest told k.
     ∙ ap (λ xs ts. a.Halt (top no_value (a_values xs)) ∷ ts) (sym c.as_slice-values.ensures.value) in
     stepped_as e (ap a_kids c.in-Halt.is)
     (c.in_ok-step_halt-in-Halt.ensures (program_in c.args.program.now) rest c.requires.fit
-    (keeps_as c.args.walk.now.vars.items c.args.place c.args.walk.now.places.items rest e k))
+    (keeps_as c.args.walk.now.vars.items c.args.turn.place c.args.walk.now.places.items rest e k))
 
 pub returns-in_ok-step_if-in-If0 : goal.returns-in_ok-step_if-in-If0
 returns-in_ok-step_if-in-If0 c = λ rest told k.
-    let w = c.args.ahead.now in
+    let w = c.args.turn.ahead.now in
     let parting = subst (λ (f : AForm). Tells f (a_values c.args.node.now.values.items) rest w) c.in-If0.is told in
     let same = c.as_slice-values.ensures.value in
     let e = ap (λ (f : AForm). a_build f (a_values c.args.node.now.values.items)) c.in-If0.is
@@ -88,4 +88,4 @@ returns-in_ok-step_if-in-If0 c = λ rest told k.
     stepped_as e (ap a_kids c.in-If0.is)
     (c.in_ok-step_if-in-If0.ensures (program_in c.args.program.now) rest
     (subst (λ xs. Parting (top no_value (a_values xs)) rest w) (sym same) parting) c.requires.fit
-    (keeps_as c.args.walk.now.vars.items c.args.place c.args.walk.now.places.items rest e k))
+    (keeps_as c.args.walk.now.vars.items c.args.turn.place c.args.walk.now.places.items rest e k))

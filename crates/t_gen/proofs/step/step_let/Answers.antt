@@ -1,4 +1,5 @@
 use Rattle.std.proofs.Common.{◌≡◌, ◌∷◌, List, length, rules, ◌∙◌, ap, ap₂, sym, refl, subst, arith}
+use Rattle.std.proofs.lemmas.List.{take_all}
 use Rattle.t_emit.specs.Code.{onto}
 use Rattle.t_gen_rules.specs.Gen.{used, over, decl_code, target}
 use Rattle.a_scope.specs.declared.scope.Entry.{Entry}
@@ -7,7 +8,6 @@ use Rattle.calc_core.specs.Row.{top, others}
 use Rattle.a_terms.specs.Program.{program_in}
 use Rattle.a_terms.specs.NodeTrees.{a_values, a_decl, no_term}
 use Rattle.a_scope.specs.Scope.{homes, Under}
-use Rattle.t_gen.proofs.Keeping.{whole}
 use Rattle.t_gen.proofs.Stepping.{let_stepped, keeps_first}
 use Rattle.t_gen.specs.Pending.{tops}
 use Rattle.t_gen.specs.Keeps.{Keeps}
@@ -15,16 +15,17 @@ use Rattle.t_gen.specs.declared.state.Place.{Place}
 use Rattle.t_gen.proofs.step.step_let.Goals as goal
 
 pub choose-requires-clause-held : goal.choose-requires-clause-held
-choose-requires-clause-held c = (
-  c.requires.held.0,
-  subst (λ (xs : List Entry). Keeps c.args.place.registers (homes xs) c.requires.held.0) (sym c.deref.ensures.value)
-      c.requires.held.1,
-)
+choose-requires-clause-held c =
+    let u = c.requires.held.0 in (
+      u,
+      subst (λ (xs : List Entry). Keeps c.args.turn.place.registers (homes xs) u) (sym c.deref.ensures.value)
+          c.requires.held.1,
+    )
 
 pub declare-requires-clause-under : goal.declare-requires-clause-under
 declare-requires-clause-under c =
-    subst (Under c.args.place.names)
-    (whole c.args.walk.now.vars.items c.args.place.vars (omega (arith, c.requires.vars))) c.requires.fit.1.2
+    subst (Under c.args.turn.place.names)
+    (take_all c.args.turn.place.vars c.args.walk.now.vars.items (omega (arith, c.requires.vars))) c.requires.fit.1.2
 
 pub returns : goal.returns
 returns c = λ o ts told f k.
@@ -32,7 +33,7 @@ returns c = λ o ts told f k.
     let es = c.args.walk.now.vars.items in
     let m = homes es in
     let e = top no_term ts in
-    let p = c.args.place in
+    let p = c.args.turn.place in
     let rd = c.in_ok-rd.rd in
     let old = c.args.walk.now.code.items in
     let k0 : Keeps p.registers m (used (a.Let x e)) =

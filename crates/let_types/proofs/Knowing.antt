@@ -102,11 +102,11 @@ frame_with es vs = record { names = es; values = vs }
 abbrev pub with_frames : k.Frame → List k.Frame → Known
 with_frames f fs = record { body = f; around = fs }
 
-pub entered : (κ mid : Known) (owes : ℕ) (args : CTys) (inner outer : Frame) (fs rest : List Frame) →
-    mid ≡ put κ (own owes (TCCode owes args)) → frame outer ≡ mid.body → fs ≡ outer ∷ rest →
-    map frame rest ≡ mid.around → frame inner ≡ (enter owes args nothing).body →
-    with_frames (frame inner) (map frame fs) ≡ enter owes args κ
-entered κ mid owes args inner outer fs rest m o f r i =
+pub entered : (κ mid : Known) (k owes : ℕ) (args : CTys) (inner outer : Frame) (fs rest : List Frame) →
+    mid ≡ put κ (own k (TCCode owes args)) → frame outer ≡ mid.body → fs ≡ outer ∷ rest →
+    map frame rest ≡ mid.around → frame inner ≡ (enter 0 owes args nothing).body →
+    with_frames (frame inner) (map frame fs) ≡ enter k owes args κ
+entered κ mid k owes args inner outer fs rest m o f r i =
     ap₂ with_frames i
     (ap (map frame) f ∙ ap₂ (λ x xs. x ∷ xs) (o ∙ ap (λ (n : Known). n.body) m) (r ∙ ap (λ (n : Known). n.around) m))
 

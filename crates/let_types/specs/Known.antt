@@ -99,11 +99,11 @@ abbrev pub arguments : ℕ → CTys → List Entry
 arguments k NoCTys = []
 arguments k (MoreCTys t ts) = entry_of t k ∷ arguments k ts
 
--- the body of a code begins, and the code is a value of the body around
-abbrev pub enter : ℕ → CTys → Known → Known
-enter owes args κ = record {
+-- the body of a code begins, and the code is a value of the body around, under k type names
+abbrev pub enter : ℕ → ℕ → CTys → Known → Known
+enter k owes args κ = record {
   body = record { names = entry_of (TCCode owes args) owes ∷ arguments owes args; values = [] };
-  around = (put κ (own owes (TCCode owes args))).body ∷ κ.around;
+  around = (put κ (own k (TCCode owes args))).body ∷ κ.around;
 }
 
 abbrev pub leave : Known → List Frame → Known
@@ -120,7 +120,7 @@ abbrev pub known_step : ℕ → CNd → Known → Known
 known_step k (MVar l) κ = put κ (named l)
 known_step k (MInt n) κ = put κ (own k TCInt)
 known_step k (MTuple n) κ = tuple k n κ
-known_step k (MCode owes args) κ = enter owes args κ
+known_step k (MCode owes args) κ = enter k owes args κ
 known_step k MEnd κ = leave κ κ.around
 known_step k (MApply ts) κ = change k (applied_type (last_type k κ) ts) κ
 known_step k (MPack h s) κ = change k s κ

@@ -1,5 +1,5 @@
 -- What the code knows, as plain names and values.
-use Rattle.std.specs.Prelude.{List, map}
+use Rattle.std.specs.Prelude.{map}
 use Rattle.calc_core.specs.Read.{tree}
 use Rattle.let_types.specs.Known as k
 use Rattle.let_types.specs.declared.closed.Frame.{Frame}

@@ -75,7 +75,7 @@ fn types_of(
 
 // The names of a code and of its arguments.
 fn names_of_code(alloc: Global, owes: u64, args: &[CType]) -> Result<Vec<Named>, OutOfMemory>
-    ensures { IfOk result (λ r. map entry r.items ≡ (enter owes (ctys args.now) nothing).body.names) }
+    ensures { IfOk result (λ r. map entry r.items ≡ (enter 0 owes (ctys args.now) nothing).body.names) }
 {
     let mut names = Vec::new(alloc);
     let args_again = copy_all(alloc, args)?;
@@ -119,6 +119,13 @@ impl Known {
             },
             around: VecDeque::new(alloc),
         }
+    }
+
+    /// The names in scope, by level.
+    pub fn names(&self) -> &[Named]
+        ensures { map entry result.now ≡ (known self.now).body.names }
+    {
+        &self.body.names
     }
 
     // One more value, the name of a level.
@@ -199,12 +206,12 @@ impl Known {
     }
 
     // The body of a code begins.
-    fn enter(&mut self, owes: u64, args: &[CType]) -> Result<(), OutOfMemory>
-        ensures { OnOk result (known self.new ≡ enter owes (ctys args.now) (known self.old)) }
+    fn enter(&mut self, types: u64, owes: u64, args: &[CType]) -> Result<(), OutOfMemory>
+        ensures { OnOk result (known self.new ≡ enter types owes (ctys args.now) (known self.old)) }
     {
         let names = names_of_code(self.alloc, owes, args)?;
         let args = copy_all(self.alloc, args)?;
-        self.put_own(owes, CType::Code { owes, args })?;
+        self.put_own(types, CType::Code { owes, args })?;
         let inner = Frame {
             names,
             values: Vec::new(self.alloc),
@@ -311,7 +318,7 @@ impl Known {
             CNode::Var(level) => self.put_name(*level),
             CNode::Int(_) => self.put_own(types, CType::Int),
             CNode::Tuple(count) => self.tuple(types, *count),
-            CNode::Code { owes, args } => self.enter(*owes, args),
+            CNode::Code { owes, args } => self.enter(types, *owes, args),
             CNode::End => {
                 self.leave();
                 Ok(())

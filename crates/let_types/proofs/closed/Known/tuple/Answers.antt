@@ -3,7 +3,6 @@ use Rattle.std.proofs.Common.{refl, take}
 use Rattle.std.proofs.lemmas.List.{take_all}
 use Rattle.std.proofs.lemmas.Result.{on_ok_weaker}
 use Rattle.calc_core.proofs.Trees.{tree_Tuple}
-use Rattle.c_terms.specs.C.{TCTuple}
 use Rattle.c_terms.specs.Read.{ctys}
 use Rattle.let_types.specs.Known.{own, types_in, with_values}
 use Rattle.let_types.specs.KnownRead.{entry, known, seen}

@@ -9,7 +9,7 @@ use Rattle.c_terms.specs.Stream.{MCell, MGet, MSet, MCall, MIf, MElse, MHalt}
 use Rattle.c_notation.specs.declared.page.Scope.{Scope}
 use Rattle.c_notation.specs.Types.{type_text, types_text}
 use Rattle.c_notation.specs.Notation.{applied_text, head_text, note_text}
-use Rattle.let_types.specs.Known.{Entry, Known, known_step, level_bound, nothing}
+use Rattle.let_types.specs.Known.{Entry, Known, known_step, level_bound}
 
 -- a body: its text so far, the values that wait, the last first, whether the text ends in a call that waits for its
 -- arguments, its scope, and the scopes of the second branches to come

@@ -3,20 +3,18 @@ use Rattle.std.proofs.Common.{◌≡◌, ℕ, ◌+◌, List, [], ◌∷◌, ◌+
 use Rattle.page_core.specs.Names.{margin}
 use Rattle.page_core.specs.Pieces.{Keeps, Stands}
 use Rattle.page_core.specs.declared.pieces.Pieces.{Pieces}
-use Rattle.c_terms.specs.C.{CTys}
 use Rattle.c_notation.specs.declared.page.Scope.{Scope}
 use Rattle.c_notation.specs.declared.page.Body.{Body}
 use Rattle.c_notation.specs.declared.page.Page.{Page}
-use Rattle.c_notation.specs.Notation.{head_text}
 use Rattle.c_notation.specs.Standing.{Stand, IsBody, AreBodies, IsPage, IsShut}
-use Rattle.c_notation.specs.Walk.{Lines, Sheet, lines, scope_of, push, shut, enter, leave, turn}
+use Rattle.c_notation.specs.Walk.{Lines, Sheet, lines, scope_of, push, shut, opened, leave, turn}
 use Rattle.c_notation.proofs.Pages.{keeps_body, keeps_bodies}
 
-pub enter_page : (g k : Page) (inner outer : Body) (q : Pieces) (owes : ℕ) (args : CTys) (p : Sheet) →
+pub open_page : (g k : Page) (inner outer : Body) (q : Pieces) (head : List ℕ) (types : ℕ) (p : Sheet) →
     Keeps g.pieces q → outer ≡ g.body → k.around.items ≡ outer ∷ g.around.items →
-    IsBody q inner (lines (head_text owes args) (scope_of owes (p.body.scope.indent + 1)) []) → IsPage g p →
-    IsPage (record g { pieces = q; body = inner; around = k.around }) (enter p owes args)
-enter_page g k inner outer q owes args p keeps same items new h = record {
+    IsBody q inner (lines head (scope_of types (p.body.scope.indent + 1)) []) → IsPage g p →
+    IsPage (record g { pieces = q; body = inner; around = k.around }) (opened p head types)
+open_page g k inner outer q head types p keeps same items new h = record {
   empty = keeps g.empty [] h.empty;
   body = new;
   around =

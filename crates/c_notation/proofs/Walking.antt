@@ -22,15 +22,11 @@ use Rattle.c_notation.specs.Notation.{term_text, c_text}
 use Rattle.c_notation.specs.Walk.{Lines, Sheet, scope_of, lines, with_text, with_values, push, gathered, past, shut}
 use Rattle.c_notation.specs.Walk.{name_note, turn}
 use Rattle.c_notation.specs.Walk.{step, walk, blank}
+use Rattle.c_notation.proofs.Sheets.{before, gather_some, level_is, past_some, sheet, stack, stack_length, turn_is}
 use Rattle.c_notation.proofs.Holding.{Holds, Kept, holds_behind, holds_code, holds_none, kept_behind, kept_holds}
 use Rattle.c_notation.proofs.Holding.{kept_same, kept_twice, last_is, note_new, seen, seens, tuple_is}
 
 -- numbers
-level_is : (m i : ℕ) → level_of m i ≡ m - 1 - i
-level_is zero i = omega arith
-level_is (suc d) zero = omega arith
-level_is (suc d) (suc i) = let h = level_is d i in omega (arith, h)
-
 lift_one : (n : ℕ) → lift n 1 ≡ suc n
 lift_one zero = refl
 lift_one (suc n) = ap suc (lift_one n)
@@ -39,10 +35,6 @@ lift_one (suc n) = ap suc (lift_one n)
 abbrev texts : Bool → ℕ → ℕ → ℕ → CVals → List (List ℕ)
 texts b n m k NoCVals = []
 texts b n m k (MoreCVals v vs) = value_text b n m k v ∷ texts b n m k vs
-
-abbrev stack : List (List ℕ) → List (List ℕ) → List (List ℕ)
-stack [] vs = vs
-stack (s ∷ ss) vs = stack ss (s ∷ vs)
 
 abbrev joined : ℕ → List (List ℕ) → List ℕ
 joined b [] = []
@@ -61,27 +53,6 @@ joined_is b i n m k NoCVals = refl
 joined_is b i n m k (MoreCVals v vs) = ap (λ (w : List ℕ). separator i ++ value_text b n m k v
     ++ w) (joined_is b (suc i) n m k vs)
 
--- what is gathered of values that wait, of which i stand before the text already
-abbrev before : ℕ → List (List ℕ) → List ℕ → List ℕ
-before i [] text = text
-before i (s ∷ ss) text = s ++ (separator (i + length ss) ++ before i ss text)
-
-gather_some : (ss : List (List ℕ)) (n i c : ℕ) (vs : List (List ℕ)) (text : List ℕ) → c ≡ n + length ss →
-    gathered c i (stack ss vs) text ≡ gathered n (i + length ss) vs (before i ss text)
-gather_some [] n i c vs text e =
-    let a : c ≡ n = omega (arith, e) in
-    let b : i + 0 ≡ i = omega arith in
-    rw (a, b) refl
-gather_some (s ∷ ss) n i c vs text e =
-    let a : c ≡ suc n + length ss = omega (arith, e) in
-    let b : i + suc (length ss) ≡ suc (i + length ss) = omega arith in
-    gather_some ss (suc n) i c (s ∷ vs) text a ∙ ap (λ j. gathered n j vs (s ++ (separator (i + length ss)
-    ++ before i ss text))) (sym b)
-
-past_some : (ss : List (List ℕ)) (n c : ℕ) (vs : List (List ℕ)) → c ≡ n + length ss → past c (stack ss vs) ≡ past n vs
-past_some [] n c vs e = let a : c ≡ n = omega (arith, e) in ap (λ j. past j vs) a
-past_some (s ∷ ss) n c vs e = let a : c ≡ suc n + length ss = omega (arith, e) in past_some ss (suc n) c (s ∷ vs) a
-
 assoc₄ : (a b c d : List ℕ) → (a ++ b ++ c) ++ d ≡ a ++ (b ++ (c ++ d))
 assoc₄ a b c d = simp append_assoc
 
@@ -98,10 +69,6 @@ before_is : (ss : List (List ℕ)) (text : List ℕ) → before 0 ss text ≡ jo
 before_is [] text = refl
 before_is (s ∷ ss) text =
     ap (λ (w : List ℕ). s ++ w) (sym (joined_before 0 ss text)) ∙ sym (append_assoc s (joined 1 ss) text)
-
-stack_length : (ss vs : List (List ℕ)) → length (stack ss vs) ≡ length ss + length vs
-stack_length [] vs = omega arith
-stack_length (s ∷ ss) vs = let h = stack_length ss (s ∷ vs) in omega (arith, h)
 
 gather_all : (c : ℕ) (ss vs : List (List ℕ)) (text : List ℕ) → c ≡ length ss → gathered c 0 (stack ss vs) text
     ≡ joined 0 ss ++ text
@@ -144,16 +111,6 @@ if_text t m i v h a e b = simp append_assoc
 
 halt_text : (t m h v z : List ℕ) → t ++ ((m ++ h) ++ (v ++ z)) ≡ t ++ (m ++ h ++ v ++ z)
 halt_text t m h v z = simp append_assoc
-
--- a body in which no value waits
-abbrev sheet : List ℕ → ℕ → ℕ → List Scope → List Lines → Sheet
-sheet text n k branches around = record { body = lines text (scope_of n k) branches; around = around }
-
-turn_is : (q : Sheet) (s : Scope) (ss : List Scope) (text : List ℕ) → q.body.branches ≡ s ∷ ss → shut q.body ≡ text →
-    step [] MElse q ≡ sheet (text ++ (margin s.indent ++ codes "else\n")) s.types (s.indent + 1) ss q.around
-turn_is q s ss text e f =
-    ap (λ bs. turn q bs) e ∙ ap (λ (t : List ℕ). sheet (t ++ (margin s.indent
-    ++ codes "else\n")) s.types (s.indent + 1) ss q.around) f
 
 module _ (b : Bool) where
   -- nodes lead to a body that ends with this text, with the same second branches to come, and of whose first m names

@@ -111,12 +111,15 @@ unpack p level note = with_scope
     ++ (note ++ codes "] = unpack ")))))) (codes "\n"))
     (scope_of (p.body.scope.types + 1) p.body.scope.indent) p.body.branches
 
--- a code begins
-abbrev pub enter : Sheet → ℕ → CTys → Sheet
-enter p owes args = record {
-  body = lines (head_text owes args) (scope_of owes (p.body.scope.indent + 1)) [];
+-- a code begins with this line, inside so many type names
+abbrev pub opened : Sheet → List ℕ → ℕ → Sheet
+opened p head types = record {
+  body = lines head (scope_of types (p.body.scope.indent + 1)) [];
   around = p.body ∷ p.around;
 }
+
+abbrev pub enter : Sheet → ℕ → CTys → Sheet
+enter p owes args = opened p (head_text owes args) owes
 
 -- a call, whose arguments follow
 abbrev pub called : Sheet → Sheet

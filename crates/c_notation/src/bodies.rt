@@ -4,7 +4,7 @@ ghost use Rattle.page_core.specs.Pieces.{Keeps, Stands};
 ghost use Rattle.c_terms.specs.Read.{ctys};
 ghost use Rattle.c_notation.specs.Notation.{arguments_after, head_text};
 ghost use Rattle.c_notation.specs.Standing.{IsPage, IsShut};
-ghost use Rattle.c_notation.specs.Walk.{Sheet, enter, leave, shut, turn};
+ghost use Rattle.c_notation.specs.Walk.{Sheet, enter, leave, opened, shut, turn};
 
 use crate::joining::piece_of;
 use crate::lines::margin_and;
@@ -42,22 +42,17 @@ fn write_head(text: &mut Vec<u8>, owes: u64, args: &[CType]) -> Result<(), OutOf
 }
 
 impl Page {
-    // A code begins.
-    pub(crate) fn enter(&mut self, owes: u64, args: &[CType]) -> Result<(), OutOfMemory>
-        ensures { OnOk result ((p : Sheet) → IsPage self.old p → IsPage self.new (enter p owes (ctys args.now))) }
+    /// A code begins with this line, inside so many type names.
+    pub fn open(&mut self, head: Vec<u8>, types: u64) -> Result<(), OutOfMemory>
+        ensures { OnOk result ((p : Sheet) → IsPage self.old p → IsPage self.new (opened p head.items types)) }
     {
-        let mut head = Vec::new(self.alloc);
-        write_head(&mut head, owes, args)?;
         let indent = sum(self.body.scope.indent, 1)?;
         let text = self.pieces.bytes(head)?;
         let inner = Body {
             text,
             values: VecDeque::new(self.alloc),
             called: false,
-            scope: Scope {
-                types: owes,
-                indent,
-            },
+            scope: Scope { types, indent },
             branches: VecDeque::new(self.alloc),
         };
         let outer = mem::replace(&mut self.body, inner);
@@ -65,8 +60,17 @@ impl Page {
         Ok(())
     }
 
-    // The text of the body where it ends here: the call that waits has its arguments.
-    pub(crate) fn shut(&mut self) -> Result<u64, OutOfMemory>
+    // A code begins.
+    pub(crate) fn enter(&mut self, owes: u64, args: &[CType]) -> Result<(), OutOfMemory>
+        ensures { OnOk result ((p : Sheet) → IsPage self.old p → IsPage self.new (enter p owes (ctys args.now))) }
+    {
+        let mut head = Vec::new(self.alloc);
+        write_head(&mut head, owes, args)?;
+        self.open(head, owes)
+    }
+
+    /// The text of the body where it ends here: the call that waits has its arguments.
+    pub fn shut(&mut self) -> Result<u64, OutOfMemory>
         ensures keeps { OnOk result (Keeps self.old.pieces self.new.pieces) }
         ensures shut { IfOk result (λ text. (p : Sheet) → IsPage self.old p → IsShut self.new p text) }
     {
@@ -80,8 +84,8 @@ impl Page {
         Ok(text)
     }
 
-    // The code ends, and is a value of the body around it.
-    pub(crate) fn leave(&mut self) -> Result<(), OutOfMemory>
+    /// The code ends, and is a value of the body around it.
+    pub fn leave(&mut self) -> Result<(), OutOfMemory>
         ensures { OnOk result ((p : Sheet) → IsPage self.old p → IsPage self.new (leave p p.around)) }
     {
         let Some(outer) = self.around.pop_front() else {
@@ -95,8 +99,8 @@ impl Page {
         self.push(code)
     }
 
-    // The second branch of a test begins.
-    pub(crate) fn turn(&mut self) -> Result<(), OutOfMemory>
+    /// The second branch of a test begins.
+    pub fn turn(&mut self) -> Result<(), OutOfMemory>
         ensures { OnOk result ((p : Sheet) → IsPage self.old p → IsPage self.new (turn p p.body.branches)) }
     {
         let Some(scope) = self.body.branches.pop_front() else {

@@ -12,5 +12,6 @@ mod types;
 mod values;
 mod walk;
 
-pub use program::write_closed;
+pub use page::{Body, Page, Scope};
+pub use program::{blank, write_closed};
 pub use types::{write_type, write_types};

@@ -24,16 +24,16 @@ pub(crate) fn margin_and(alloc: Global, indent: u64, word: &[u8]) -> Result<Vec<
 }
 
 impl Page {
-    // What a line begins with.
-    fn begin(&self, word: &[u8]) -> Result<Vec<u8>, OutOfMemory>
+    /// What a line begins with.
+    pub fn begin(&self, word: &[u8]) -> Result<Vec<u8>, OutOfMemory>
         ensures { IfOk result (λ front. front.items ≡ margin self.now.body.scope.indent ++ word.now) }
     {
         let front = margin_and(self.alloc, self.body.scope.indent, word)?;
         Ok(front)
     }
 
-    // One more line, of the last value and what stands around it.
-    fn line(&mut self, front: Vec<u8>, behind: &[u8]) -> Result<(), OutOfMemory>
+    /// One more line, of the last value and what stands around it.
+    pub fn line(&mut self, front: Vec<u8>, behind: &[u8]) -> Result<(), OutOfMemory>
         ensures { OnOk result ((p : Sheet) → IsPage self.old p → IsPage self.new (line p front.items behind.now)) }
     {
         let end = Vec::from_slice(self.alloc, behind)?;
@@ -43,8 +43,8 @@ impl Page {
         Ok(())
     }
 
-    // A line that begins with a word.
-    pub(crate) fn value_line(&mut self, word: &[u8]) -> Result<(), OutOfMemory>
+    /// A line that begins with a word.
+    pub fn value_line(&mut self, word: &[u8]) -> Result<(), OutOfMemory>
         ensures { OnOk result ((p : Sheet) → IsPage self.old p →
             IsPage self.new (line p (begun p word.now) (codes "\n"))) }
     {
@@ -114,8 +114,8 @@ impl Page {
         Ok(())
     }
 
-    // A test of the last value: its first branch begins.
-    pub(crate) fn choose(&mut self) -> Result<(), OutOfMemory>
+    /// A test of the last value: its first branch begins.
+    pub fn choose(&mut self) -> Result<(), OutOfMemory>
         ensures { OnOk result ((p : Sheet) → IsPage self.old p → IsPage self.new (choose p)) }
     {
         let scope = self.body.scope;

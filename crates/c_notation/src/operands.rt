@@ -27,7 +27,8 @@ fn write_applied(text: &mut Vec<u8>, types: &[CType], depth: u64) -> Result<(), 
 }
 
 impl Page {
-    pub(crate) fn variable(&mut self, level: u64) -> Result<(), OutOfMemory>
+    /// A variable, by its level.
+    pub fn variable(&mut self, level: u64) -> Result<(), OutOfMemory>
         ensures { OnOk result ((p : Sheet) → IsPage self.old p → IsPage self.new (push p (value_name level))) }
     {
         let mut text = Vec::new(self.alloc);
@@ -36,7 +37,8 @@ impl Page {
         self.push(piece)
     }
 
-    pub(crate) fn integer(&mut self, n: i64) -> Result<(), OutOfMemory>
+    /// An integer.
+    pub fn integer(&mut self, n: i64) -> Result<(), OutOfMemory>
         ensures { OnOk result ((p : Sheet) → IsPage self.old p → IsPage self.new (push p (number n))) }
     {
         let mut text = Vec::new(self.alloc);

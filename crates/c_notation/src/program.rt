@@ -17,8 +17,8 @@ use page_core::Pieces;
 use std::alloc::Global;
 use std::collections::VecDeque;
 
-// Nothing is written yet.
-fn blank(alloc: Global) -> Result<Page, OutOfMemory>
+/// Nothing is written yet.
+pub fn blank(alloc: Global) -> Result<Page, OutOfMemory>
     ensures { IfOk result (λ page. IsPage page blank) }
 {
     let mut pieces = Pieces::new(alloc);

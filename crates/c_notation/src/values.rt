@@ -57,8 +57,8 @@ impl Page {
         Ok(whole)
     }
 
-    // The tuple of the so many last values.
-    pub(crate) fn tuple(&mut self, count: u64) -> Result<(), OutOfMemory>
+    /// The tuple of the so many last values.
+    pub fn tuple(&mut self, count: u64) -> Result<(), OutOfMemory>
         ensures { OnOk result ((p : Sheet) → IsPage self.old p → IsPage self.new (tuple p count)) }
     {
         let end = piece_of(self.alloc, &mut self.pieces, b">")?;
@@ -68,8 +68,8 @@ impl Page {
         self.push(whole)
     }
 
-    // The last value, with bytes in front of it and behind it.
-    pub(crate) fn wrap(&mut self, front: Vec<u8>, behind: Vec<u8>) -> Result<(), OutOfMemory>
+    /// The last value, with bytes in front of it and behind it.
+    pub fn wrap(&mut self, front: Vec<u8>, behind: Vec<u8>) -> Result<(), OutOfMemory>
         ensures { OnOk result ((p : Sheet) → IsPage self.old p → IsPage self.new (wrap p front.items behind.items)) }
     {
         let value = self.pop();
@@ -77,8 +77,8 @@ impl Page {
         self.push(whole)
     }
 
-    // The two last values, with a sign between them, as one.
-    pub(crate) fn pair(&mut self, sign: &[u8]) -> Result<(), OutOfMemory>
+    /// The two last values, with a sign between them, as one.
+    pub fn pair(&mut self, sign: &[u8]) -> Result<(), OutOfMemory>
         ensures { OnOk result ((p : Sheet) → IsPage self.old p → IsPage self.new (pair p sign.now)) }
     {
         let right = self.pop();

@@ -1,8 +1,4 @@
-mod Ending
-mod FineTerms
-mod Gathering
-mod Moving
-mod Nesting
 mod Rows
-mod Turning
+mod Stepping
 mod TypeTexts
+mod Walking

@@ -1,4 +1,2 @@
-pub mod Fine
-pub mod Moves
 pub mod Notation
-pub mod State
+pub mod Walk

@@ -1,11 +1,9 @@
 //! The notation of converted programs (own choice): docs/PASSES.md shows it by example.
 #![tactic(auto)]
 
-mod join;
 mod lines;
-mod page;
+mod program;
 mod types;
-mod values;
-mod writer;
+mod walk;
 
-pub use writer::write_cps;
+pub use program::write_cps;

@@ -1,297 +1,142 @@
-// The lines of a term.
-ghost use Rattle.std.specs.Prelude.{◌≡◌, ◌+◌, ◌++◌, IfOk, OnOk, codes};
-ghost use Rattle.calc_core.specs.Ends.{after_one};
-ghost use Rattle.k_terms.specs.Decode.{bind_one, bind_two, calls, halts};
-ghost use Rattle.k_terms.specs.K.{KVal, KDecl, KName, KProj, KArith, KPack, KUnpack, KCell, KGet, KSet, opens};
-ghost use Rattle.k_terms.specs.Read.{ktree, ktys};
+// Lines and codes.
+ghost use Rattle.std.specs.Prelude.{◌≡◌, ◌++◌, [], codes, IfOk, OnOk};
 ghost use Rattle.page_core.specs.Names.{margin};
-ghost use Rattle.k_notation.specs.Notation.{let_sign};
-ghost use Rattle.k_notation.specs.State.{let_in, more_scope, value_in, Takes, Turns};
-ghost use Rattle.k_notation.specs.declared.page.Stage.TheVariants.{Called, Whole};
+ghost use Rattle.k_terms.specs.Read.{ktree, ktys};
+ghost use Rattle.c_notation.specs.Standing.{IsPage};
+ghost use Rattle.c_notation.specs.Walk.{Sheet};
+ghost use Rattle.k_notation.specs.Notation.{note_text};
+ghost use Rattle.k_notation.specs.Walk.{call, declare, enter, noted, packed, unpack, unpack_word};
 
-use crate::join::{between, with_bytes};
-use crate::page::{Page, Scope, Stage};
-use crate::types::{write_type, write_types};
-use crate::values::take;
-use idx_core::{Op, OutOfMemory, sum};
+use crate::types::{code_line, write_type, write_types};
+use c_notation::{Page, Scope};
+use idx_core::{OutOfMemory, sum};
 use k_terms::KType;
-use page_core::{Pieces, write_margin, write_natural, write_op, write_type_name, write_value_name};
-use std::alloc::Global;
+use page_core::{write_type_name, write_value_name};
 
-/// The bytes of a sign.
-pub(crate) fn sign(alloc: Global, bytes: &[u8]) -> Result<Vec<u8>, OutOfMemory>
-    ensures { IfOk result (λ text. text.items ≡ bytes.now) }
+// What stands behind a name of this type, inside so many type names.
+fn write_note(text: &mut Vec<u8>, typed: bool, ty: &KType, depth: u64) -> Result<(), OutOfMemory>
+    ensures { OnOk result (text.new.items ≡ text.old.items ++ note_text typed depth (ktree ty.now)) }
 {
-    let mut text = Vec::new(alloc);
-    text.extend_from_slice(bytes)?;
-    Ok(text)
-}
-
-/// A margin, and a sign behind it.
-pub(crate) fn line(alloc: Global, levels: u64, bytes: &[u8]) -> Result<Vec<u8>, OutOfMemory>
-    ensures { IfOk result (λ text. text.items ≡ margin levels ++ bytes.now) }
-{
-    let mut text = Vec::new(alloc);
-    write_margin(&mut text, levels)?;
-    text.extend_from_slice(bytes)?;
-    Ok(text)
-}
-
-// What stands before a declared value.
-fn let_sign(alloc: Global, scope: Scope) -> Result<Vec<u8>, OutOfMemory>
-    ensures { IfOk result (λ text. text.items ≡ let_sign scope.names scope.indent) }
-{
-    let mut text = line(alloc, scope.indent, b"let ")?;
-    write_value_name(&mut text, scope.names)?;
-    text.extend_from_slice(b" = ")?;
-    Ok(text)
-}
-
-// One name more, and so many type names.
-fn with_more(scope: Scope, types: u64) -> Result<Scope, OutOfMemory>
-    ensures { IfOk result (λ inner. inner ≡ more_scope scope types) }
-{
-    let types = sum(scope.types, types)?;
-    let names = sum(scope.names, 1)?;
-    Ok(Scope {
-        types,
-        names,
-        indent: scope.indent,
-    })
-}
-
-// What a line has beside its values: the bytes before them and behind them, and how many type names it binds.
-#[derive(Drop)]
-struct Frame {
-    before: Vec<u8>,
-    after: Vec<u8>,
-    opened: u64,
-}
-
-// A declaration of the value that waits last.
-fn declare_one(
-    alloc: Global,
-    pieces: &mut Pieces,
-    page: &mut Page,
-    frame: Frame,
-) -> Result<(), OutOfMemory>
-    ensures { OnOk result ((x : KVal → KDecl) →
-        ((v : KVal) → let_in page.old.scope (x v) ≡
-        frame.before.items ++ value_in page.old.scope v ++ frame.after.items) →
-        ((v : KVal) → after_one (opens (x v)) page.old.scope.types ≡ page.old.scope.types + frame.opened) →
-        Turns pieces.old page.old pieces.new page.new (Takes page.old 1) (λ b. bind_one b x) page.old.stage) }
-{
-    let scope = with_more(page.scope, frame.opened)?;
-    let value = take(alloc, pieces, &mut page.values)?;
-    let declared = between(pieces, frame.before, value, frame.after)?;
-    let text = pieces.joined(page.text, declared)?;
-    page.text = text;
-    page.scope = scope;
+    if typed {
+        text.extend_from_slice(b": ")?;
+        write_type(text, ty, depth)?;
+    }
     Ok(())
 }
 
-// A declaration of the two values that wait last, with a sign between them.
-fn declare_two(
-    alloc: Global,
-    pieces: &mut Pieces,
+// A name of this type is declared as the last value, with a word in front of it.
+pub(crate) fn declare(
     page: &mut Page,
-    middle: Vec<u8>,
-) -> Result<(), OutOfMemory>
-    ensures { OnOk result ((x : KVal → KVal → KDecl) →
-        ((v w : KVal) → let_in page.old.scope (x v w) ≡ let_sign page.old.scope.names page.old.scope.indent
-        ++ value_in page.old.scope v ++ middle.items ++ value_in page.old.scope w ++ codes "\n") →
-        ((v w : KVal) → after_one (opens (x v w)) page.old.scope.types ≡ page.old.scope.types + 0) →
-        Turns pieces.old page.old pieces.new page.new (Takes page.old 2) (λ b. bind_two b x) page.old.stage) }
-{
-    let scope = with_more(page.scope, 0)?;
-    let before = let_sign(alloc, page.scope)?;
-    let after = sign(alloc, b"\n")?;
-    let second = take(alloc, pieces, &mut page.values)?;
-    let first = take(alloc, pieces, &mut page.values)?;
-    let opened = between(pieces, before, first, middle)?;
-    let both = pieces.joined(opened, second)?;
-    let declared = with_bytes(pieces, both, after)?;
-    let text = pieces.joined(page.text, declared)?;
-    page.text = text;
-    page.scope = scope;
-    Ok(())
-}
-
-// A declaration of a value with a word before it.
-fn declare_word(
-    alloc: Global,
-    pieces: &mut Pieces,
-    page: &mut Page,
+    typed: bool,
+    level: u64,
+    ty: &KType,
     word: &[u8],
 ) -> Result<(), OutOfMemory>
-    ensures { OnOk result ((x : KVal → KDecl) →
-        ((v : KVal) → let_in page.old.scope (x v) ≡ let_sign page.old.scope.names page.old.scope.indent ++ word.now
-        ++ value_in page.old.scope v ++ codes "\n") →
-        ((v : KVal) → after_one (opens (x v)) page.old.scope.types ≡ page.old.scope.types + 0) →
-        Turns pieces.old page.old pieces.new page.new (Takes page.old 1) (λ b. bind_one b x) page.old.stage) }
+    ensures { OnOk result ((p : Sheet) → IsPage page.old p →
+        IsPage page.new (declare p level (noted typed p (ktree ty.now)) word.now)) }
 {
-    let mut before = let_sign(alloc, page.scope)?;
-    before.extend_from_slice(word)?;
-    let after = sign(alloc, b"\n")?;
-    let frame = Frame {
-        before,
-        after,
-        opened: 0,
-    };
-    declare_one(alloc, pieces, page, frame)
+    let depth = page.body.scope.types;
+    let mut front = page.begin(b"let ")?;
+    write_value_name(&mut front, level)?;
+    write_note(&mut front, typed, ty, depth)?;
+    front.extend_from_slice(b" = ")?;
+    front.extend_from_slice(word)?;
+    page.line(front, b"\n")
 }
 
-/// A name for a value.
-pub(crate) fn name(alloc: Global, pieces: &mut Pieces, page: &mut Page) -> Result<(), OutOfMemory>
-    ensures { OnOk result (Turns pieces.old page.old pieces.new page.new (Takes page.old 1)
-        (λ b. bind_one b KName) page.old.stage) }
+// The last value, as a package of this shape.
+fn package(page: &mut Page, hidden: &KType, shape: &KType) -> Result<(), OutOfMemory>
+    ensures { OnOk result ((p : Sheet) → IsPage page.old p →
+        IsPage page.new (packed p (ktree hidden.now) (ktree shape.now))) }
 {
-    declare_word(alloc, pieces, page, b"")
+    let depth = page.body.scope.types;
+    let mut front = Vec::new(page.alloc);
+    front.extend_from_slice(b"pack [")?;
+    write_type(&mut front, hidden, depth)?;
+    front.extend_from_slice(b", ")?;
+    let mut behind = Vec::new(page.alloc);
+    behind.extend_from_slice(b"] as ")?;
+    write_type(&mut behind, shape, depth)?;
+    page.wrap(front, behind)
 }
 
-/// A new cell.
-pub(crate) fn cell(alloc: Global, pieces: &mut Pieces, page: &mut Page) -> Result<(), OutOfMemory>
-    ensures { OnOk result (Turns pieces.old page.old pieces.new page.new (Takes page.old 1)
-        (λ b. bind_one b KCell) page.old.stage) }
-{
-    declare_word(alloc, pieces, page, b"ref ")
-}
-
-/// What a cell holds.
-pub(crate) fn get(alloc: Global, pieces: &mut Pieces, page: &mut Page) -> Result<(), OutOfMemory>
-    ensures { OnOk result (Turns pieces.old page.old pieces.new page.new (Takes page.old 1)
-        (λ b. bind_one b KGet) page.old.stage) }
-{
-    declare_word(alloc, pieces, page, b"!")
-}
-
-/// A field of a tuple.
-pub(crate) fn field(
-    alloc: Global,
-    pieces: &mut Pieces,
-    page: &mut Page,
-    number: u64,
-) -> Result<(), OutOfMemory>
-    ensures { OnOk result (Turns pieces.old page.old pieces.new page.new (Takes page.old 1)
-        (λ b. bind_one b (KProj number)) page.old.stage) }
-{
-    let mut before = let_sign(alloc, page.scope)?;
-    before.push(b'#')?;
-    write_natural(&mut before, number)?;
-    before.push(b' ')?;
-    let after = sign(alloc, b"\n")?;
-    let frame = Frame {
-        before,
-        after,
-        opened: 0,
-    };
-    declare_one(alloc, pieces, page, frame)
-}
-
-/// A package of a hidden type and a shape.
+// A package of the last value is declared, as one of this shape.
 pub(crate) fn pack(
-    alloc: Global,
-    pieces: &mut Pieces,
     page: &mut Page,
+    typed: bool,
+    level: u64,
     hidden: &KType,
     shape: &KType,
 ) -> Result<(), OutOfMemory>
-    ensures { OnOk result (Turns pieces.old page.old pieces.new page.new (Takes page.old 1)
-        (λ b. bind_one b (λ v. KPack (ktree hidden.now) v (ktree shape.now))) page.old.stage) }
+    ensures { OnOk result ((p : Sheet) → IsPage page.old p → IsPage page.new
+        (declare (packed p (ktree hidden.now) (ktree shape.now)) level (noted typed p (ktree shape.now)) [])) }
 {
-    let mut before = let_sign(alloc, page.scope)?;
-    before.extend_from_slice(b"pack [")?;
-    write_type(&mut before, hidden, page.scope.types)?;
-    before.extend_from_slice(b", ")?;
-    let mut after = sign(alloc, b"] as ")?;
-    write_type(&mut after, shape, page.scope.types)?;
-    after.push(b'\n')?;
-    let frame = Frame {
-        before,
-        after,
-        opened: 0,
-    };
-    declare_one(alloc, pieces, page, frame)
+    package(page, hidden, shape)?;
+    declare(page, typed, level, shape, b"")
 }
 
-/// What a package holds, and its hidden type.
-pub(crate) fn unpack(alloc: Global, pieces: &mut Pieces, page: &mut Page) -> Result<(), OutOfMemory>
-    ensures { OnOk result (Turns pieces.old page.old pieces.new page.new (Takes page.old 1)
-        (λ b. bind_one b KUnpack) page.old.stage) }
+// What a line begins with that declares a type's name and a value's, of this type under the new name.
+fn begin_unpack(page: &Page, typed: bool, level: u64, ty: &KType) -> Result<Vec<u8>, OutOfMemory>
+    ensures { IfOk result (λ front. front.items ≡ margin page.now.body.scope.indent
+        ++ unpack_word typed page.now.body.scope.types level (ktree ty.now)) }
 {
-    let mut before = line(alloc, page.scope.indent, b"let [")?;
-    write_type_name(&mut before, page.scope.types)?;
-    before.extend_from_slice(b", ")?;
-    write_value_name(&mut before, page.scope.names)?;
-    before.extend_from_slice(b"] = unpack ")?;
-    let after = sign(alloc, b"\n")?;
-    let frame = Frame {
-        before,
-        after,
-        opened: 1,
-    };
-    declare_one(alloc, pieces, page, frame)
+    let depth = page.body.scope.types;
+    let types = sum(depth, 1)?;
+    let mut front = page.begin(b"let [")?;
+    write_type_name(&mut front, depth)?;
+    front.extend_from_slice(b", ")?;
+    write_value_name(&mut front, level)?;
+    write_note(&mut front, typed, ty, types)?;
+    front.extend_from_slice(b"] = unpack ")?;
+    Ok(front)
 }
 
-/// An operation on two values.
-pub(crate) fn arith(
-    alloc: Global,
-    pieces: &mut Pieces,
+// A type's name and a value's are declared as what the last value holds, of this type under the new name.
+pub(crate) fn unpack(
     page: &mut Page,
-    op: Op,
+    typed: bool,
+    level: u64,
+    ty: &KType,
 ) -> Result<(), OutOfMemory>
-    ensures { OnOk result (Turns pieces.old page.old pieces.new page.new (Takes page.old 2)
-        (λ b. bind_two b (KArith op)) page.old.stage) }
+    ensures { OnOk result ((p : Sheet) → IsPage page.old p →
+        IsPage page.new (unpack typed p level (ktree ty.now))) }
 {
-    let mut middle = Vec::new(alloc);
-    write_op(&mut middle, op)?;
-    declare_two(alloc, pieces, page, middle)
-}
-
-/// A cell that is set.
-pub(crate) fn set(alloc: Global, pieces: &mut Pieces, page: &mut Page) -> Result<(), OutOfMemory>
-    ensures { OnOk result (Turns pieces.old page.old pieces.new page.new (Takes page.old 2)
-        (λ b. bind_two b KSet) page.old.stage) }
-{
-    let middle = sign(alloc, b" := ")?;
-    declare_two(alloc, pieces, page, middle)
-}
-
-/// A call of the value that waits last, whose arguments are still to come.
-pub(crate) fn call(
-    alloc: Global,
-    pieces: &mut Pieces,
-    page: &mut Page,
-    types: &[KType],
-) -> Result<(), OutOfMemory>
-    ensures { OnOk result (Turns pieces.old page.old pieces.new page.new (Takes page.old 1)
-        (λ b. calls b (ktys types.now)) Called) }
-{
-    let mut before = Vec::new(alloc);
-    write_margin(&mut before, page.scope.indent)?;
-    let mut after = sign(alloc, b"[")?;
-    write_types(&mut after, types, page.scope.types)?;
-    after.extend_from_slice(b"](")?;
-    let value = take(alloc, pieces, &mut page.values)?;
-    let called = between(pieces, before, value, after)?;
-    let text = pieces.joined(page.text, called)?;
-    page.text = text;
-    page.stage = Stage::Called;
-    page.values = Vec::new(alloc);
+    let scope = page.body.scope;
+    let types = sum(scope.types, 1)?;
+    let front = begin_unpack(page, typed, level, ty)?;
+    page.line(front, b"\n")?;
+    page.body.scope = Scope {
+        types,
+        indent: scope.indent,
+    };
     Ok(())
 }
 
-/// The end of a term.
-pub(crate) fn halt(alloc: Global, pieces: &mut Pieces, page: &mut Page) -> Result<(), OutOfMemory>
-    ensures { OnOk result (Turns pieces.old page.old pieces.new page.new (Takes page.old 1) halts Whole) }
+// A call of the last value, whose arguments follow.
+pub(crate) fn call(page: &mut Page, types: &[KType]) -> Result<(), OutOfMemory>
+    ensures { OnOk result ((p : Sheet) → IsPage page.old p → IsPage page.new (call p (ktys types.now))) }
 {
-    let before = line(alloc, page.scope.indent, b"halt ")?;
-    let after = sign(alloc, b"\n")?;
-    let value = take(alloc, pieces, &mut page.values)?;
-    let halted = between(pieces, before, value, after)?;
-    let text = pieces.joined(page.text, halted)?;
-    page.text = text;
-    page.stage = Stage::Whole;
-    page.values = Vec::new(alloc);
+    let mut behind = Vec::new(page.alloc);
+    behind.extend_from_slice(b"[")?;
+    write_types(&mut behind, types, page.body.scope.types)?;
+    behind.extend_from_slice(b"](")?;
+    let front = page.begin(b"")?;
+    page.line(front, &behind)?;
+    page.body.called = true;
     Ok(())
+}
+
+// A code begins.
+pub(crate) fn enter(
+    page: &mut Page,
+    level: u64,
+    owes: u64,
+    args: &[KType],
+) -> Result<(), OutOfMemory>
+    ensures { OnOk result ((p : Sheet) → IsPage page.old p → IsPage page.new (enter p level owes (ktys args.now))) }
+{
+    let depth = page.body.scope.types;
+    let types = sum(depth, owes)?;
+    let head = code_line(page.alloc, depth, level, owes, args)?;
+    page.open(head, types)
 }

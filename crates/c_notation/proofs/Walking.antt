@@ -1,11 +1,12 @@
 -- The nodes of a term make its text.
-use Rattle.std.proofs.Common.{◌≡◌, ◌≤◌, ℕ, zero, suc, ◌+◌, ◌-◌, List, [], ◌∷◌, ◌++◌, Bool, length, refl, sym}
+use Rattle.std.proofs.Common.{◌≡◌, ◌≤◌, ℕ, zero, suc, ◌+◌, List, [], ◌∷◌, ◌++◌, Bool, length, refl, sym}
 use Rattle.std.proofs.Common.{ap, ap₂, ◌∙◌, arith, append_assoc, codes, decimal}
 use Rattle.std.proofs.lemmas.List.{append-nil}
 use Rattle.calc_core.specs.Ends.{lift}
 use Rattle.calc_core.specs.Levels.{level_of}
 use Rattle.page_core.specs.Names.{margin, op_sign, separator, type_name, value_name}
-use Rattle.c_terms.specs.C.{CTy, NoCTys, TCCode, TCInt, TCRef, TCTuple, CVal, CVar, CInt, CTuple, CCode, CApply, CPack, CVals, NoCVals, MoreCVals, CDecl}
+use Rattle.c_terms.specs.C.{CTy, NoCTys, TCCode, TCInt, TCRef, TCTuple, CVal, CVar, CInt, CTuple, CCode, CApply}
+use Rattle.c_terms.specs.C.{CPack, CVals, NoCVals, MoreCVals, CDecl}
 use Rattle.c_terms.specs.C.{CName, CProj, CArith, CUnpack, CCell, CGet, CSet, CTm, CLet, CCall, CIf, CHalt, ccount}
 use Rattle.c_terms.specs.Stream.{CNd, MTuple, MEnd, MApply, MPack, MName, MProj, MArith, MUnpack, MCell, MGet, MSet}
 use Rattle.c_terms.specs.Stream.{MCall, MIf, MElse, MHalt, cwidth, clin_v, clin_vs, clin_d, clin_t}
@@ -17,10 +18,10 @@ use Rattle.let_types.specs.Parts.{applied_type, field_type, held_type, opened_ty
 use Rattle.let_types.proofs.Knowing.{but_last_snoc, with_frames, with_names}
 use Rattle.c_notation.specs.declared.page.Scope.{Scope}
 use Rattle.c_notation.specs.Types.{type_text, types_text}
-use Rattle.c_notation.specs.Notation.{applied_text, decl_note, head_text, note_text, bound_text, types_behind, value_text, values_after, declared_text}
-use Rattle.c_notation.specs.Notation.{term_text, c_text}
-use Rattle.c_notation.specs.Walk.{Lines, Sheet, scope_of, lines, with_text, with_values, push, gathered, past, shut}
-use Rattle.c_notation.specs.Walk.{name_note, turn}
+use Rattle.c_notation.specs.Notation.{applied_text, bound_text, c_text, decl_note, declared_text, head_text, note_text}
+use Rattle.c_notation.specs.Notation.{term_text, types_behind, value_text, values_after}
+use Rattle.c_notation.specs.Walk.{Lines, Sheet, scope_of, with_text, with_values, push, gathered, past, shut}
+use Rattle.c_notation.specs.Walk.{name_note}
 use Rattle.c_notation.specs.Walk.{step, walk, blank}
 use Rattle.c_notation.proofs.Sheets.{before, gather_some, level_is, past_some, sheet, stack, stack_length, turn_is}
 use Rattle.c_notation.proofs.Holding.{Holds, Kept, holds_behind, holds_code, holds_none, kept_behind, kept_holds}

@@ -10,8 +10,9 @@ use Rattle.calc_core.specs.Walks.{shift}
 use Rattle.calc_core.proofs.Bridge.{ren_lift}
 use Rattle.calc_core.proofs.Lifts.{lift_suc}
 use Rattle.idx_core.specs.Laws.{shift_add_law, shift_zero_law}
-use Rattle.c_terms.specs.C.{CTy, CTys, NoCTys, MoreCTys, TCInt, TCCode, TCTuple, CVal, CVar, CInt, CTuple, CCode, CApply}
-use Rattle.c_terms.specs.C.{CPack, CVals, NoCVals, MoreCVals, CDecl, CName, CProj, CArith, CUnpack, CCell, CGet, CSet}
+use Rattle.c_terms.specs.C.{CTy, CTys, NoCTys, MoreCTys, TCInt, TCCode, TCTuple, CVal, CVar, CInt, CTuple, CCode}
+use Rattle.c_terms.specs.C.{CApply, CPack, CVals, NoCVals, MoreCVals, CDecl}
+use Rattle.c_terms.specs.C.{CName, CProj, CArith, CUnpack, CCell, CGet, CSet}
 use Rattle.c_terms.specs.C.{ccount}
 use Rattle.c_terms.specs.Scope.{CScoped_v, CScoped_vs}
 use Rattle.c_terms.specs.Typing.{cargs_onto, crens_scope}

@@ -1,6 +1,6 @@
 -- The steps of the walk along a program's nodes, and its end.
-use Rattle.std.proofs.Common.{◌≡◌, ◌≤◌, ◌<◌, ℕ, zero, suc, ◌+◌, Bool, true, false, List, [], ◌∷◌, length, drop, get_or, refl, sym}
-use Rattle.std.proofs.Common.{Option, None, Some, ap, ap₂, ◌∙◌, arith, map, subst, Result, OnOk}
+use Rattle.std.proofs.Common.{◌≡◌, ◌≤◌, ◌<◌, ℕ, zero, suc, ◌+◌, Bool, true, false, List, [], ◌∷◌, length, drop, get_or}
+use Rattle.std.proofs.Common.{refl, sym, Option, None, Some, ap, ap₂, ◌∙◌, arith, map, subst, Result, OnOk}
 use Rattle.std.proofs.Math.ListN.{drop_of_length-le}
 use Rattle.std.proofs.Math.Logic.{∥∥₁_elim}
 use Rattle.std.proofs.Props.{props}
@@ -24,7 +24,8 @@ use Rattle.c_notation.proofs.Walking.{nodes_make}
 use Rattle.idx_core.proofs.Lists.{next_item}
 
 pub as_step : {T E : Type 0} (r : Result T E) (t : List ℕ) (n m : CNd) (g h : Page) → n ≡ m →
-    OnOk r ((p : Sheet) → IsPage g p → IsPage h (step t m p)) → OnOk r ((p : Sheet) → IsPage g p → IsPage h (step t n p))
+    OnOk r ((p : Sheet) → IsPage g p → IsPage h (step t m p)) →
+    OnOk r ((p : Sheet) → IsPage g p → IsPage h (step t n p))
 as_step r t n m g h e = subst (λ x. OnOk r ((p : Sheet) → IsPage g p → IsPage h (step t x p))) (sym e)
 
 -- nothing stands behind a name where types are not shown

@@ -3,8 +3,9 @@
 -- closed, so names begin anew in it: its own is the first, and its arguments' the next.
 use Rattle.std.specs.Prelude.{ℕ, suc, ◌+◌, ◌-◌, Bool, true, false, List, [], ◌∷◌, ◌++◌, codes, decimal}
 use Rattle.page_core.specs.Names.{margin, number, op_sign, separator, type_name, type_names, value_name}
-use Rattle.c_terms.specs.C.{CTy, CTys, NoCTys, MoreCTys, TCCode, CVal, CVar, CInt, CTuple, CCode, CApply, CPack, CVals, NoCVals}
-use Rattle.c_terms.specs.C.{MoreCVals, CDecl, CName, CProj, CArith, CUnpack, CCell, CGet, CSet, CTm, CLet, CCall, CIf}
+use Rattle.c_terms.specs.C.{CTy, CTys, NoCTys, MoreCTys, TCCode, CVal, CVar, CInt, CTuple, CCode, CApply, CPack}
+use Rattle.c_terms.specs.C.{CVals, NoCVals, MoreCVals, CDecl, CName, CProj, CArith}
+use Rattle.c_terms.specs.C.{CUnpack, CCell, CGet, CSet, CTm, CLet, CCall, CIf}
 use Rattle.c_terms.specs.C.{CHalt, ccount}
 use Rattle.c_terms.specs.Typing.{cargs_onto}
 use Rattle.let_types.specs.Closed.{decl_type, names_behind}
@@ -61,7 +62,9 @@ abbrev mutual
   value_text b n m k (CInt z) = number z
   value_text b n m k (CTuple vs) = codes "<" ++ values_after b 0 n m k vs ++ codes ">"
   value_text b n m k (CCode owes args body) =
-      head_text owes args ++ term_text b (cargs_onto args (TCCode owes args ∷ [])) owes (suc (ccount args)) (k + 1) body ++ margin k ++ codes "}"
+      head_text owes args
+      ++ term_text b (cargs_onto args (TCCode owes args ∷ [])) owes (suc (ccount args)) (k + 1) body ++ margin k
+      ++ codes "}"
   value_text b n m k (CApply v ts) = value_text b n m k v ++ applied_text n ts
   value_text b n m k (CPack h v s) =
       codes "pack [" ++ type_text n h ++ codes ", " ++ value_text b n m k v ++ codes "] as " ++ type_text n s
@@ -84,8 +87,8 @@ abbrev mutual
   -- a term inside n type names and m names of the types g
   pub term_text : Bool → List CTy → ℕ → ℕ → ℕ → CTm → List ℕ
   term_text b g n m k (CLet d t) =
-      margin k ++ codes "let " ++ bound_text n m (decl_note b g n d) d ++ codes " = " ++ declared_text b n m k d ++ codes "\n"
-      ++ term_text b (names_behind g d) (types_behind n d) (suc m) k t
+      margin k ++ codes "let " ++ bound_text n m (decl_note b g n d) d ++ codes " = " ++ declared_text b n m k d
+      ++ codes "\n" ++ term_text b (names_behind g d) (types_behind n d) (suc m) k t
   term_text b g n m k (CCall f ts vs) =
       margin k ++ value_text b n m k f ++ codes "[" ++ types_text n ts ++ codes "](" ++ values_after b 0 n m k vs
       ++ codes ")\n"

@@ -11,8 +11,8 @@ pub returns : goal.returns
 returns c =
     let κ = known c.args.self.now in
     let owes = c.args.owes in
-    entered κ (known c.put_own.new.self) c.args.types owes (ctys c.args.args.now) c.replace-outer.new.dest c.replace-outer.result
-    c.push_front.new.self.items c.put_own.new.self.around.items
+    entered κ (known c.put_own.new.self) c.args.types owes (ctys c.args.args.now) c.replace-outer.new.dest
+    c.replace-outer.result c.push_front.new.self.items c.put_own.new.self.around.items
     (c.in_ok-put_own.ensures
     ∙ ap (λ t. put κ (own c.args.types t)) (tree_Code owes c.in_ok-args.args ∙ ap (TCCode owes) c.in_ok-args.ensures))
     (ap frame c.replace-outer.ensures.value) c.in_ok-push_front.ensures.items refl

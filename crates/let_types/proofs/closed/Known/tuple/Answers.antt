@@ -1,5 +1,5 @@
-use Rattle.std.proofs.Common.{List, ◌≡◌, ◌≤◌, ◌-◌, ◌∙◌, ◌++◌, ◌∷◌, [], ℕ, ap, ap₂, arith, drop, length, length-drop, map}
-use Rattle.std.proofs.Common.{refl, take}
+use Rattle.std.proofs.Common.{List, ◌≡◌, ◌≤◌, ◌-◌, ◌∙◌, ◌++◌, ◌∷◌, [], ℕ, ap, ap₂, arith, drop, length}
+use Rattle.std.proofs.Common.{length-drop, map, refl, take}
 use Rattle.std.proofs.lemmas.List.{take_all}
 use Rattle.std.proofs.lemmas.Result.{on_ok_weaker}
 use Rattle.calc_core.proofs.Trees.{tree_Tuple}

@@ -1,3 +1,4 @@
+pub mod Holding
 pub mod Listed
 pub mod Pages
 mod Rows

@@ -125,3 +125,8 @@ pub applied_done : (n : ℕ) (ts : List CType) (old t1 t2 t3 : List ℕ) → 0 <
 applied_done n [] old t1 t2 t3 long e f g = absurd (omega (arith, long))
 applied_done n (t ∷ ts) old t1 t2 t3 long e f g =
     bracketed (codes "[") (types_text n (ctys (t ∷ ts))) (codes "]") old t1 t2 t3 e f g
+
+-- pieces of a line, one after the other
+pub line_of : (m l a c v n e t0 t1 t2 t3 t4 t5 : List ℕ) → t0 ≡ m ++ l → t1 ≡ t0 ++ a → t2 ≡ t1 ++ c → t3 ≡ t2 ++ v →
+    t4 ≡ t3 ++ n → t5 ≡ t4 ++ e → t5 ≡ m ++ (l ++ (a ++ (c ++ (v ++ (n ++ e)))))
+line_of m l a c v n e t0 t1 t2 t3 t4 t5 e0 e1 e2 e3 e4 e5 = rw (e5, e4, e3, e2, e1, e0) (simp append_assoc)

@@ -1,5 +1,5 @@
 -- Worked types and a worked program.
-use Rattle.std.proofs.Common.{◌≡◌, ◌++◌, pos, negsuc, codes, refl}
+use Rattle.std.proofs.Common.{◌≡◌, ◌++◌, pos, negsuc, codes, false, true, refl}
 use Rattle.std.specs.Fmt.{digits}
 use Rattle.idx_core.specs.declared.arith.Op.TheVariants.{Mul}
 use Rattle.c_terms.specs.C.{CTy, CTys, TCInt, TCVar, TCTuple, TCCode, TCExists, TCRef, NoCTys, MoreCTys, CVar, CInt}
@@ -71,7 +71,7 @@ forms =
     (CLet (CName (CPack TCInt (CTuple (MoreCVals (CVar 6) NoCVals)) (TCExists (TCTuple (one (TCVar 0))))))
     (CLet (CUnpack (CVar 0)) (CIf (CVar 8) branch (CHalt (CVar 5)))))))))))
 
-forms_text : c_text forms ≡
+forms_text : c_text false forms ≡
     codes "let x0 = 5\nlet x1 = ref x0\nlet x2 = !x1\nlet x3 = x2 * -3\nlet x4 = x1 := x3\nlet x5 = <x0, x1>\n"
     ++ codes "let x6 = #2 x5\nlet x7 = pack [int, <x0>] as some a. <a>\nlet [a, x8] = unpack x7\nif0 x0 then\n"
     ++ codes "  code x0[a, b](x1: a, x2: b) {\n    halt x2\n  }[a][int](x8, 7)\nelse\n  halt x3\n"
@@ -79,6 +79,29 @@ unfolding digits
 forms_text = refl
 
 -- a value that is applied to no types is written as it is
-applied_to_none : c_text (CHalt (CApply (CInt (pos 1)) NoCTys)) ≡ codes "halt 1\n"
+applied_to_none : c_text false (CHalt (CApply (CInt (pos 1)) NoCTys)) ≡ codes "halt 1\n"
 unfolding digits
 applied_to_none = refl
+
+-- with types: a cell that is set gives the empty tuple, and an unpacked value's type names its type name
+typed_text : c_text true forms ≡
+    codes "let x0: int = 5\nlet x1: ref int = ref x0\nlet x2: int = !x1\nlet x3: int = x2 * -3\n"
+    ++ (codes "let x4: <> = x1 := x3\nlet x5: <int, ref int> = <x0, x1>\nlet x6: ref int = #2 x5\n"
+    ++ (codes "let x7: some a. <a> = pack [int, <x0>] as some a. <a>\nlet [a, x8: <a>] = unpack x7\nif0 x0 then\n"
+    ++ codes "  code x0[a, b](x1: a, x2: b) {\n    halt x2\n  }[a][int](x8, 7)\nelse\n  halt x3\n"))
+unfolding digits
+typed_text = refl
+
+-- names begin anew in a code: a code that calls itself, applied to a type, and a type that is shown under one more name
+abbrev again : CTm
+again =
+    CLet (CName (CCode 1 (two (TCVar 0) (TCExists (TCVar 0))) (CLet (CUnpack (CVar 0)) (CLet (CName (CApply (CVar 3)
+    (one (TCVar 0)))) (CCall (CVar 0) NoCTys (pair (CVar 1) (CVar 2)))))))
+    (CHalt (CInt (pos 0)))
+
+again_text : c_text true again ≡
+    codes "let x0: code[a](a, some b. b) = code x0[a](x1: a, x2: some b. b) {\n"
+    ++ (codes "  let [b, x3: b] = unpack x2\n  let x4: code[](b, some c. c) = x0[b]\n  x4[](x3, x2)\n}\n"
+    ++ codes "halt 0\n")
+unfolding digits
+again_text = refl

@@ -1,13 +1,15 @@
 -- What is made of a program's nodes one by one: for each body that is open its text so far, and the texts of the values
 -- that wait. The nodes of a term make the text of that term; what others make is of no matter.
-use Rattle.std.specs.Prelude.{ℕ, zero, suc, ◌+◌, List, [], ◌∷◌, ◌++◌, Bool, true, false, length, codes, decimal}
+use Rattle.std.specs.Prelude.{ℕ, zero, suc, ◌+◌, List, [], ◌∷◌, ◌++◌, Option, Some, None, Bool, true, false, length}
+use Rattle.std.specs.Prelude.{codes, decimal}
 use Rattle.page_core.specs.Names.{margin, number, op_sign, separator, type_name, value_name}
 use Rattle.c_terms.specs.C.{CTy, CTys}
 use Rattle.c_terms.specs.Stream.{CNd, MVar, MInt, MTuple, MCode, MEnd, MApply, MPack, MName, MProj, MArith, MUnpack}
 use Rattle.c_terms.specs.Stream.{MCell, MGet, MSet, MCall, MIf, MElse, MHalt}
 use Rattle.c_notation.specs.declared.page.Scope.{Scope}
 use Rattle.c_notation.specs.Types.{type_text, types_text}
-use Rattle.c_notation.specs.Notation.{applied_text, head_text}
+use Rattle.c_notation.specs.Notation.{applied_text, head_text, note_text}
+use Rattle.let_types.specs.Known.{Entry, Known, known_step, level_bound}
 
 -- a body: its text so far, the values that wait, the last first, whether the text ends in a call that waits for its
 -- arguments, its scope, and the scopes of the second branches to come
@@ -93,20 +95,20 @@ line p front behind = record {
 abbrev pub begun : Sheet → List ℕ → List ℕ
 begun p word = margin p.body.scope.indent ++ word
 
--- a name is declared as the last value, with a word in front of it
-abbrev pub declare : Sheet → ℕ → List ℕ → Sheet
-declare p level word =
-    line p (begun p (codes "let " ++ (value_name level ++ (codes " = " ++ word)))) (codes "\n")
+-- a name is declared as the last value, with a word in front of it and a text behind the name
+abbrev pub declare : Sheet → ℕ → List ℕ → List ℕ → Sheet
+declare p level note word =
+    line p (begun p (codes "let " ++ (value_name level ++ (note ++ (codes " = " ++ word))))) (codes "\n")
 
 -- the last two values become one, with a sign between them
 abbrev pub pair : Sheet → List ℕ → Sheet
 pair p sign = push (popped (popped p)) (last (others p.body.values) ++ (sign ++ last p.body.values))
 
 -- a type's name and a value's are declared as what the last value holds
-abbrev pub unpack : Sheet → ℕ → Sheet
-unpack p level = with_scope
+abbrev pub unpack : Sheet → ℕ → List ℕ → Sheet
+unpack p level note = with_scope
     (line p (begun p (codes "let [" ++ (type_name p.body.scope.types ++ (codes ", " ++ (value_name level
-    ++ codes "] = unpack "))))) (codes "\n"))
+    ++ (note ++ codes "] = unpack ")))))) (codes "\n"))
     (scope_of (p.body.scope.types + 1) p.body.scope.indent) p.body.branches
 
 -- a code begins with this line, inside so many type names
@@ -169,30 +171,46 @@ pack_front n h = codes "pack [" ++ (type_text n h ++ codes ", ")
 abbrev pub pack_behind : ℕ → CTy → List ℕ
 pack_behind n s = codes "] as " ++ type_text n s
 
--- one node more
-abbrev pub step : CNd → Sheet → Sheet
-step (MVar l) p = push p (value_name l)
-step (MInt z) p = push p (number z)
-step (MTuple n) p = tuple p n
-step (MCode owes args) p = enter p owes args
-step MEnd p = leave p p.around
-step (MApply ts) p = wrap p [] (applied_text p.body.scope.types ts)
-step (MPack h s) p = wrap p (pack_front p.body.scope.types h) (pack_behind p.body.scope.types s)
-step (MName l) p = declare p l []
-step (MProj l i) p = declare p l (codes "#" ++ (decimal i ++ codes " "))
-step (MArith l op) p = declare (pair p (op_sign op)) l []
-step (MUnpack l) p = unpack p l
-step (MCell l) p = declare p l (codes "ref ")
-step (MGet l) p = declare p l (codes "!")
-step (MSet l) p = declare (pair p (codes " := ")) l []
-step (MCall ts n) p = call p ts
-step MIf p = choose p
-step MElse p = turn p p.body.branches
-step MHalt p = line p (begun p (codes "halt ")) (codes "\n")
+-- one node more, with a text behind the name that it declares
+abbrev pub step : List ℕ → CNd → Sheet → Sheet
+step note (MVar l) p = push p (value_name l)
+step note (MInt z) p = push p (number z)
+step note (MTuple n) p = tuple p n
+step note (MCode owes args) p = enter p owes args
+step note MEnd p = leave p p.around
+step note (MApply ts) p = wrap p [] (applied_text p.body.scope.types ts)
+step note (MPack h s) p = wrap p (pack_front p.body.scope.types h) (pack_behind p.body.scope.types s)
+step note (MName l) p = declare p l note []
+step note (MProj l i) p = declare p l note (codes "#" ++ (decimal i ++ codes " "))
+step note (MArith l op) p = declare (pair p (op_sign op)) l note []
+step note (MUnpack l) p = unpack p l note
+step note (MCell l) p = declare p l note (codes "ref ")
+step note (MGet l) p = declare p l note (codes "!")
+step note (MSet l) p = declare (pair p (codes " := ")) l note []
+step note (MCall ts n) p = call p ts
+step note MIf p = choose p
+step note MElse p = turn p p.body.branches
+step note MHalt p = line p (begun p (codes "halt ")) (codes "\n")
 
-abbrev pub walk : List CNd → Sheet → Sheet
-walk [] p = p
-walk (n ∷ ns) p = walk ns (step n p)
+-- what stands behind the name of a level
+abbrev pub name_note : Bool → List Entry → ℕ → List ℕ
+name_note b [] l = []
+name_note b (e ∷ es) zero = note_text b e.types e.ty
+name_note b (e ∷ es) (suc l) = name_note b es l
+
+abbrev pub note_at : Bool → List Entry → Option ℕ → List ℕ
+note_at b es None = []
+note_at b es (Some l) = name_note b es l
+
+-- what stands behind the name that a node declares, by what is known once it is declared
+abbrev pub noted : Bool → CNd → Known → List ℕ
+noted b n κ = note_at b κ.body.names (level_bound n)
+
+-- the nodes in turn, by what is known of the types of names
+abbrev pub walk : Bool → List CNd → Known → Sheet → Sheet
+walk b [] κ p = p
+walk b (n ∷ ns) κ p =
+    let after = known_step p.body.scope.types n κ in walk b ns after (step (noted b n after) n p)
 
 -- nothing is written yet
 abbrev pub blank : Sheet

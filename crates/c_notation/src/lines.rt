@@ -1,6 +1,6 @@
 // Lines.
 ghost use Rattle.std.specs.Prelude.{◌≡◌, ◌++◌, codes, IfOk, OnOk};
-ghost use Rattle.page_core.specs.Names.{margin};
+ghost use Rattle.page_core.specs.Names.{margin, type_name, value_name};
 ghost use Rattle.c_terms.specs.Read.{ctys};
 ghost use Rattle.c_notation.specs.Standing.{IsPage};
 ghost use Rattle.c_notation.specs.Walk.{Sheet, begun, line, declare, unpack, call, choose};
@@ -52,28 +52,46 @@ impl Page {
         self.line(front, b"\n")
     }
 
-    // A name is declared as the last value, with a word in front of it.
-    pub(crate) fn declare(&mut self, level: u64, word: &[u8]) -> Result<(), OutOfMemory>
-        ensures { OnOk result ((p : Sheet) → IsPage self.old p → IsPage self.new (declare p level word.now)) }
+    // A name is declared as the last value, with a word in front of it and a text behind the name.
+    pub(crate) fn declare(
+        &mut self,
+        level: u64,
+        note: &[u8],
+        word: &[u8],
+    ) -> Result<(), OutOfMemory>
+        ensures { OnOk result ((p : Sheet) → IsPage self.old p →
+            IsPage self.new (declare p level note.now word.now)) }
     {
         let mut front = self.begin(b"let ")?;
         write_value_name(&mut front, level)?;
+        front.extend_from_slice(note)?;
         front.extend_from_slice(b" = ")?;
         front.extend_from_slice(word)?;
         self.line(front, b"\n")
     }
 
-    // A type's name and a value's are declared as what the last value holds.
-    pub(crate) fn unpack(&mut self, level: u64) -> Result<(), OutOfMemory>
-        ensures { OnOk result ((p : Sheet) → IsPage self.old p → IsPage self.new (unpack p level)) }
+    // What a line begins with that declares a type's name and a value's, with a text behind the latter.
+    fn begin_unpack(&self, level: u64, note: &[u8]) -> Result<Vec<u8>, OutOfMemory>
+        ensures { IfOk result (λ front. front.items ≡ margin self.now.body.scope.indent ++ (codes "let [" ++
+            (type_name self.now.body.scope.types ++ (codes ", " ++ (value_name level ++
+            (note.now ++ codes "] = unpack ")))))) }
+    {
+        let mut front = self.begin(b"let [")?;
+        write_type_name(&mut front, self.body.scope.types)?;
+        front.extend_from_slice(b", ")?;
+        write_value_name(&mut front, level)?;
+        front.extend_from_slice(note)?;
+        front.extend_from_slice(b"] = unpack ")?;
+        Ok(front)
+    }
+
+    // A type's name and a value's are declared as what the last value holds, with a text behind the value's name.
+    pub(crate) fn unpack(&mut self, level: u64, note: &[u8]) -> Result<(), OutOfMemory>
+        ensures { OnOk result ((p : Sheet) → IsPage self.old p → IsPage self.new (unpack p level note.now)) }
     {
         let scope = self.body.scope;
         let types = sum(scope.types, 1)?;
-        let mut front = self.begin(b"let [")?;
-        write_type_name(&mut front, scope.types)?;
-        front.extend_from_slice(b", ")?;
-        write_value_name(&mut front, level)?;
-        front.extend_from_slice(b"] = unpack ")?;
+        let front = self.begin_unpack(level, note)?;
         self.line(front, b"\n")?;
         self.body.scope = Scope {
             types,

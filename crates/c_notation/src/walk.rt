@@ -12,40 +12,40 @@ use page_core::{write_natural, write_op};
 
 impl Page {
     // A field of the last value is named.
-    fn project(&mut self, level: u64, field: u64) -> Result<(), OutOfMemory>
+    fn project(&mut self, level: u64, note: &[u8], field: u64) -> Result<(), OutOfMemory>
         ensures { OnOk result ((p : Sheet) → IsPage self.old p →
-            IsPage self.new (declare p level (codes "#" ++ (decimal field ++ codes " ")))) }
+            IsPage self.new (declare p level note.now (codes "#" ++ (decimal field ++ codes " ")))) }
     {
         let mut word = Vec::new(self.alloc);
         word.extend_from_slice(b"#")?;
         write_natural(&mut word, field)?;
         word.extend_from_slice(b" ")?;
-        self.declare(level, &word)
+        self.declare(level, note, &word)
     }
 
     // The result of an operation on the last two values is named.
-    fn arith(&mut self, level: u64, op: Op) -> Result<(), OutOfMemory>
+    fn arith(&mut self, level: u64, note: &[u8], op: Op) -> Result<(), OutOfMemory>
         ensures { OnOk result ((p : Sheet) → IsPage self.old p →
-            IsPage self.new (declare (pair p (op_sign op)) level [])) }
+            IsPage self.new (declare (pair p (op_sign op)) level note.now [])) }
     {
         let mut sign = Vec::new(self.alloc);
         write_op(&mut sign, op)?;
         self.pair(&sign)?;
-        self.declare(level, b"")
+        self.declare(level, note, b"")
     }
 
     // A cell is set to the last value.
-    fn set(&mut self, level: u64) -> Result<(), OutOfMemory>
+    fn set(&mut self, level: u64, note: &[u8]) -> Result<(), OutOfMemory>
         ensures { OnOk result ((p : Sheet) → IsPage self.old p →
-            IsPage self.new (declare (pair p (codes " := ")) level [])) }
+            IsPage self.new (declare (pair p (codes " := ")) level note.now [])) }
     {
         self.pair(b" := ")?;
-        self.declare(level, b"")
+        self.declare(level, note, b"")
     }
 
-    // One more node.
-    pub(crate) fn step(&mut self, node: &CNode) -> Result<(), OutOfMemory>
-        ensures { OnOk result ((p : Sheet) → IsPage self.old p → IsPage self.new (step (cnode node.now) p)) }
+    // One more node, with a text behind the name that it declares.
+    pub(crate) fn step(&mut self, node: &CNode, note: &[u8]) -> Result<(), OutOfMemory>
+        ensures { OnOk result ((p : Sheet) → IsPage self.old p → IsPage self.new (step note.now (cnode node.now) p)) }
     {
         match node {
             CNode::Var(level) => self.variable(*level),
@@ -55,13 +55,13 @@ impl Page {
             CNode::End => self.leave(),
             CNode::Apply(types) => self.apply(types),
             CNode::Pack { hidden, shape } => self.pack(hidden, shape),
-            CNode::Name(level) => self.declare(*level, b""),
-            CNode::Proj { level, field } => self.project(*level, *field),
-            CNode::Arith { level, op } => self.arith(*level, *op),
-            CNode::Unpack(level) => self.unpack(*level),
-            CNode::Cell(level) => self.declare(*level, b"ref "),
-            CNode::Get(level) => self.declare(*level, b"!"),
-            CNode::Set(level) => self.set(*level),
+            CNode::Name(level) => self.declare(*level, note, b""),
+            CNode::Proj { level, field } => self.project(*level, note, *field),
+            CNode::Arith { level, op } => self.arith(*level, note, *op),
+            CNode::Unpack(level) => self.unpack(*level, note),
+            CNode::Cell(level) => self.declare(*level, note, b"ref "),
+            CNode::Get(level) => self.declare(*level, note, b"!"),
+            CNode::Set(level) => self.set(*level, note),
             CNode::Call { types, count: _ } => self.call(types),
             CNode::If0 => self.choose(),
             CNode::Else => self.turn(),

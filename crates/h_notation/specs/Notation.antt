@@ -1,9 +1,10 @@
 -- The notation of hoisted programs, with the types of what `let`s bind or without. Inside m value names the next one
 -- is `x` and m, and the variable i is the one that has i others between. A block is `L` and its label, which counts
 -- from 0; fields count from 1.
-use Rattle.std.specs.Prelude.{ℕ, suc, ◌+◌, ◌-◌, Bool, true, false, List, [], ◌∷◌, ◌++◌, codes, decimal}
+use Rattle.std.specs.Prelude.{ℕ, suc, ◌+◌, ◌-◌, Bool, List, [], ◌∷◌, ◌++◌, codes, decimal}
 use Rattle.c_terms.specs.C.{CTy, CTys, MoreCTys, NoCTys, ccount}
 use Rattle.c_terms.specs.Typing.{cargs_onto}
+pub use Rattle.c_notation.specs.Notation.{note_text}
 use Rattle.c_notation.specs.Types.{type_text, types_text}
 use Rattle.h_terms.specs.H.{HApply, HArith, HBlk, HBlks, HCall, HCell, HDecl, HGet, HHalt, HIf, HInt, HLabel, HLet}
 use Rattle.h_terms.specs.H.{HName, HPack, HProj, HSet, HTm, HTuple, HUnpack, HVal, HVals, HVar, MoreHVals, NoHVals}
@@ -31,11 +32,6 @@ abbrev mutual
   pub values_text : ℕ → ℕ → ℕ → HVals → List ℕ
   values_text i n m NoHVals = []
   values_text i n m (MoreHVals v vs) = separator i ++ (value_text n m v ++ values_text (suc i) n m vs)
-
--- what stands behind a name that is given to a value of this type, where types are shown
-abbrev pub note_text : Bool → ℕ → CTy → List ℕ
-note_text true n t = codes ": " ++ type_text n t
-note_text false n t = []
 
 -- the name that a declaration gives, and what stands behind it
 abbrev pub let_text : ℕ → List ℕ → List ℕ

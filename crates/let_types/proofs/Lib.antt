@@ -1,5 +1,6 @@
 pub mod Naming
 pub mod OneMore
+pub mod Knowing
 mod Placing
 mod Stacking
 mod Typed

@@ -1,5 +1,7 @@
 pub mod Closed
 pub mod Hoisted
+pub mod Known
+pub mod KnownRead
 pub mod Laws
 pub mod Names
 pub mod Parts

@@ -1,12 +1,14 @@
 //! The types of what the declarations of closed and hoisted programs name.
 #![tactic(auto)]
 
+mod closed;
 mod declaring;
 mod hoisted;
 mod laws;
 mod named;
 mod walks;
 
+pub use closed::{Known, level_bound};
 pub use declaring::{declare, types_after};
 pub use hoisted::types_of_parts;
 pub use laws::{closed_types_law, cps_types_law, hoisted_types_law};

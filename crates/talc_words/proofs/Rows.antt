@@ -259,12 +259,12 @@ unfolding command_of clap_on_literals
 show_source = refl
 
 show_cps : command_of (codes "talc" ∷ codes "show" ∷ codes "x.f" ∷ codes "--form" ∷ codes "cps" ∷ [])
-    ≡ Some (Shows (codes "x.f") form.Cps)
+    ≡ Some (Shows (codes "x.f") (form.Cps false))
 unfolding command_of clap_on_literals
 show_cps = refl
 
 show_closed : command_of (codes "talc" ∷ codes "show" ∷ codes "x.f" ∷ codes "--form" ∷ codes "closed" ∷ [])
-    ≡ Some (Shows (codes "x.f") form.Closed)
+    ≡ Some (Shows (codes "x.f") (form.Closed false))
 unfolding command_of clap_on_literals
 show_closed = refl
 
@@ -285,7 +285,7 @@ show_assembly = refl
 
 -- the same with the option first and in one word
 show_first : command_of (codes "talc" ∷ codes "show" ∷ codes "--form=cps" ∷ codes "x.f" ∷ [])
-    ≡ Some (Shows (codes "x.f") form.Cps)
+    ≡ Some (Shows (codes "x.f") (form.Cps false))
 unfolding command_of clap_on_literals
 show_first = refl
 
@@ -350,12 +350,14 @@ unfolding command_of clap_on_literals
 show_types_source = refl
 
 show_types_cps :
-    command_of (codes "talc" ∷ codes "show" ∷ codes "x.f" ∷ codes "--form=cps" ∷ codes "--types" ∷ []) ≡ None
+    command_of (codes "talc" ∷ codes "show" ∷ codes "x.f" ∷ codes "--form=cps" ∷ codes "--types" ∷ [])
+    ≡ Some (Shows (codes "x.f") (form.Cps true))
 unfolding command_of clap_on_literals
 show_types_cps = refl
 
 show_types_closed :
-    command_of (codes "talc" ∷ codes "show" ∷ codes "x.f" ∷ codes "--form=closed" ∷ codes "--types" ∷ []) ≡ None
+    command_of (codes "talc" ∷ codes "show" ∷ codes "x.f" ∷ codes "--form=closed" ∷ codes "--types" ∷ [])
+    ≡ Some (Shows (codes "x.f") (form.Closed true))
 unfolding command_of clap_on_literals
 show_types_closed = refl
 

@@ -48,8 +48,8 @@ number_in name rows = option_and_then number_of (one_of name rows)
 abbrev pub form_named : Text → Option Form
 form_named name =
     if bytes_eq name (codes "source") then Some Source
-    else (if bytes_eq name (codes "cps") then Some Cps
-    else (if bytes_eq name (codes "closed") then Some Closed
+    else (if bytes_eq name (codes "cps") then Some (Cps false)
+    else (if bytes_eq name (codes "closed") then Some (Closed false)
     else (if bytes_eq name (codes "hoisted") then Some (Hoisted false)
     else (if bytes_eq name (codes "allocated") then Some (Allocated false)
     else (if bytes_eq name (codes "assembly") then Some Assembly else None)))))
@@ -65,8 +65,8 @@ flag_in name rows = option_map_or (λ t. bytes_eq t (codes "true")) (first_of na
 -- the same form with types, if it can be shown with them
 abbrev pub with_types : Form → Option Form
 with_types Source = None
-with_types Cps = None
-with_types Closed = None
+with_types (Cps typed) = Some (Cps true)
+with_types (Closed typed) = Some (Closed true)
 with_types (Hoisted typed) = Some (Hoisted true)
 with_types (Allocated typed) = Some (Allocated true)
 with_types Assembly = None

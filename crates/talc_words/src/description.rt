@@ -65,7 +65,7 @@ fn types<'a>(alloc: Global) -> Arg<'a>
     ensures local { result.global ≡ false }
 {
     let arg = Arg::new(alloc, "types").help(
-        "Shows the type of what each `let` binds, in the forms hoisted and allocated",
+        "Shows the type of what each `let` binds, in each form but source and assembly",
     );
     arg.long("types").action(ArgAction::SetTrue)
 }

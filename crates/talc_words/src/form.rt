@@ -9,9 +9,9 @@ pub enum Form {
     /// `source`: the source program itself.
     Source,
     /// `cps`: in continuation-passing style, after the CPS conversion.
-    Cps,
+    Cps { typed: bool },
     /// `closed`: after closure conversion.
-    Closed,
+    Closed { typed: bool },
     /// `hoisted`: after hoisting.
     Hoisted { typed: bool },
     /// `allocated`: with explicit allocation.
@@ -28,10 +28,10 @@ pub(crate) fn form_named(name: &str) -> Option<Form>
         return Some(Form::Source);
     }
     if name == "cps" {
-        return Some(Form::Cps);
+        return Some(Form::Cps { typed: false });
     }
     if name == "closed" {
-        return Some(Form::Closed);
+        return Some(Form::Closed { typed: false });
     }
     if name == "hoisted" {
         return Some(Form::Hoisted { typed: false });
@@ -50,7 +50,9 @@ pub(crate) fn with_types(form: Form) -> Option<Form>
     ensures { result ≡ with_types form }
 {
     match form {
-        Form::Source | Form::Cps | Form::Closed | Form::Assembly => None,
+        Form::Source | Form::Assembly => None,
+        Form::Cps { .. } => Some(Form::Cps { typed: true }),
+        Form::Closed { .. } => Some(Form::Closed { typed: true }),
         Form::Hoisted { .. } => Some(Form::Hoisted { typed: true }),
         Form::Allocated { .. } => Some(Form::Allocated { typed: true }),
     }

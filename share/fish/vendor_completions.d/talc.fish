@@ -24,7 +24,7 @@ complete -c talc -n '__fish_seen_subcommand_from trace' -l to -x -d 'The most in
 complete -c talc -n '__fish_seen_subcommand_from trace' -k -a '(__fish_complete_suffix .tal)'
 complete -c talc -n __fish_use_subcommand -a show -d 'Shows a form of the program of the source text IN'
 complete -c talc -n '__fish_seen_subcommand_from show' -l form -x -a 'source cps closed hoisted allocated assembly' -d 'The form: source, cps, closed, hoisted, allocated or assembly'
-complete -c talc -n '__fish_seen_subcommand_from show' -l types -d 'Shows the type of what each `let` binds, in the forms hoisted and allocated'
+complete -c talc -n '__fish_seen_subcommand_from show' -l types -d 'Shows the type of what each `let` binds, in each form but source and assembly'
 complete -c talc -n '__fish_seen_subcommand_from show' -k -a '(__fish_complete_suffix .f)'
 complete -c talc -n __fish_use_subcommand -a explain -d 'Shows what is wrong with the source text or TAL text IN'
 complete -c talc -n '__fish_seen_subcommand_from explain' -F

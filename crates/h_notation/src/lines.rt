@@ -8,7 +8,7 @@ ghost use Rattle.h_notation.specs.Scopes.{least};
 ghost use Rattle.c_terms.specs.Read.{ctys};
 
 use crate::scope::Scope;
-use c_notation::write_types;
+use kc_notation::write_types;
 use c_terms::CType;
 use h_terms::HForm;
 use idx_core::{Op, OutOfMemory};

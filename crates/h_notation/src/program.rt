@@ -10,7 +10,7 @@ ghost use Rattle.h_notation.specs.Notation.{args_text, block_text, blocks_text, 
 
 use crate::scope::Source;
 use crate::terms::write_term;
-use c_notation::write_type;
+use kc_notation::write_type;
 use c_terms::CType;
 use calc_core::copy;
 use h_terms::{HBlock, HProgram};

@@ -14,7 +14,7 @@ ghost use Rattle.h_notation.specs.Scopes.{Fit, Ready, Stepped};
 use crate::lines::write_form;
 use crate::parts::texts_of_parts;
 use crate::scope::{Scope, Source, Walk};
-use c_notation::write_type;
+use kc_notation::write_type;
 use c_terms::CType;
 use h_terms::{HForm, HNode};
 use idx_core::{OutOfMemory, sum};

@@ -1,8 +1,0 @@
-use Rattle.std.proofs.Common.{sym, ap, ◌∙◌}
-use Rattle.calc_core.proofs.Trees.{tree_is_tuple}
-use Rattle.c_notation.specs.Types.{is_closure}
-use Rattle.c_notation.proofs.closures.is_closure.Goals as goal
-
-pub returns-in-Tuple : goal.returns-in-Tuple
-returns-in-Tuple c = c.are_closure.ensures ∙ ap is_closure (sym (tree_is_tuple _ _ _ c.in-Tuple.is
-    c.deref.ensures.value))

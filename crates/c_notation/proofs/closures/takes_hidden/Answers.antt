@@ -1,8 +1,0 @@
-use Rattle.std.proofs.Common.{sym, ap, ◌∙◌}
-use Rattle.calc_core.proofs.Trees.{tree_is_code}
-use Rattle.c_notation.specs.Types.{takes_hidden}
-use Rattle.c_notation.proofs.closures.takes_hidden.Goals as goal
-
-pub returns-in-Code : goal.returns-in-Code
-returns-in-Code c = c.only_first.ensures ∙ ap takes_hidden (sym (tree_is_code _ _ _ _ c.in-Code.is
-    c.deref.ensures.value))

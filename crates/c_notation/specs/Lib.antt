@@ -1,4 +1,0 @@
-pub mod Notation
-pub mod Standing
-pub mod Types
-pub mod Walk

@@ -1,4 +1,0 @@
-mod Rows
-mod Stepping
-mod TypeTexts
-mod Walking

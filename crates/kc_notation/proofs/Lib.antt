@@ -1,0 +1,12 @@
+pub mod Holding
+pub mod Listed
+pub mod Pages
+mod ClosedRows
+pub mod Sheets
+pub mod ClosedStepping
+pub mod Turns
+pub mod ClosedWalking
+mod CpsRows
+mod CpsStepping
+mod CpsTypeTexts
+mod CpsWalking

@@ -1,0 +1,15 @@
+use Rattle.std.proofs.Common.{refl}
+use Rattle.kc_notation.proofs.Listed.{argument_more, arguments_done}
+use Rattle.kc_notation.proofs.bodies.write_arguments.Goals as goal
+
+pub loop-i-init : goal.loop-i-init
+loop-i-init c = refl
+
+pub loop-i-preserved : goal.loop-i-preserved
+loop-i-preserved c =
+    argument_more c.args.depth c.args.args.now c.loop-i.i _ _ _ _ _ _ _ c.index-args-i.is c.loop-i-test.true
+    c.loop-i.invariant c.in_ok-write_separator.ensures c.in_ok-write_value_name.ensures
+    c.in_ok-extend_from_slice.ensures.items c.in_ok-write_type.ensures
+
+pub returns : goal.returns
+returns c = arguments_done c.args.depth c.args.args.now c.loop-i.i _ _ c.loop-i-test.false c.loop-i.invariant

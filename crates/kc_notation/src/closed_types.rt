@@ -1,0 +1,129 @@
+// Types.
+ghost use Rattle.std.specs.Prelude.{◌≡◌, ◌++◌, ◌+◌, drop, codes, IfOk, OnOk};
+ghost use Rattle.page_core.specs.Names.{type_name, type_names};
+ghost use Rattle.c_terms.specs.Read.{ctree, ctys};
+ghost use Rattle.kc_notation.specs.ClosedTypes.{type_text, types_text, types_after, closure_text, closure_fields};
+ghost use Rattle.kc_notation.specs.ClosedTypes.{closure_code};
+
+use crate::closures::is_closure;
+use c_terms::CType;
+use idx_core::{OutOfMemory, sum};
+use page_core::{write_separator, write_type_name, write_type_names};
+
+// What a code or a closure begins with, up to its arguments, and how many type names are around these.
+fn write_owed(text: &mut Vec<u8>, word: &[u8], depth: u64, owes: u64) -> Result<u64, OutOfMemory>
+    ensures inner { IfOk result (λ inner. inner ≡ depth + owes) }
+    ensures written { OnOk result (text.new.items ≡
+        text.old.items ++ (word.now ++ type_names depth owes ++ codes "(")) }
+{
+    text.extend_from_slice(word)?;
+    write_type_names(text, depth, owes)?;
+    text.extend_from_slice(b"(")?;
+    let inner = sum(depth, owes)?;
+    Ok(inner)
+}
+
+fn write_some(text: &mut Vec<u8>, depth: u64) -> Result<(), OutOfMemory>
+    ensures { OnOk result (text.new.items ≡ text.old.items ++ (codes "some " ++ type_name depth ++ codes ". ")) }
+{
+    text.extend_from_slice(b"some ")?;
+    write_type_name(text, depth)?;
+    text.extend_from_slice(b". ")?;
+    Ok(())
+}
+
+/// Puts a type inside `depth` type names at the end of a text. `some b. <code[as](b, ts), b>`, where `ts` don't name
+/// `b`, is written `closure[as](ts)` (own choice). It takes time by the size of the type and by how deep packages nest
+/// in it. An error is want of memory; more type names around a place than a word counts are more than memory holds.
+#[cycle(types)]
+pub fn write_type(text: &mut Vec<u8>, t: &CType, depth: u64) -> Result<(), OutOfMemory>
+    ensures { OnOk result (text.new.items ≡ text.old.items ++ type_text depth (ctree t.now)) }
+{
+    match t {
+        CType::Int => {
+            text.extend_from_slice(b"int")?;
+            Ok(())
+        }
+        CType::Var(i) => write_type_name(text, depth.saturating_sub(1).saturating_sub(*i)),
+        CType::Tuple(ts) => {
+            text.extend_from_slice(b"<")?;
+            write_from(text, ts, 0, depth)?;
+            text.extend_from_slice(b">")?;
+            Ok(())
+        }
+        CType::Code { owes, args } => {
+            let inner = write_owed(text, b"code", depth, *owes)?;
+            write_from(text, args, 0, inner)?;
+            text.extend_from_slice(b")")?;
+            Ok(())
+        }
+        CType::Exists(t) => {
+            let inner = sum(depth, 1)?;
+            if is_closure(t) {
+                return write_closure(text, t, inner);
+            }
+            write_some(text, depth)?;
+            write_type(text, t, inner)
+        }
+        CType::Ref(t) => {
+            text.extend_from_slice(b"ref ")?;
+            write_type(text, t, depth)
+        }
+    }
+}
+
+// Several types, from a place on, with commas between them.
+#[cycle(types)]
+fn write_from(text: &mut Vec<u8>, ts: &[CType], from: usize, depth: u64) -> Result<(), OutOfMemory>
+    ensures { OnOk result (text.new.items ≡ text.old.items ++ types_after 0 depth (ctys (drop from ts.now))) }
+{
+    for i in from..ts.len() {
+        write_separator(text, (i - from) as u64)?;
+        write_type(text, &ts[i], depth)?;
+    }
+    Ok(())
+}
+
+// The closure whose code and environment are these two, as one type.
+#[cycle(types)]
+fn write_closure(text: &mut Vec<u8>, t: &CType, depth: u64) -> Result<(), OutOfMemory>
+    ensures { OnOk result (text.new.items ≡ text.old.items ++ closure_text depth (ctree t.now)) }
+{
+    match t {
+        CType::Tuple(ts) => write_closure_fields(text, ts, depth),
+        _ => Ok(()),
+    }
+}
+
+#[cycle(types)]
+fn write_closure_fields(text: &mut Vec<u8>, ts: &[CType], depth: u64) -> Result<(), OutOfMemory>
+    ensures { OnOk result (text.new.items ≡ text.old.items ++ closure_fields depth (ctys ts.now)) }
+{
+    if ts.is_empty() {
+        return Ok(());
+    }
+    write_closure_code(text, &ts[0], depth)
+}
+
+#[cycle(types)]
+fn write_closure_code(text: &mut Vec<u8>, t: &CType, depth: u64) -> Result<(), OutOfMemory>
+    ensures { OnOk result (text.new.items ≡ text.old.items ++ closure_code depth (ctree t.now)) }
+{
+    match t {
+        CType::Code { owes, args } => {
+            let inner = write_owed(text, b"closure", depth, *owes)?;
+            write_from(text, args, 1, inner)?;
+            text.extend_from_slice(b")")?;
+            Ok(())
+        }
+        _ => Ok(()),
+    }
+}
+
+/// Puts types inside `depth` type names at the end of a text, with commas between them. An error is as that of
+/// `write_type`.
+pub fn write_types(text: &mut Vec<u8>, ts: &[CType], depth: u64) -> Result<(), OutOfMemory>
+    ensures { OnOk result (text.new.items ≡ text.old.items ++ types_text depth (ctys ts.now)) }
+{
+    write_from(text, ts, 0, depth)
+}

@@ -1,0 +1,142 @@
+// Lines and codes.
+ghost use Rattle.std.specs.Prelude.{◌≡◌, ◌++◌, [], codes, IfOk, OnOk};
+ghost use Rattle.page_core.specs.Names.{margin};
+ghost use Rattle.k_terms.specs.Read.{ktree, ktys};
+ghost use Rattle.kc_notation.specs.Standing.{IsPage};
+ghost use Rattle.kc_notation.specs.ClosedWalk.{Sheet};
+ghost use Rattle.kc_notation.specs.CpsNotation.{note_text};
+ghost use Rattle.kc_notation.specs.CpsWalk.{call, declare, enter, noted, packed, unpack, unpack_word};
+
+use crate::cps_types::{code_line, write_type, write_types};
+use crate::{Page, Scope};
+use idx_core::{OutOfMemory, sum};
+use k_terms::KType;
+use page_core::{write_type_name, write_value_name};
+
+// What stands behind a name of this type, inside so many type names.
+fn write_note(text: &mut Vec<u8>, typed: bool, ty: &KType, depth: u64) -> Result<(), OutOfMemory>
+    ensures { OnOk result (text.new.items ≡ text.old.items ++ note_text typed depth (ktree ty.now)) }
+{
+    if typed {
+        text.extend_from_slice(b": ")?;
+        write_type(text, ty, depth)?;
+    }
+    Ok(())
+}
+
+// A name of this type is declared as the last value, with a word in front of it.
+pub(crate) fn declare(
+    page: &mut Page,
+    typed: bool,
+    level: u64,
+    ty: &KType,
+    word: &[u8],
+) -> Result<(), OutOfMemory>
+    ensures { OnOk result ((p : Sheet) → IsPage page.old p →
+        IsPage page.new (declare p level (noted typed p (ktree ty.now)) word.now)) }
+{
+    let depth = page.body.scope.types;
+    let mut front = page.begin(b"let ")?;
+    write_value_name(&mut front, level)?;
+    write_note(&mut front, typed, ty, depth)?;
+    front.extend_from_slice(b" = ")?;
+    front.extend_from_slice(word)?;
+    page.line(front, b"\n")
+}
+
+// The last value, as a package of this shape.
+fn package(page: &mut Page, hidden: &KType, shape: &KType) -> Result<(), OutOfMemory>
+    ensures { OnOk result ((p : Sheet) → IsPage page.old p →
+        IsPage page.new (packed p (ktree hidden.now) (ktree shape.now))) }
+{
+    let depth = page.body.scope.types;
+    let mut front = Vec::new(page.alloc);
+    front.extend_from_slice(b"pack [")?;
+    write_type(&mut front, hidden, depth)?;
+    front.extend_from_slice(b", ")?;
+    let mut behind = Vec::new(page.alloc);
+    behind.extend_from_slice(b"] as ")?;
+    write_type(&mut behind, shape, depth)?;
+    page.wrap(front, behind)
+}
+
+// A package of the last value is declared, as one of this shape.
+pub(crate) fn pack(
+    page: &mut Page,
+    typed: bool,
+    level: u64,
+    hidden: &KType,
+    shape: &KType,
+) -> Result<(), OutOfMemory>
+    ensures { OnOk result ((p : Sheet) → IsPage page.old p → IsPage page.new
+        (declare (packed p (ktree hidden.now) (ktree shape.now)) level (noted typed p (ktree shape.now)) [])) }
+{
+    package(page, hidden, shape)?;
+    declare(page, typed, level, shape, b"")
+}
+
+// What a line begins with that declares a type's name and a value's, of this type under the new name.
+fn begin_unpack(page: &Page, typed: bool, level: u64, ty: &KType) -> Result<Vec<u8>, OutOfMemory>
+    ensures { IfOk result (λ front. front.items ≡ margin page.now.body.scope.indent
+        ++ unpack_word typed page.now.body.scope.types level (ktree ty.now)) }
+{
+    let depth = page.body.scope.types;
+    let types = sum(depth, 1)?;
+    let mut front = page.begin(b"let [")?;
+    write_type_name(&mut front, depth)?;
+    front.extend_from_slice(b", ")?;
+    write_value_name(&mut front, level)?;
+    write_note(&mut front, typed, ty, types)?;
+    front.extend_from_slice(b"] = unpack ")?;
+    Ok(front)
+}
+
+// A type's name and a value's are declared as what the last value holds, of this type under the new name.
+pub(crate) fn unpack(
+    page: &mut Page,
+    typed: bool,
+    level: u64,
+    ty: &KType,
+) -> Result<(), OutOfMemory>
+    ensures { OnOk result ((p : Sheet) → IsPage page.old p →
+        IsPage page.new (unpack typed p level (ktree ty.now))) }
+{
+    let scope = page.body.scope;
+    let types = sum(scope.types, 1)?;
+    let front = begin_unpack(page, typed, level, ty)?;
+    page.line(front, b"\n")?;
+    page.body.scope = Scope {
+        types,
+        indent: scope.indent,
+    };
+    Ok(())
+}
+
+// A call of the last value, whose arguments follow.
+pub(crate) fn call(page: &mut Page, types: &[KType]) -> Result<(), OutOfMemory>
+    ensures { OnOk result ((p : Sheet) → IsPage page.old p → IsPage page.new (call p (ktys types.now))) }
+{
+    let mut behind = Vec::new(page.alloc);
+    behind.extend_from_slice(b"[")?;
+    write_types(&mut behind, types, page.body.scope.types)?;
+    behind.extend_from_slice(b"](")?;
+    let front = page.begin(b"")?;
+    page.line(front, &behind)?;
+    page.body.called = true;
+    Ok(())
+}
+
+// A code begins.
+pub(crate) fn enter(
+    page: &mut Page,
+    level: u64,
+    owes: u64,
+    args: &[KType],
+) -> Result<(), OutOfMemory>
+    ensures { OnOk result ((p : Sheet) → IsPage page.old p → IsPage page.new (enter p level owes (ktys args.now))) }
+{
+    let depth = page.body.scope.types;
+    let types = sum(depth, owes)?;
+    let head = code_line(page.alloc, depth, level, owes, args)?;
+    page.open(head, types)
+}

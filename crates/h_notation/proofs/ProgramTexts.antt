@@ -9,7 +9,7 @@ use Rattle.c_terms.specs.C.{CTy, ccount}
 use Rattle.c_terms.specs.Read.{ctree, ctys}
 use Rattle.c_terms.specs.Typing.{cargs_onto}
 use Rattle.calc_core.specs.declared.types.CoreType.{CoreType as CType}
-use Rattle.kc_notation.specs.ClosedTypes.{type_text}
+use Rattle.let_types.specs.TypeTexts.{type_text}
 use Rattle.h_terms.specs.H.{HBlks}
 use Rattle.h_terms.specs.Nodes.{h_block, h_blocks, h_tree}
 use Rattle.h_terms.specs.declared.node.HBlock.{HBlock}

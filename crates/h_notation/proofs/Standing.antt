@@ -10,7 +10,7 @@ use Rattle.page_core.specs.declared.pieces.Pieces.{Pieces}
 use Rattle.c_terms.specs.C.{CTy}
 use Rattle.c_terms.specs.Read.{ctys}
 use Rattle.calc_core.specs.declared.types.CoreType.{CoreType as CType}
-use Rattle.kc_notation.specs.ClosedTypes.{type_text, types_text}
+use Rattle.let_types.specs.TypeTexts.{type_text, types_text}
 use Rattle.h_terms.specs.H.{HPack, HTuple, HVal}
 use Rattle.h_terms.specs.Nodes.{at_last, more, reads, tied, tupled}
 use Rattle.h_terms.specs.declared.node.HPart.{HPart}

@@ -4,8 +4,8 @@
 use Rattle.std.specs.Prelude.{ℕ, suc, ◌+◌, ◌-◌, Bool, List, [], ◌∷◌, ◌++◌, codes, decimal}
 use Rattle.c_terms.specs.C.{CTy, CTys, MoreCTys, NoCTys, ccount}
 use Rattle.c_terms.specs.Typing.{cargs_onto}
-pub use Rattle.kc_notation.specs.ClosedNotation.{note_text}
-use Rattle.kc_notation.specs.ClosedTypes.{type_text, types_text}
+pub use Rattle.let_types.specs.TypeTexts.{note_text}
+use Rattle.let_types.specs.TypeTexts.{type_text, types_text}
 use Rattle.h_terms.specs.H.{HApply, HArith, HBlk, HBlks, HCall, HCell, HDecl, HGet, HHalt, HIf, HInt, HLabel, HLet}
 use Rattle.h_terms.specs.H.{HName, HPack, HProj, HSet, HTm, HTuple, HUnpack, HVal, HVals, HVar, MoreHVals, NoHVals}
 use Rattle.let_types.specs.Hoisted.{decl_type, names_behind}

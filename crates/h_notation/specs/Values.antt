@@ -5,7 +5,7 @@ use Rattle.page_core.specs.Pieces.{Stands}
 use Rattle.page_core.specs.declared.pieces.Pieces.{Pieces}
 use Rattle.c_terms.specs.C.{CTys}
 use Rattle.c_terms.specs.Read.{ctys}
-use Rattle.kc_notation.specs.ClosedTypes.{types_text}
+use Rattle.let_types.specs.TypeTexts.{types_text}
 use Rattle.h_terms.specs.H.{HVal}
 use Rattle.calc_core.specs.Row.{others, top}
 use Rattle.h_terms.specs.declared.node.HForm.{HForm}

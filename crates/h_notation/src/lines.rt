@@ -8,10 +8,10 @@ ghost use Rattle.h_notation.specs.Scopes.{least};
 ghost use Rattle.c_terms.specs.Read.{ctys};
 
 use crate::scope::Scope;
-use kc_notation::write_types;
 use c_terms::CType;
 use h_terms::HForm;
 use idx_core::{Op, OutOfMemory};
+use let_types::write_types;
 use page_core::{write_natural, write_op, write_separator, write_type_name, write_value_name};
 
 // The first of some texts.

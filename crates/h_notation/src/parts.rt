@@ -1,7 +1,7 @@
 // The values of a node, by a stack of pieces.
 ghost use Rattle.std.specs.Prelude.{◌≡◌, ◌-◌, ◌∷◌, ◌++◌, ℕ, List, [], map, codes, decimal, IfOk, OnOk};
 ghost use Rattle.c_terms.specs.Read.{ctree, ctys};
-ghost use Rattle.kc_notation.specs.ClosedTypes.{type_text};
+ghost use Rattle.let_types.specs.TypeTexts.{type_text};
 ghost use Rattle.h_terms.specs.H.{HVal};
 ghost use Rattle.h_terms.specs.Nodes.{at_last, more, reads};
 ghost use Rattle.page_core.specs.Names.{number, value_name};
@@ -11,10 +11,10 @@ ghost use Rattle.h_notation.specs.Values.{Stand, texts_of};
 
 use crate::fields::put_tuple;
 use crate::scope::Scope;
-use kc_notation::{write_type, write_types};
 use c_terms::CType;
 use h_terms::HPart;
 use idx_core::OutOfMemory;
+use let_types::{write_type, write_types};
 use page_core::{Pieces, write_integer, write_natural, write_value_name};
 use std::alloc::Global;
 

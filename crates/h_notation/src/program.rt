@@ -10,12 +10,11 @@ ghost use Rattle.h_notation.specs.Notation.{args_text, block_text, blocks_text, 
 
 use crate::scope::Source;
 use crate::terms::write_term;
-use kc_notation::write_type;
 use c_terms::CType;
 use calc_core::copy;
 use h_terms::{HBlock, HProgram};
 use idx_core::OutOfMemory;
-use let_types::Named;
+use let_types::{Named, write_type};
 use page_core::{write_natural, write_separator, write_type_names, write_value_name};
 use std::alloc::Global;
 

@@ -14,11 +14,10 @@ ghost use Rattle.h_notation.specs.Scopes.{Fit, Ready, Stepped};
 use crate::lines::write_form;
 use crate::parts::texts_of_parts;
 use crate::scope::{Scope, Source, Walk};
-use kc_notation::write_type;
 use c_terms::CType;
 use h_terms::{HForm, HNode};
 use idx_core::{OutOfMemory, sum};
-use let_types::{Named, declare, show, types_after};
+use let_types::{Named, declare, show, types_after, write_type};
 use page_core::write_margin;
 use std::alloc::Global;
 

@@ -17,8 +17,9 @@ use Rattle.let_types.specs.Known.{Frame, Known, declare, enter, entry_of, last_t
 use Rattle.let_types.specs.Parts.{applied_type, field_type, held_type, opened_type}
 use Rattle.let_types.proofs.Knowing.{but_last_snoc, with_frames, with_names}
 use Rattle.kc_notation.specs.declared.page.Scope.{Scope}
-use Rattle.kc_notation.specs.ClosedTypes.{type_text, types_text}
-use Rattle.kc_notation.specs.ClosedNotation.{applied_text, bound_text, c_text, decl_note, declared_text, head_text, note_text}
+use Rattle.let_types.specs.TypeTexts.{type_text, types_text}
+use Rattle.kc_notation.specs.ClosedNotation.{applied_text, bound_text, c_text, decl_note, declared_text, head_text}
+use Rattle.let_types.specs.TypeTexts.{note_text}
 use Rattle.kc_notation.specs.ClosedNotation.{term_text, types_behind, value_text, values_after}
 use Rattle.kc_notation.specs.ClosedWalk.{Lines, Sheet, scope_of, with_text, with_values, push, gathered, past, shut}
 use Rattle.kc_notation.specs.ClosedWalk.{name_note}

@@ -21,7 +21,8 @@ use Rattle.let_types.specs.Known.{Entry, Frame, Seen, arguments, entry_in, entry
 use Rattle.let_types.specs.Known.{seen_at, tuple, tuple_from, types_in}
 use Rattle.let_types.specs.Parts.{type_at}
 use Rattle.let_types.proofs.Knowing.{last_snoc, with_names}
-use Rattle.kc_notation.specs.ClosedNotation.{note_text, types_behind}
+use Rattle.kc_notation.specs.ClosedNotation.{types_behind}
+use Rattle.let_types.specs.TypeTexts.{note_text}
 use Rattle.kc_notation.specs.ClosedWalk.{name_note}
 
 -- a type, where as many type names are in scope as where it was noted, and where one more is

@@ -1,100 +1,17 @@
 -- Types that a loop goes over, and what is written of them.
-use Rattle.std.proofs.Common.{◌≡◌, ◌≤◌, ◌<◌, ℕ, suc, ◌+◌, ◌-◌, Bool, true, false, List, [], ◌∷◌, ◌++◌, length, drop}
-use Rattle.std.proofs.Common.{get_or, refl, sym, ◌∙◌, ap, subst, arith, append_assoc, codes, ◌&&◌}
-use Rattle.std.proofs.Common.{◌||◌}
+use Rattle.std.proofs.Common.{◌≡◌, ◌≤◌, ◌<◌, ℕ, suc, ◌+◌, ◌-◌, List, [], ◌∷◌, ◌++◌, length, drop}
+use Rattle.std.proofs.Common.{get_or, sym, ◌∙◌, ap, subst, arith, append_assoc, codes}
 use Rattle.std.proofs.lemmas.List.{append-nil}
 use Rattle.std.proofs.Math.ListN.{drop_of_length-le}
-use Rattle.page_core.specs.Names.{separator, type_names, value_name}
+use Rattle.page_core.specs.Names.{separator, value_name}
 use Rattle.kc_notation.specs.ClosedNotation.{arguments_after, applied_text}
-use Rattle.c_terms.specs.C.{CTys, TCTuple, TCCode}
 use Rattle.c_terms.specs.Read.{ctree, ctys}
 use Rattle.calc_core.specs.declared.types.CoreType.{CoreType as CType}
-use Rattle.kc_notation.specs.ClosedTypes.{names_variable, one_names_variable, type_text, types_text, types_after, closure_code}
-use Rattle.kc_notation.specs.ClosedTypes.{others_text, takes_hidden, are_closure}
+use Rattle.let_types.specs.TypeTexts.{type_text, types_text}
 use Rattle.idx_core.proofs.Lists.{next_item}
-
--- the variable is named by the next type, or is not
-pub named : (v : ℕ) (ts : List CType) (i : ℕ) (t : CType) → t ≡ get_or ts i t → i < length ts →
-    names_variable v (ctree t) ≡ true → one_names_variable v (ctys (drop i ts)) ≡ true
-named v ts i t is lt e = ap (λ xs. one_names_variable v (ctys xs)) (next_item ts i t is lt)
-    ∙ ap (λ (b : Bool). b || one_names_variable v (ctys (drop (i + 1) ts))) e
-
-pub passed : (v : ℕ) (ts : List CType) (i : ℕ) (t : CType) → t ≡ get_or ts i t → i < length ts →
-    names_variable v (ctree t) ≡ false → one_names_variable v (ctys (drop (i + 1) ts))
-    ≡ one_names_variable v (ctys (drop i ts))
-passed v ts i t is lt e = sym (ap (λ xs. one_names_variable v (ctys xs)) (next_item ts i t is lt)
-    ∙ ap (λ (b : Bool). b || one_names_variable v (ctys (drop (i + 1) ts))) e)
-
-pub none_left : (v : ℕ) (ts : List CType) (i : ℕ) → length ts ≤ i → one_names_variable v (ctys (drop i ts)) ≡ false
-none_left v ts i le = ap (λ xs. one_names_variable v (ctys xs)) (drop_of_length-le ts le)
-
-regroup : (a b c d : List ℕ) → ((a ++ b) ++ c) ++ d ≡ a ++ (b ++ c ++ d)
-regroup a b c d = simp append_assoc
 
 regroup₅ : (a b c d e f : List ℕ) → ((((a ++ b) ++ c) ++ d) ++ e) ++ f ≡ a ++ (b ++ c ++ d ++ e ++ f)
 regroup₅ a b c d e f = simp append_assoc
-
--- one type more is written, and all are
-pub type_more : (n : ℕ) (ts : List CType) (from i : ℕ) (t : CType) (t0 t1 t2 whole : List ℕ) → t ≡ get_or ts i t →
-    i < length ts → from ≤ i →
-    t0 ++ types_after (i - from) n (ctys (drop i ts)) ≡ whole → t1 ≡ t0 ++ separator (i - from) → t2 ≡ t1
-    ++ type_text n (ctree t) →
-    t2 ++ types_after (i + 1 - from) n (ctys (drop (i + 1) ts)) ≡ whole
-type_more n ts from i t t0 t1 t2 whole is lt le h e f =
-    let m : i + 1 - from ≡ suc (i - from) = omega arith in
-    let w : t0 ++ types_after (i - from) n (ctys (t ∷ drop (i + 1) ts)) ≡ whole = subst (λ xs. t0
-    ++ types_after (i - from) n (ctys xs) ≡ whole) (next_item ts i t is lt) h in
-    rw (m, f, e) (regroup t0 (separator (i - from)) (type_text n (ctree t)) (types_after (suc (i - from)) n (ctys (drop
-    (i + 1) ts))) ∙ w)
-
-pub types_done : (n : ℕ) (ts : List CType) (from i : ℕ) (text whole : List ℕ) → length ts ≤ i → text
-    ++ types_after (i - from) n (ctys (drop i ts)) ≡ whole → text ≡ whole
-types_done n ts from i text whole le h =
-    sym (append-nil text) ∙ subst (λ xs. text ++ types_after (i - from) n (ctys xs) ≡ whole) (drop_of_length-le ts le) h
-
-pub from_start : (n from : ℕ) (ts : List CType) (text : List ℕ) → text
-    ++ types_after (from - from) n (ctys (drop from ts)) ≡ text ++ types_after 0 n (ctys (drop from ts))
-from_start n from ts text = let e : from - from ≡ 0 = omega arith in rw e refl
-
-pub others_are : (n : ℕ) (ts : List CType) → types_after 0 n (ctys (drop 1 ts)) ≡ others_text n (ctys ts)
-others_are n [] = refl
-others_are n (t ∷ ts) = refl
-
-pub tuple_done : (n : ℕ) (ts : CTys) (old first filled new : List ℕ) → first ≡ old ++ codes "<" → filled ≡ first
-    ++ types_after 0 n ts → new ≡ filled ++ codes ">" → new ≡ old ++ type_text n (TCTuple ts)
-tuple_done n ts old first filled new e f g = rw (g, f, e) (simp append_assoc)
-
-owed_done : (word names types close old first filled new : List ℕ) → first ≡ old ++ (word ++ names ++ codes "(") →
-    filled ≡ first ++ types → new ≡ filled ++ close → new ≡ old ++ (word ++ names ++ codes "(" ++ types ++ close)
-owed_done word names types close old first filled new e f g = rw (g, f, e) (simp append_assoc)
-
-pub code_done : (n owes inner : ℕ) (ts : CTys) (old first filled new : List ℕ) → inner ≡ n + owes → first ≡ old
-    ++ (codes "code" ++ type_names n owes ++ codes "(") → filled ≡ first ++ types_after 0 inner ts → new ≡ filled
-    ++ codes ")" →
-    new ≡ old ++ type_text n (TCCode owes ts)
-code_done n owes inner ts old first filled new i e f g =
-    owed_done (codes "code") (type_names n owes) (types_after 0 (n + owes) ts) (codes ")") old first filled new e (subst
-    (λ d. filled ≡ first ++ types_after 0 d ts) i f) g
-
-pub closure_done : (n owes inner : ℕ) (ts : List CType) (old first filled new : List ℕ) → inner ≡ n + owes → first ≡ old
-    ++ (codes "closure" ++ type_names n owes ++ codes "(") → filled ≡ first ++ types_after 0 inner (ctys (drop 1 ts)) →
-    new ≡ filled ++ codes ")" → new ≡ old ++ closure_code n (TCCode owes (ctys ts))
-closure_done n owes inner ts old first filled new i e f g =
-    owed_done (codes "closure") (type_names n owes) (others_text (n + owes) (ctys ts)) (codes ")") old first filled new
-    e
-    (subst (λ d. filled ≡ first ++ others_text d (ctys ts)) i (f ∙ ap (λ (s : List ℕ). first
-    ++ s) (others_are inner ts))) g
-
-and_false : (b : Bool) → false ≡ b && false
-and_false true = refl
-and_false false = refl
-
--- no other number of types than two is a closure's
-pub no_closure : (ts : List CType) → ¬ (length ts ≡ 2) → false ≡ are_closure (ctys ts)
-no_closure [] h = refl
-no_closure (t ∷ []) h = and_false (takes_hidden (ctree t))
-no_closure (t ∷ u ∷ []) h = absurd (h refl)
-no_closure (t ∷ u ∷ v ∷ ts) h = and_false (takes_hidden (ctree t))
 
 -- one argument more is written, and all are
 pub argument_more : (n : ℕ) (ts : List CType) (i : ℕ) (t : CType) (t0 t1 t2 t3 t4 whole : List ℕ) → t ≡ get_or ts i t →

@@ -1,7 +1,7 @@
 -- The notation of closed programs, as bytes, with the types of what `let`s bind or without. Inside n type names and m
 -- value names, with lines at the level k, a variable i is the value name with m - 1 - i others around it. A code is
 -- closed, so names begin anew in it: its own is the first, and its arguments' the next.
-use Rattle.std.specs.Prelude.{ℕ, suc, ◌+◌, ◌-◌, Bool, true, false, List, [], ◌∷◌, ◌++◌, codes, decimal}
+use Rattle.std.specs.Prelude.{ℕ, suc, ◌+◌, ◌-◌, Bool, List, [], ◌∷◌, ◌++◌, codes, decimal}
 use Rattle.page_core.specs.Names.{margin, number, op_sign, separator, type_name, type_names, value_name}
 use Rattle.c_terms.specs.C.{CTy, CTys, NoCTys, MoreCTys, TCCode, CVal, CVar, CInt, CTuple, CCode, CApply, CPack}
 use Rattle.c_terms.specs.C.{CVals, NoCVals, MoreCVals, CDecl, CName, CProj, CArith}
@@ -9,7 +9,7 @@ use Rattle.c_terms.specs.C.{CUnpack, CCell, CGet, CSet, CTm, CLet, CCall, CIf}
 use Rattle.c_terms.specs.C.{CHalt, ccount}
 use Rattle.c_terms.specs.Typing.{cargs_onto}
 use Rattle.let_types.specs.Closed.{decl_type, names_behind}
-use Rattle.kc_notation.specs.ClosedTypes.{type_text, types_text}
+use Rattle.let_types.specs.TypeTexts.{type_text, types_text}
 
 -- the arguments of a code with their types, with so many before them
 abbrev pub arguments_after : ℕ → ℕ → CTys → List ℕ
@@ -25,11 +25,6 @@ head_text owes args = codes "code x0" ++ type_names 0 owes ++ codes "(" ++ argum
 abbrev pub applied_text : ℕ → CTys → List ℕ
 applied_text n NoCTys = []
 applied_text n (MoreCTys t ts) = codes "[" ++ types_text n (MoreCTys t ts) ++ codes "]"
-
--- what stands behind a name that is given to a value of this type, where types are shown
-abbrev pub note_text : Bool → ℕ → CTy → List ℕ
-note_text true n t = codes ": " ++ type_text n t
-note_text false n t = []
 
 -- what is declared, of a name that has m names around it, with a text behind the name
 abbrev pub bound_text : ℕ → ℕ → List ℕ → CDecl → List ℕ

@@ -7,8 +7,9 @@ use Rattle.c_terms.specs.C.{CTy, CTys}
 use Rattle.c_terms.specs.Stream.{CNd, MVar, MInt, MTuple, MCode, MEnd, MApply, MPack, MName, MProj, MArith, MUnpack}
 use Rattle.c_terms.specs.Stream.{MCell, MGet, MSet, MCall, MIf, MElse, MHalt}
 use Rattle.kc_notation.specs.declared.page.Scope.{Scope}
-use Rattle.kc_notation.specs.ClosedTypes.{type_text, types_text}
-use Rattle.kc_notation.specs.ClosedNotation.{applied_text, head_text, note_text}
+use Rattle.let_types.specs.TypeTexts.{type_text, types_text}
+use Rattle.kc_notation.specs.ClosedNotation.{applied_text, head_text}
+use Rattle.let_types.specs.TypeTexts.{note_text}
 use Rattle.let_types.specs.Known.{Entry, Known, known_step, level_bound}
 
 -- a body: its text so far, the values that wait, the last first, whether the text ends in a call that waits for its

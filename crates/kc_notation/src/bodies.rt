@@ -9,9 +9,9 @@ ghost use Rattle.kc_notation.specs.ClosedWalk.{Sheet, enter, leave, opened, shut
 use crate::joining::piece_of;
 use crate::lines::margin_and;
 use crate::page::{Body, Page, Scope};
-use crate::closed_types::write_type;
 use c_terms::CType;
 use idx_core::{OutOfMemory, sum};
+use let_types::write_type;
 use page_core::{write_separator, write_type_names, write_value_name};
 use std::collections::VecDeque;
 use std::mem;

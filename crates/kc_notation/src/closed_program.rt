@@ -4,15 +4,15 @@ ghost use Rattle.c_terms.specs.Read.{cnode, ctree};
 ghost use Rattle.c_terms.specs.Term.{term_of};
 ghost use Rattle.let_types.specs.Known.{known_step};
 ghost use Rattle.let_types.specs.KnownRead.{known as plain};
-ghost use Rattle.kc_notation.specs.ClosedNotation.{c_text, note_text};
+ghost use Rattle.kc_notation.specs.ClosedNotation.{c_text};
+ghost use Rattle.let_types.specs.TypeTexts.{note_text};
 ghost use Rattle.kc_notation.specs.Standing.{IsPage};
 ghost use Rattle.kc_notation.specs.ClosedWalk.{blank, noted};
 
 use crate::page::{Body, Page, Scope};
-use crate::closed_types::write_type;
 use c_terms::{CNode, CProgram};
 use idx_core::OutOfMemory;
-use let_types::{Known, Named, level_bound};
+use let_types::{Known, Named, level_bound, write_type};
 use page_core::Pieces;
 use std::alloc::Global;
 use std::collections::VecDeque;

@@ -3,8 +3,8 @@ ghost use Rattle.std.specs.Prelude.{◌≡◌, IfOk};
 ghost use Rattle.k_terms.specs.Whole.{term_of};
 ghost use Rattle.kc_notation.specs.CpsNotation.{k_text};
 
-use crate::cps_walk::step;
 use crate::blank;
+use crate::cps_walk::step;
 use idx_core::OutOfMemory;
 use k_terms::KProgram;
 use std::alloc::Global;

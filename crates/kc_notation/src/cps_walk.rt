@@ -7,8 +7,8 @@ ghost use Rattle.kc_notation.specs.Standing.{IsPage};
 ghost use Rattle.kc_notation.specs.ClosedWalk.{Sheet, pair};
 ghost use Rattle.kc_notation.specs.CpsWalk.{declare, noted, step};
 
-use crate::cps_lines::{call, declare, enter, pack, unpack};
 use crate::Page;
+use crate::cps_lines::{call, declare, enter, pack, unpack};
 use idx_core::{Op, OutOfMemory};
 use k_terms::{KNode, KType};
 use page_core::{write_natural, write_op};

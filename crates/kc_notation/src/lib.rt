@@ -3,9 +3,7 @@
 
 mod bodies;
 mod closed_program;
-mod closed_types;
 mod closed_walk;
-mod closures;
 mod cps_lines;
 mod cps_program;
 mod cps_types;
@@ -17,6 +15,5 @@ mod page;
 mod values;
 
 pub use closed_program::{blank, write_closed};
-pub use closed_types::{write_type, write_types};
 pub use cps_program::write_cps;
 pub use page::{Body, Page, Scope};

@@ -7,9 +7,9 @@ ghost use Rattle.kc_notation.specs.ClosedWalk.{Sheet, begun, line, declare, unpa
 
 use crate::joining::wrapped;
 use crate::page::{Page, Scope};
-use crate::closed_types::write_types;
 use c_terms::CType;
 use idx_core::{OutOfMemory, sum};
+use let_types::write_types;
 use page_core::{write_margin, write_type_name, write_value_name};
 use std::alloc::Global;
 

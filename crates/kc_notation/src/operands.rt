@@ -2,15 +2,15 @@
 ghost use Rattle.std.specs.Prelude.{◌≡◌, ◌++◌, [], codes, OnOk};
 ghost use Rattle.page_core.specs.Names.{number, value_name};
 ghost use Rattle.c_terms.specs.Read.{ctree, ctys};
-ghost use Rattle.kc_notation.specs.ClosedTypes.{type_text};
+ghost use Rattle.let_types.specs.TypeTexts.{type_text};
 ghost use Rattle.kc_notation.specs.ClosedNotation.{applied_text};
 ghost use Rattle.kc_notation.specs.Standing.{IsPage};
 ghost use Rattle.kc_notation.specs.ClosedWalk.{Sheet, push, wrap, pack_front, pack_behind};
 
 use crate::page::Page;
-use crate::closed_types::{write_type, write_types};
 use c_terms::CType;
 use idx_core::OutOfMemory;
+use let_types::{write_type, write_types};
 use page_core::{write_integer, write_value_name};
 
 // Types behind a value that is applied to them: nothing where there are none.

@@ -4,3 +4,4 @@ pub mod Knowing
 mod Placing
 mod Stacking
 mod Typed
+pub mod TypesListed

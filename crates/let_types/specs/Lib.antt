@@ -5,3 +5,4 @@ pub mod KnownRead
 pub mod Laws
 pub mod Names
 pub mod Parts
+pub mod TypeTexts

@@ -1,6 +1,6 @@
 use Rattle.std.proofs.Common.{◌≡◌, ◌∙◌, ◌++◌, ◌-◌, ℕ, List, [], ap, arith, codes, length}
 use Rattle.let_types.specs.Names.{shown}
-use Rattle.kc_notation.specs.ClosedTypes.{type_text}
+use Rattle.let_types.specs.TypeTexts.{type_text}
 use Rattle.h_notation.proofs.ScopeTexts.{shown_last}
 use Rattle.h_notation.proofs.terms.noted.Goals as goal
 

@@ -1,7 +1,7 @@
 use Rattle.std.proofs.Common.{◌≡◌, ℕ, drop}
 use Rattle.c_terms.specs.Read.{ctys}
-use Rattle.kc_notation.specs.ClosedTypes.{IsVariable, one_names_variable}
-use Rattle.kc_notation.proofs.closures.+names.Given as goal
+use Rattle.let_types.specs.TypeTexts.{IsVariable, one_names_variable}
+use Rattle.let_types.proofs.closures.+names.Given as goal
 
 -- what is left names it where all do
 abbrev pub invariant-one_names_variable-loop-i : goal.invariant-one_names_variable-loop-i

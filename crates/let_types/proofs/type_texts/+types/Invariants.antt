@@ -1,7 +1,7 @@
 use Rattle.std.proofs.Common.{◌≡◌, ◌-◌, ◌++◌, drop}
 use Rattle.c_terms.specs.Read.{ctys}
-use Rattle.kc_notation.specs.ClosedTypes.{types_after}
-use Rattle.kc_notation.proofs.closed_types.+types.Given as goal
+use Rattle.let_types.specs.TypeTexts.{types_after}
+use Rattle.let_types.proofs.type_texts.+types.Given as goal
 
 -- the text so far, with what is left, is the whole
 abbrev pub invariant-write_from-loop-i : goal.invariant-write_from-loop-i

@@ -1,8 +1,8 @@
 // Which types are those of closures.
 ghost use Rattle.std.specs.Prelude.{◌≡◌, ◌==◌, ◌+◌, ℕ, drop};
 ghost use Rattle.c_terms.specs.Read.{ctree, ctys};
-ghost use Rattle.kc_notation.specs.ClosedTypes.{IsVariable, names_variable, one_names_variable, is_variable, only_first};
-ghost use Rattle.kc_notation.specs.ClosedTypes.{takes_hidden, is_hidden, are_closure, is_closure};
+ghost use Rattle.let_types.specs.TypeTexts.{IsVariable, names_variable, one_names_variable, is_variable, only_first};
+ghost use Rattle.let_types.specs.TypeTexts.{takes_hidden, is_hidden, are_closure, is_closure};
 
 use c_terms::CType;
 

@@ -1,8 +1,8 @@
 use Rattle.std.proofs.Common.{◌+◌, sym, ap, ◌∙◌}
 use Rattle.calc_core.proofs.Trees.{tree_is_tuple, tree_is_code}
-use Rattle.kc_notation.specs.ClosedTypes.{names_variable}
-use Rattle.kc_notation.proofs.Listed.{named, passed, none_left}
-use Rattle.kc_notation.proofs.closures.+names.Goals as goal
+use Rattle.let_types.specs.TypeTexts.{names_variable}
+use Rattle.let_types.proofs.TypesListed.{named, passed, none_left}
+use Rattle.let_types.proofs.closures.+names.Goals as goal
 
 pub names_variable-returns-in-Tuple : goal.names_variable-returns-in-Tuple
 names_variable-returns-in-Tuple t c = λ v h.

@@ -2,9 +2,9 @@ use Rattle.std.proofs.Common.{◌≡◌, ◌++◌, sym, ap, ◌∙◌, subst, On
 use Rattle.c_terms.specs.C.{CTy}
 use Rattle.c_terms.specs.Read.{ctys}
 use Rattle.calc_core.proofs.Trees.{tree_is_tuple, tree_is_code}
-use Rattle.kc_notation.specs.ClosedTypes.{type_text, closure_text, closure_code}
-use Rattle.kc_notation.proofs.Listed.{type_more, types_done, from_start, tuple_done, code_done, closure_done}
-use Rattle.kc_notation.proofs.closed_types.+types.Goals as goal
+use Rattle.let_types.specs.TypeTexts.{type_text, closure_text, closure_code}
+use Rattle.let_types.proofs.TypesListed.{type_more, types_done, from_start, tuple_done, code_done, closure_done}
+use Rattle.let_types.proofs.type_texts.+types.Goals as goal
 
 pub write_from-loop-i-init : goal.write_from-loop-i-init
 write_from-loop-i-init t c = from_start c.args.depth c.args.from c.args.ts.now c.args.text.now.items

@@ -2,8 +2,8 @@
 ghost use Rattle.std.specs.Prelude.{◌≡◌, ◌++◌, ◌+◌, drop, codes, IfOk, OnOk};
 ghost use Rattle.page_core.specs.Names.{type_name, type_names};
 ghost use Rattle.c_terms.specs.Read.{ctree, ctys};
-ghost use Rattle.kc_notation.specs.ClosedTypes.{type_text, types_text, types_after, closure_text, closure_fields};
-ghost use Rattle.kc_notation.specs.ClosedTypes.{closure_code};
+ghost use Rattle.let_types.specs.TypeTexts.{type_text, types_text, types_after, closure_text, closure_fields};
+ghost use Rattle.let_types.specs.TypeTexts.{closure_code};
 
 use crate::closures::is_closure;
 use c_terms::CType;

@@ -112,3 +112,8 @@ abbrev mutual
 
 abbrev pub types_text : ℕ → CTys → List ℕ
 types_text n ts = types_after 0 n ts
+
+-- what stands behind a name that is given to a value of this type, where types are shown
+abbrev pub note_text : Bool → ℕ → CTy → List ℕ
+note_text true n t = codes ": " ++ type_text n t
+note_text false n t = []

@@ -23,6 +23,7 @@ use Rattle.f_check.specs.Walk.{frame_work, left, open_work, work}
 use Rattle.f_check.specs.Scopes.{bound, IsScope}
 use Rattle.f_check.specs.declared.scope.Binder.{Binder}
 use Rattle.f_check.specs.declared.frame.Head.{Head}
+use Rattle.f_check.specs.declared.frame.Fields.{Fields}
 use Rattle.f_check.specs.declared.frame.Packing.{Packing}
 use Rattle.f_check.specs.declared.frame.Frame.{Frame}
 use Rattle.f_check.specs.declared.frame.Frame.TheVariants as C
@@ -47,6 +48,13 @@ enter_same f st fr j e h lt in' few part =
       (now st e, lt, (h.0.0, in' _ _ h.0.1, omega (arith, few, room)), part, h.1),
       omega (arith, few),
     )
+
+-- the frames of a use at a type, and of a test
+abbrev used : Span → Bor FType → Frame
+used s t = C.Inst (record { span = s; ty = t })
+
+abbrev tested : Span → ℕ → ℕ → Frame
+tested s a b = C.Test (record { span = s; zero = a; other = b })
 
 -- the forms whose parts stand under the same names
 module _ (f : FTerm) (st : State) (i : ℕ) (n : FNode) (h : Leads f st (Run i))
@@ -78,13 +86,13 @@ module _ (f : FTerm) (st : State) (i : ℕ) (n : FNode) (h : Leads f st (Run i))
       (enter_same f st (C.Function n.span x) a (SApp (place n.span) (node_at f a) (node_at f x)) o
       (ks 0 0 (omega arith)) (λ n m k. k.0) (omega arith) (refl, o.0, (refl, refl), ks 1 0 (omega arith)))
 
-  pub inst : (a : ℕ) (t : Bor FType) → n.shape ≡ S.Inst a t.now → Enters f st (C.Inst n.span t) a
-      × (2 * nodes (plain (node_at f a)) + frame_work f (C.Inst n.span t) + left f st < work f st (Run i))
+  pub inst : (a : ℕ) (t : Bor FType) → n.shape ≡ S.Inst a t.now → Enters f st (used n.span t) a
+      × (2 * nodes (plain (node_at f a)) + frame_work f (used n.span t) + left f st < work f st (Run i))
   inst a t e =
       let o = opens (S.Inst a t.now) e in
       let ks = inside (S.Inst a t.now) e in
-      by_form (S.Inst a t.now) e (C.Inst n.span t) a
-      (enter_same f st (C.Inst n.span t) a (SInst (place n.span) (node_at f a) (tree t.now)) o (ks 0 0 (omega arith))
+      by_form (S.Inst a t.now) e (used n.span t) a
+      (enter_same f st (used n.span t) a (SInst (place n.span) (node_at f a) (tree t.now)) o (ks 0 0 (omega arith))
       (λ n m k. k.0) (omega arith) (refl, o.0, (refl, refl)))
 
   pub proj : (k a : ℕ) → n.shape ≡ S.Proj k a → Enters f st (C.Proj n.span k) a
@@ -150,13 +158,13 @@ module _ (f : FTerm) (st : State) (i : ℕ) (n : FNode) (h : Leads f st (Run i))
       (enter_same f st (C.Target n.span b) a (SAssign (place n.span) (node_at f a) (node_at f b)) o
       (ks 0 0 (omega arith)) (λ n m k. k.0) (omega arith) (refl, o.0, (refl, refl), ks 1 0 (omega arith)))
 
-  pub if_form : (c a b : ℕ) → n.shape ≡ S.If0 c a b → Enters f st (C.Test n.span a b) c
-      × (2 * nodes (plain (node_at f c)) + frame_work f (C.Test n.span a b) + left f st < work f st (Run i))
+  pub if_form : (c a b : ℕ) → n.shape ≡ S.If0 c a b → Enters f st (tested n.span a b) c
+      × (2 * nodes (plain (node_at f c)) + frame_work f (tested n.span a b) + left f st < work f st (Run i))
   if_form c a b e =
       let o = opens (S.If0 c a b) e in
       let ks = inside (S.If0 c a b) e in
-      by_form (S.If0 c a b) e (C.Test n.span a b) c
-      (enter_same f st (C.Test n.span a b) c (SIf0 (place n.span) (node_at f c) (node_at f a) (node_at f b)) o
+      by_form (S.If0 c a b) e (tested n.span a b) c
+      (enter_same f st (tested n.span a b) c (SIf0 (place n.span) (node_at f c) (node_at f a) (node_at f b)) o
       (ks 0 0 (omega arith)) (λ n m k. k.0) (omega arith)
       (refl, o.0, (refl, refl), ks 1 0 (omega arith), ks 2 0 (omega arith)))
 
@@ -218,31 +226,30 @@ module _ (f : FTerm) (st : State) where
   nodes_of (k ∷ ks) = ap (λ n. nodes (plain (node_at f k)) + n) (nodes_of ks)
 
   -- the first field of a tuple
-  pub tuple_enters : (s : Span) (es : List ℕ) (j : ℕ) (ts : Vec FType Global) (r : Bor (List ℕ)) →
-      Opens f st (STuple (place s) (tms (map (node_at f) es))) → All (λ k. k < count f) es → es ≡ j ∷ r.now →
-      ts.items ≡ [] →
-      Enters f st (C.Fields s ts r) j
-      × (2 * nodes (plain (node_at f j)) + frame_work f (C.Fields s ts r) + left f st
-      < open_work f st (STuple (place s) (tms (map (node_at f) es))))
-  tuple_enters s es j ts r o low e et =
-      let is : STuple (place s) (tms (map (node_at f) es)) ≡ STuple (place s) (tms (map (node_at f) (j ∷ r.now))) =
-      ap (λ (ks : List ℕ). STuple (place s) (tms (map (node_at f) ks))) e in
+  pub tuple_enters : (x : Fields) (es : List ℕ) (j : ℕ) →
+      Opens f st (STuple (place x.span) (tms (map (node_at f) es))) → All (λ k. k < count f) es →
+      es ≡ j ∷ x.rest.now → x.types.items ≡ [] →
+      Enters f st (C.Fields x) j
+      × (2 * nodes (plain (node_at f j)) + frame_work f (C.Fields x) + left f st
+      < open_work f st (STuple (place x.span) (tms (map (node_at f) es))))
+  tuple_enters x es j o low e et =
+      let is = ap (λ (ks : List ℕ). STuple (place x.span) (tms (map (node_at f) ks))) e in
       let o' = subst (Opens f st) is o in
-      let low' = All-same (λ k. k < count f) (j ∷ r.now) es (sym e) low in
-      let w = now st (STuple (place s) (tms (map (node_at f) (j ∷ r.now)))) in
-      let x = enter_same f st (C.Fields s ts r) j (STuple (place s) (tms (map (node_at f) (j ∷ r.now)))) o'
-      (All-head (λ k. k < count f) j r.now low') (λ n m k. k.0) (omega (arith, nodes_of r.now)) (
+      let low' = All-same (λ k. k < count f) (j ∷ x.rest.now) es (sym e) low in
+      let w = now st (STuple (place x.span) (tms (map (node_at f) (j ∷ x.rest.now)))) in
+      let y = enter_same f st (C.Fields x) j (STuple (place x.span) (tms (map (node_at f) (j ∷ x.rest.now)))) o'
+      (All-head (λ k. k < count f) j x.rest.now low') (λ n m k. k.0) (omega (arith, nodes_of x.rest.now)) (
         [],
         refl,
         o'.0,
         (refl, refl),
         subst (λ (xs : List FType). AllPass w.around (context w) [] (map tree xs))
             (sym et) tt,
-        All-tail (λ k. k < count f) j r.now low',
+        All-tail (λ k. k < count f) j x.rest.now low',
       ) in (
-        x.0,
-        subst (λ z. 2 * nodes (plain (node_at f j)) + frame_work f (C.Fields s ts r) + left f st
-            < open_work f st z) (sym is) x.1,
+        y.0,
+        subst (λ z. 2 * nodes (plain (node_at f j)) + frame_work f (C.Fields x) + left f st
+            < open_work f st z) (sym is) y.1,
       )
 
   -- a tuple with no field

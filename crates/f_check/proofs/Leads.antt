@@ -132,22 +132,23 @@ module _ (f : FTerm) (t w : Task) (k l : ℕ) (done : List ℕ) (s : Spn) (n : F
   link (C.Function q y) h is parts =
       (app_is (sym h.0 ∙ form _ is.2)).0
       ∙ ap (node_at f) (same_end [] is.0 (is.1 ∷ []) done l (y ∷ []) (sym (ap children is.2) ∙ parts) refl)
-  link (C.Argument q a r) h is parts =
+  link (C.Argument x) h is parts =
       (app_is (sym h.1 ∙ form _ is.2)).1
       ∙ ap (node_at f) (same_end (is.0 ∷ []) is.1 [] done l [] (sym (ap children is.2) ∙ parts) refl)
   link (C.Gen q) h is parts =
       gen_is (sym h.0 ∙ form _ is.1)
       ∙ ap (node_at f) (same_end [] is.0 [] done l [] (sym (ap children is.1) ∙ parts) refl)
-  link (C.Inst q a) h is parts =
+  link (C.Inst x) h is parts =
       inst_is (sym h.0 ∙ form _ is.2)
       ∙ ap (node_at f) (same_end [] is.0 [] done l [] (sym (ap children is.2) ∙ parts) refl)
-  link (C.Fields q ts rest) h is parts =
+  link (C.Fields x) h is parts =
       let es : List ℕ = (is.0).items in
-      let e : h.0 ++ t.e ∷ map (node_at f) rest.now ≡ map (node_at f) done ++ node_at f l ∷ map (node_at f) rest.now =
-      tms_is (h.0 ++ t.e ∷ map (node_at f) rest.now) (map (node_at f) es) (tuple_is (sym h.1 ∙ form _ is.1))
+      let more = map (node_at f) x.rest.now in
+      let e : h.0 ++ t.e ∷ more ≡ map (node_at f) done ++ node_at f l ∷ more =
+      tms_is (h.0 ++ t.e ∷ more) (map (node_at f) es) (tuple_is (sym h.1 ∙ form _ is.1))
       ∙ ap (map (node_at f)) (sym (ap children is.1) ∙ parts)
-      ∙ map_mid (node_at f) done l rest.now in
-      same_end h.0 t.e (map (node_at f) rest.now) (map (node_at f) done) (node_at f l) (map (node_at f) rest.now) e refl
+      ∙ map_mid (node_at f) done l x.rest.now in
+      same_end h.0 t.e more (map (node_at f) done) (node_at f l) more e refl
   link (C.Proj q i) h is parts =
       proj_is (sym h.0 ∙ form _ is.2)
       ∙ ap (node_at f) (same_end [] is.1 [] done l [] (sym (ap children is.2) ∙ parts) refl)
@@ -157,9 +158,10 @@ module _ (f : FTerm) (t w : Task) (k l : ℕ) (done : List ℕ) (s : Spn) (n : F
   link (C.Right q) h is parts =
       (arith_is (sym h.2 ∙ form _ is.3)).1
       ∙ ap (node_at f) (same_end (is.1 ∷ []) is.2 [] done l [] (sym (ap children is.3) ∙ parts) refl)
-  link (C.Test q x y) h is parts =
+  link (C.Test x) h is parts =
       (if_is (sym h.0 ∙ form _ is.3)).0
-      ∙ ap (node_at f) (same_end [] is.0 (is.1 ∷ is.2 ∷ []) done l (x ∷ y ∷ []) (sym (ap children is.3) ∙ parts) refl)
+      ∙ ap (node_at f) (same_end [] is.0 (is.1 ∷ is.2 ∷ []) done l (x.zero ∷ x.other ∷ [])
+      (sym (ap children is.3) ∙ parts) refl)
   link (C.Zero q y) h is parts =
       (if_is (sym h.1 ∙ form _ is.3)).1
       ∙ ap (node_at f) (same_end (is.0 ∷ []) is.1 (is.2 ∷ []) done l (y ∷ []) (sym (ap children is.3) ∙ parts) refl)
@@ -190,7 +192,7 @@ module _ (f : FTerm) (t w : Task) (k l : ℕ) (done : List ℕ) (s : Spn) (n : F
   link (C.Target q y) h is parts =
       (assign_is (sym h.0 ∙ form _ is.2)).0
       ∙ ap (node_at f) (same_end [] is.0 (is.1 ∷ []) done l (y ∷ []) (sym (ap children is.2) ∙ parts) refl)
-  link (C.Assigned q u) h is parts =
+  link (C.Assigned x) h is parts =
       (assign_is (sym h.1 ∙ form _ is.2)).1
       ∙ ap (node_at f) (same_end (is.0 ∷ []) is.1 [] done l [] (sym (ap children is.2) ∙ parts) refl)
 
@@ -220,14 +222,14 @@ module _ (f : FTerm) (t w : Task) (s : Spn) (n : FShape) (whole : w.e ≡ shape_
   names_are : (fr : Frame) → Part f fr t w → IsOf n fr → context t ≡ inner f n fr (context w)
   names_are (C.Fix x) h is = in_body t w (tree x.arg.now) (tree x.res.now) h.2 h.3 (λ n g. context t ≡ g) refl
   names_are (C.Function q x) h is = same_names t w h.2
-  names_are (C.Argument q a r) h is = same_names t w h.3
+  names_are (C.Argument x) h is = same_names t w h.3
   names_are (C.Gen q) h is = in_gen t w h.1 h.2 h.3 (λ n g. context t ≡ g) refl
-  names_are (C.Inst q a) h is = same_names t w h.2
-  names_are (C.Fields q ts rest) h is = same_names t w h.3
+  names_are (C.Inst x) h is = same_names t w h.2
+  names_are (C.Fields x) h is = same_names t w h.3
   names_are (C.Proj q i) h is = same_names t w h.2
   names_are (C.Left q b) h is = same_names t w h.3
   names_are (C.Right q) h is = same_names t w h.4
-  names_are (C.Test q a b) h is = same_names t w h.2
+  names_are (C.Test x) h is = same_names t w h.2
   names_are (C.Zero q b) h is = same_names t w h.3
   names_are (C.Other q z) h is = same_names t w h.4
   names_are (C.Let q b) h is = same_names t w h.2
@@ -242,7 +244,7 @@ module _ (f : FTerm) (t w : Task) (s : Spn) (n : FShape) (whole : w.e ≡ shape_
   names_are (C.Ref q) h is = same_names t w h.2
   names_are (C.Deref q) h is = same_names t w h.2
   names_are (C.Target q b) h is = same_names t w h.2
-  names_are (C.Assigned q u) h is = same_names t w h.3
+  names_are (C.Assigned x) h is = same_names t w h.3
 
 module _ (f : FTerm) (ts : List FType) where
   -- the part that a frame waits for stands before the whole

@@ -116,18 +116,18 @@ module _ (f : FTerm) (ts : List FType) (g : Tys) where
         (subst (λ x. IsNoted f ts (in_fix x (tree is.2) g) l) is.4
         (subst (λ x. IsNoted f ts (in_fix (tree y.arg.now) x g) l) is.5 h)))
     last_part (C.Function s x) w e h = let y : x ∷ [] ≡ [] = e in cc
-    last_part (C.Argument s a r) w e h =
-        let is = w.0 in subst (Parts f ts g) (sym is.2) (all (C.Argument s a r) w e h _ is.2)
+    last_part (C.Argument x) w e h =
+        let is = w.0 in subst (Parts f ts g) (sym is.2) (all (C.Argument x) w e h _ is.2)
     last_part (C.Gen s) w e h =
         let is = w.0 in
         subst (Parts f ts g) (sym is.1) (subst (IsNoted f ts (raised g)) (only (C.Gen s) w e _ is.0 is.1 refl) h)
-    last_part (C.Inst s a) w e h = let is = w.0 in subst (Parts f ts g) (sym is.2) (all (C.Inst s a) w e h _ is.2)
-    last_part (C.Fields s us rest) w e h =
-        let is = w.0 in subst (Parts f ts g) (sym is.1) (all (C.Fields s us rest) w e h _ is.1)
+    last_part (C.Inst x) w e h = let is = w.0 in subst (Parts f ts g) (sym is.2) (all (C.Inst x) w e h _ is.2)
+    last_part (C.Fields x) w e h =
+        let is = w.0 in subst (Parts f ts g) (sym is.1) (all (C.Fields x) w e h _ is.1)
     last_part (C.Proj s i) w e h = let is = w.0 in subst (Parts f ts g) (sym is.2) (all (C.Proj s i) w e h _ is.2)
     last_part (C.Left s b) w e h = let y : b ∷ [] ≡ [] = e in cc
     last_part (C.Right s) w e h = let is = w.0 in subst (Parts f ts g) (sym is.3) (all (C.Right s) w e h _ is.3)
-    last_part (C.Test s a b) w e h = let y : a ∷ b ∷ [] ≡ [] = e in cc
+    last_part (C.Test x) w e h = let y : x.zero ∷ x.other ∷ [] ≡ [] = e in cc
     last_part (C.Zero s b) w e h = let y : b ∷ [] ≡ [] = e in cc
     last_part (C.Other s z) w e h = let is = w.0 in subst (Parts f ts g) (sym is.3) (all (C.Other s z) w e h _ is.3)
     last_part (C.Let s b) w e h = let y : b ∷ [] ≡ [] = e in absurd (cc)
@@ -148,8 +148,8 @@ module _ (f : FTerm) (ts : List FType) (g : Tys) where
     last_part (C.Ref s) w e h = let is = w.0 in subst (Parts f ts g) (sym is.1) (all (C.Ref s) w e h _ is.1)
     last_part (C.Deref s) w e h = let is = w.0 in subst (Parts f ts g) (sym is.1) (all (C.Deref s) w e h _ is.1)
     last_part (C.Target s b) w e h = let y : b ∷ [] ≡ [] = e in absurd (cc)
-    last_part (C.Assigned s u) w e h =
-        let is = w.0 in subst (Parts f ts g) (sym is.2) (all (C.Assigned s u) w e h _ is.2)
+    last_part (C.Assigned x) w e h =
+        let is = w.0 in subst (Parts f ts g) (sym is.2) (all (C.Assigned x) w e h _ is.2)
 
     -- and what is handed on suits it
     module _ (q : Spn) (t v : Task) (whole : v.e ≡ shape_tree (node_at f) q n) (names : context v ≡ g) where
@@ -157,14 +157,14 @@ module _ (f : FTerm) (ts : List FType) (g : Tys) where
           HandsOn t.scope fr o → Suits f g n (tree o)
       last_suits (C.Fix y) o p w e h = let is = w.0 in subst (λ m. Suits f g m (tree o)) (sym is.3) tt
       last_suits (C.Function s x) o p w e h = let y : x ∷ [] ≡ [] = e in absurd (cc)
-      last_suits (C.Argument s a r) o p w e h = let is = w.0 in subst (λ m. Suits f g m (tree o)) (sym is.2) tt
+      last_suits (C.Argument x) o p w e h = let is = w.0 in subst (λ m. Suits f g m (tree o)) (sym is.2) tt
       last_suits (C.Gen s) o p w e h = let is = w.0 in subst (λ m. Suits f g m (tree o)) (sym is.1) tt
-      last_suits (C.Inst s a) o p w e h = let is = w.0 in subst (λ m. Suits f g m (tree o)) (sym is.2) tt
-      last_suits (C.Fields s us rest) o p w e h = let is = w.0 in subst (λ m. Suits f g m (tree o)) (sym is.1) tt
+      last_suits (C.Inst x) o p w e h = let is = w.0 in subst (λ m. Suits f g m (tree o)) (sym is.2) tt
+      last_suits (C.Fields x) o p w e h = let is = w.0 in subst (λ m. Suits f g m (tree o)) (sym is.1) tt
       last_suits (C.Proj s i) o p w e h = let is = w.0 in subst (λ m. Suits f g m (tree o)) (sym is.2) tt
       last_suits (C.Left s b) o p w e h = let y : b ∷ [] ≡ [] = e in absurd (cc)
       last_suits (C.Right s) o p w e h = let is = w.0 in subst (λ m. Suits f g m (tree o)) (sym is.3) tt
-      last_suits (C.Test s a b) o p w e h = let y : a ∷ b ∷ [] ≡ [] = e in absurd (cc)
+      last_suits (C.Test x) o p w e h = let y : x.zero ∷ x.other ∷ [] ≡ [] = e in absurd (cc)
       last_suits (C.Zero s b) o p w e h = let y : b ∷ [] ≡ [] = e in absurd (cc)
       last_suits (C.Other s z) o p w e h = let is = w.0 in subst (λ m. Suits f g m (tree o)) (sym is.3) tt
       last_suits (C.Let s b) o p w e h = let y : b ∷ [] ≡ [] = e in absurd (cc)
@@ -185,7 +185,7 @@ module _ (f : FTerm) (ts : List FType) (g : Tys) where
       last_suits (C.Ref s) o p w e h = let is = w.0 in subst (λ m. Suits f g m (tree o)) (sym is.1) tt
       last_suits (C.Deref s) o p w e h = let is = w.0 in subst (λ m. Suits f g m (tree o)) (sym is.1) tt
       last_suits (C.Target s b) o p w e h = let y : b ∷ [] ≡ [] = e in absurd (cc)
-      last_suits (C.Assigned s u) o p w e h = let is = w.0 in subst (λ m. Suits f g m (tree o)) (sym is.2) tt
+      last_suits (C.Assigned x) o p w e h = let is = w.0 in subst (λ m. Suits f g m (tree o)) (sym is.2) tt
 
     -- one part more is noted
     next_part : (fr more : Frame) (j : ℕ) → Waits f ts g n fr l → IsNoted f ts (inner f n fr g) l →

@@ -34,6 +34,11 @@ use Rattle.f_check.specs.Walk.{Holds, Offered, Enters, frame_work, left, offer_w
 use Rattle.calc_core.specs.Stack.{Chain, stack_sum}
 use Rattle.f_check.specs.declared.scope.Binder.{Binder}
 use Rattle.f_check.specs.declared.frame.Head.{Head}
+use Rattle.f_check.specs.declared.frame.Applied.{Applied}
+use Rattle.f_check.specs.declared.frame.Instance.{Instance}
+use Rattle.f_check.specs.declared.frame.Fields.{Fields}
+use Rattle.f_check.specs.declared.frame.Branches.{Branches}
+use Rattle.f_check.specs.declared.frame.Assignment.{Assignment}
 use Rattle.f_check.specs.declared.frame.Packing.{Packing}
 use Rattle.f_check.specs.declared.frame.Frame.{Frame}
 use Rattle.f_check.specs.declared.frame.Frame.TheVariants as C
@@ -144,24 +149,24 @@ module _ (f : FTerm) (st : State) (ty : FType) (q : Span) where
       (forms.app_fun w.around (context w) (place s) h.0 (node_at f x) (tree ty) (place q)
       (same_type (C.Function s x) h h.4.2).0 ne h.3)
 
-  pub arg_refused : (s : Span) (a r : FType) → Offered f st (C.Argument s a r) ty q →
+  pub arg_refused : (x : Applied) → Offered f st (C.Argument x) ty q →
       (z : Result Control Failure) (m : ℕ) →
-      Stops st E08 q (WType (tree a)) (tree ty) z → tree ty ≢ tree a → Goes f st z m
-  arg_refused s a r h z m k ne =
+      Stops st E08 q (WType (tree x.arg)) (tree ty) z → tree ty ≢ tree x.arg → Goes f st z m
+  arg_refused x h z m k ne =
       let w = h.1 in
-      refused f st w h.5 (SApp (place s) h.4.0 h.0) st E08 q k.0 (odds w.around (WType (tree a)) (tree ty)) z m k.1
-      (k.2 ∙ ap (λ n. odds n (WType (tree a)) (tree ty)) h.4.3.0) h.4.1
-      (forms.app_arg w.around (context w) (place s) h.4.0 h.0 (TArrow (tree a) (tree r)) (tree a) (tree r) (tree ty)
-      (place q) h.4.4.0 refl (same_type (C.Argument s a r) h h.4.3).0 ne h.3)
+      refused f st w h.5 (SApp (place x.span) h.4.0 h.0) st E08 q k.0 (odds w.around (WType (tree x.arg)) (tree ty)) z m
+      k.1 (k.2 ∙ ap (λ n. odds n (WType (tree x.arg)) (tree ty)) h.4.3.0) h.4.1
+      (forms.app_arg w.around (context w) (place x.span) h.4.0 h.0 (TArrow (tree x.arg) (tree x.res)) (tree x.arg)
+      (tree x.res) (tree ty) (place q) h.4.4.0 refl (same_type (C.Argument x) h h.4.3).0 ne h.3)
 
-  pub arg_given : (s : Span) (a r : FType) → Offered f st (C.Argument s a r) ty q → tree ty ≡ tree a →
-      Goes f st (Ok (Give r s T.Int)) (offer_work f st [])
-  arg_given s a r h et =
+  pub arg_given : (x : Applied) → Offered f st (C.Argument x) ty q → tree ty ≡ tree x.arg →
+      Goes f st (Ok (Give x.res x.span T.Int)) (offer_work f st [])
+  arg_given x h et =
       let w = h.1 in
-      given f st w h.5 T.Int st (SApp (place s) h.4.0 h.0) r s (offer_work f st []) refl
+      given f st w h.5 T.Int st (SApp (place x.span) h.4.0 h.0) x.res x.span (offer_work f st []) refl
       (task_is w st.around (map bound st.scope.items) h.4.3.0 h.4.3.1) h.4.1
-      (forms.app_ok w.around (context w) (place s) h.4.0 h.0 (TArrow (tree a) (tree r)) (tree a) (tree r)
-      (tree ty) h.4.4 refl (same_type (C.Argument s a r) h h.4.3).0 et) refl (omega arith)
+      (forms.app_ok w.around (context w) (place x.span) h.4.0 h.0 (TArrow (tree x.arg) (tree x.res)) (tree x.arg)
+      (tree x.res) (tree ty) h.4.4 refl (same_type (C.Argument x) h h.4.3).0 et) refl (omega arith)
 
   -- a type abstraction
   gen_type : (s : Span) (h : Offered f st (C.Gen s) ty q) →
@@ -188,46 +193,47 @@ module _ (f : FTerm) (st : State) (ty : FType) (q : Span) where
       (gen_type s h) wi et) refl (omega arith)
 
   -- a type application
-  pub inst_refused : (s : Span) (a : Bor FType) → Offered f st (C.Inst s a) ty q →
+  pub inst_refused : (i : Instance) → Offered f st (C.Inst i) ty q →
       (z : Result Control Failure) (m : ℕ) →
       Stops st E09 q WPolymorphic (tree ty) z → ((b : Ty) → tree ty ≢ TAll b) → Goes f st z m
-  inst_refused s a h z m k ne =
+  inst_refused i h z m k ne =
       let w = h.1 in
-      refused f st w h.5 (SInst (place s) h.0 (tree a.now)) st E09 q k.0 (odds w.around WPolymorphic (tree ty)) z m k.1
+      refused f st w h.5 (SInst (place i.span) h.0 (tree i.ty.now)) st E09 q k.0
+      (odds w.around WPolymorphic (tree ty)) z m k.1
       (k.2 ∙ ap (λ n. odds n WPolymorphic (tree ty)) h.4.2.0) h.4.0
-      (forms.inst_all w.around (context w) (place s) h.0 (tree a.now) (tree ty) (place q)
-      (same_type (C.Inst s a) h h.4.2).0 ne h.3)
+      (forms.inst_all w.around (context w) (place i.span) h.0 (tree i.ty.now) (tree ty) (place q)
+      (same_type (C.Inst i) h h.4.2).0 ne h.3)
 
-  inst_below : (s : Span) (a : Bor FType) (h : Offered f st (C.Inst s a) ty q) → Below h.1.around (tree a.now)
-  inst_below s a h = (subst (λ z. InScope (plain z) h.1.around (length h.1.scope)) h.4.0 h.4.1.1).1
+  inst_below : (i : Instance) (h : Offered f st (C.Inst i) ty q) → Below h.1.around (tree i.ty.now)
+  inst_below i h = (subst (λ z. InScope (plain z) h.1.around (length h.1.scope)) h.4.0 h.4.1.1).1
 
-  pub inst_fits : (s : Span) (a : Bor FType) → Offered f st (C.Inst s a) ty q → (b : FType) → tree ty ≡ TAll (tree b) →
-      Shallow (tree a.now) → PutFits 0 (tree a.now) 0 (tree b)
-  inst_fits s a h b eb small =
+  pub inst_fits : (i : Instance) → Offered f st (C.Inst i) ty q → (b : FType) → tree ty ≡ TAll (tree b) →
+      Shallow (tree i.ty.now) → PutFits 0 (tree i.ty.now) 0 (tree b)
+  inst_fits i h b eb small =
       let wi = subst Within eb h.2.2 in
       let room = h.4.1.2 in
-      put_fits h.1.around (tree a.now) (tree b) (omega (arith, room)) (inst_below s a h) small (omega (arith, wi.0))
+      put_fits h.1.around (tree i.ty.now) (tree b) (omega (arith, room)) (inst_below i h) small (omega (arith, wi.0))
 
-  inst_put : (s : Span) (a : Bor FType) (h : Offered f st (C.Inst s a) ty q) (b : FType) → tree ty ≡ TAll (tree b) →
-      (r : Result FType Failure) → IsPut (tree a.now) (tree b) (place s) r →
-      IsFound (SInst (place s) h.0 (tree a.now)) h.1.around (context h.1) r
-  inst_put s a h b eb r put =
-      forms.inst_put h.1.around (context h.1) (place s) h.0 (tree a.now) (tree ty) (tree b)
-      (same_type (C.Inst s a) h h.4.2) eb (inst_below s a h) r put
+  inst_put : (i : Instance) (h : Offered f st (C.Inst i) ty q) (b : FType) → tree ty ≡ TAll (tree b) →
+      (r : Result FType Failure) → IsPut (tree i.ty.now) (tree b) (place i.span) r →
+      IsFound (SInst (place i.span) h.0 (tree i.ty.now)) h.1.around (context h.1) r
+  inst_put i h b eb r put =
+      forms.inst_put h.1.around (context h.1) (place i.span) h.0 (tree i.ty.now) (tree ty) (tree b)
+      (same_type (C.Inst i) h h.4.2) eb (inst_below i h) r put
 
-  pub inst_given : (s : Span) (a : Bor FType) → Offered f st (C.Inst s a) ty q → (b t : FType) →
-      tree ty ≡ TAll (tree b) → IsPut (tree a.now) (tree b) (place s) (Ok t) →
-      Goes f st (Ok (Give t s T.Int)) (offer_work f st [])
-  inst_given s a h b t eb put =
+  pub inst_given : (i : Instance) → Offered f st (C.Inst i) ty q → (b t : FType) →
+      tree ty ≡ TAll (tree b) → IsPut (tree i.ty.now) (tree b) (place i.span) (Ok t) →
+      Goes f st (Ok (Give t i.span T.Int)) (offer_work f st [])
+  inst_given i h b t eb put =
       let w = h.1 in
-      given f st w h.5 T.Int st (SInst (place s) h.0 (tree a.now)) t s (offer_work f st []) refl
-      (task_is w st.around (map bound st.scope.items) h.4.2.0 h.4.2.1) h.4.0 (inst_put s a h b eb (Ok t) put) refl
+      given f st w h.5 T.Int st (SInst (place i.span) h.0 (tree i.ty.now)) t i.span (offer_work f st []) refl
+      (task_is w st.around (map bound st.scope.items) h.4.2.0 h.4.2.1) h.4.0 (inst_put i h b eb (Ok t) put) refl
       (omega arith)
 
-  pub inst_faulty : (s : Span) (a : Bor FType) → Offered f st (C.Inst s a) ty q → (b : FType) (x : Failure) →
-      tree ty ≡ TAll (tree b) → IsPut (tree a.now) (tree b) (place s) (Err x) → Tells x (FaultOf (top f))
-  inst_faulty s a h b x eb put =
-      faulty f st h.1 h.5 (SInst (place s) h.0 (tree a.now)) x h.4.0 (inst_put s a h b eb (Err x) put)
+  pub inst_faulty : (i : Instance) → Offered f st (C.Inst i) ty q → (b : FType) (x : Failure) →
+      tree ty ≡ TAll (tree b) → IsPut (tree i.ty.now) (tree b) (place i.span) (Err x) → Tells x (FaultOf (top f))
+  inst_faulty i h b x eb put =
+      faulty f st h.1 h.5 (SInst (place i.span) h.0 (tree i.ty.now)) x h.4.0 (inst_put i h b eb (Err x) put)
 
   -- a projection
   pub proj_refused : (s : Span) (i : ℕ) → Offered f st (C.Proj s i) ty q → (z : Result Control Failure) (m : ℕ) →
@@ -287,13 +293,13 @@ module _ (f : FTerm) (st : State) (ty : FType) (q : Span) where
       ) refl (omega arith)
 
   -- an if0
-  pub test_refused : (s : Span) (a b : ℕ) → Offered f st (C.Test s a b) ty q → (z : Result Control Failure) (m : ℕ) →
+  pub test_refused : (b : Branches) → Offered f st (C.Test b) ty q → (z : Result Control Failure) (m : ℕ) →
       Stops st E12 q (WType TInt) (tree ty) z → tree ty ≢ TInt → Goes f st z m
-  test_refused s a b h z m k ne =
+  test_refused b h z m k ne =
       let w = h.1 in
-      refused f st w h.5 (SIf0 (place s) h.0 (node_at f a) (node_at f b)) st E12 q k.0
+      refused f st w h.5 (SIf0 (place b.span) h.0 (node_at f b.zero) (node_at f b.other)) st E12 q k.0
       (odds w.around (WType TInt) (tree ty)) z m k.1 (k.2 ∙ ap (λ n. odds n (WType TInt) (tree ty)) h.4.2.0) h.4.0
-      (inr (tree ty, (same_type (C.Test s a b) h h.4.2).0, inl (ne, (refl, sym h.3))))
+      (inr (tree ty, (same_type (C.Test b) h h.4.2).0, inl (ne, (refl, sym h.3))))
 
   pub other_refused : (s : Span) (zero : FType) → Offered f st (C.Other s zero) ty q →
       (z : Result Control Failure) (m : ℕ) →
@@ -318,62 +324,64 @@ module _ (f : FTerm) (st : State) (ty : FType) (q : Span) where
       ) refl (omega arith)
 
   -- a tuple
-  pub field_passes : (s : Span) (ts us : Vec FType Global) (rest : Bor (List ℕ))
-      (h : Offered f st (C.Fields s ts rest) ty q) → map tree us.items ≡ map tree ts.items ++ tree ty ∷ [] →
+  pub field_passes : (x : Fields) (us : Vec FType Global) (h : Offered f st (C.Fields x) ty q) →
+      map tree us.items ≡ map tree x.types.items ++ tree ty ∷ [] →
       AllPass h.1.around (context h.1) (h.4.0 ++ h.0 ∷ []) (map tree us.items)
-  field_passes s ts us rest h eu =
+  field_passes x us h eu =
       let w = h.1 in
-      let p = same_type (C.Fields s ts rest) h h.4.3 in
+      let p = same_type (C.Fields x) h h.4.3 in
       subst (AllPass w.around (context w) (h.4.0 ++ h.0 ∷ [])) (sym eu)
-      (all_more w.around (context w) h.4.0 (map tree ts.items) h.0 (tree ty) h.4.4 p.0 p.1)
+      (all_more w.around (context w) h.4.0 (map tree x.types.items) h.0 (tree ty) h.4.4 p.0 p.1)
 
-  pub field_enters : (s : Span) (ts us : Vec FType Global) (rest : Bor (List ℕ)) →
-      Offered f st (C.Fields s ts rest) ty q → map tree us.items ≡ map tree ts.items ++ tree ty ∷ [] →
-      (j : ℕ) (more : Bor (List ℕ)) → rest.now ≡ j ∷ more.now → Enters f st (C.Fields s us more) j
-  field_enters s ts us rest h eu j more er =
+  pub field_enters : (x : Fields) (us : Vec FType Global) → Offered f st (C.Fields x) ty q →
+      map tree us.items ≡ map tree x.types.items ++ tree ty ∷ [] →
+      (j : ℕ) (more : Bor (List ℕ)) → x.rest.now ≡ j ∷ more.now →
+      Enters f st (C.Fields (record x { types = us; rest = more })) j
+  field_enters x us h eu j more er =
       let w = h.1 in
       let es = h.4.0 ++ h.0 ∷ [] in
       let tail = map (node_at f) more.now in
-      let is : w.e ≡ STuple (place s) (tms (es ++ node_at f j ∷ tail)) =
-      h.4.1 ∙ ap (λ (ks : List ℕ). STuple (place s) (tms (h.4.0 ++ h.0 ∷ map (node_at f) ks))) er
-      ∙ ap (λ (xs : List Tm). STuple (place s) (tms xs)) (one_more h.4.0 h.0 (node_at f j) tail) in
-      let low = All-same (λ k. k < count f) (j ∷ more.now) rest.now (sym er) h.4.5 in
-      next f st w h.5 (C.Fields s us more) j (STuple (place s) (tms (es ++ node_at f j ∷ tail))) h.4.3.0 h.4.3.1 is
-      h.4.2 (All-head (λ k. k < count f) j more.now low)
+      let is : w.e ≡ STuple (place x.span) (tms (es ++ node_at f j ∷ tail)) =
+      h.4.1 ∙ ap (λ (ks : List ℕ). STuple (place x.span) (tms (h.4.0 ++ h.0 ∷ map (node_at f) ks))) er
+      ∙ ap (λ (es : List Tm). STuple (place x.span) (tms es)) (one_more h.4.0 h.0 (node_at f j) tail) in
+      let low = All-same (λ k. k < count f) (j ∷ more.now) x.rest.now (sym er) h.4.5 in
+      next f st w h.5 (C.Fields (record x { types = us; rest = more })) j
+      (STuple (place x.span) (tms (es ++ node_at f j ∷ tail))) h.4.3.0 h.4.3.1 is h.4.2
+      (All-head (λ k. k < count f) j more.now low)
       (λ n m. part_known n m es (node_at f j) tail) (omega (arith, part_nodes es (node_at f j) tail))
-      (es, is, h.4.2, h.4.3, field_passes s ts us rest h eu, All-tail (λ k. k < count f) j more.now low)
+      (es, is, h.4.2, h.4.3, field_passes x us h eu, All-tail (λ k. k < count f) j more.now low)
 
-  no_rest : (s : Span) (ts : Vec FType Global) (rest : Bor (List ℕ)) (h : Offered f st (C.Fields s ts rest) ty q) →
-      length rest.now ≡ 0 → h.1.e ≡ STuple (place s) (tms (h.4.0 ++ h.0 ∷ []))
-  no_rest s ts rest h z = h.4.1 ∙ go rest.now z
+  no_rest : (x : Fields) (h : Offered f st (C.Fields x) ty q) →
+      length x.rest.now ≡ 0 → h.1.e ≡ STuple (place x.span) (tms (h.4.0 ++ h.0 ∷ []))
+  no_rest x h z = h.4.1 ∙ go x.rest.now z
     where
-      go : (ks : List ℕ) → length ks ≡ 0 → STuple (place s) (tms (h.4.0 ++ h.0 ∷ map (node_at f) ks))
-          ≡ STuple (place s) (tms (h.4.0 ++ h.0 ∷ []))
+      go : (ks : List ℕ) → length ks ≡ 0 → STuple (place x.span) (tms (h.4.0 ++ h.0 ∷ map (node_at f) ks))
+          ≡ STuple (place x.span) (tms (h.4.0 ++ h.0 ∷ []))
       go [] z = refl
       go (k ∷ ks) z = absurd (omega (arith, z))
 
-  pub field_given : (s : Span) (ts us : Vec FType Global) (rest : Bor (List ℕ)) →
-      Offered f st (C.Fields s ts rest) ty q → map tree us.items ≡ map tree ts.items ++ tree ty ∷ [] →
-      length rest.now ≡ 0 → Within (TTuple (tys (map tree us.items))) →
-      Goes f st (Ok (Give (T.Tuple us) s T.Int)) (offer_work f st rest.now)
-  field_given s ts us rest h eu z wi =
+  pub field_given : (x : Fields) (us : Vec FType Global) → Offered f st (C.Fields x) ty q →
+      map tree us.items ≡ map tree x.types.items ++ tree ty ∷ [] →
+      length x.rest.now ≡ 0 → Within (TTuple (tys (map tree us.items))) →
+      Goes f st (Ok (Give (T.Tuple us) x.span T.Int)) (offer_work f st x.rest.now)
+  field_given x us h eu z wi =
       let w = h.1 in
-      given f st w h.5 T.Int st (STuple (place s) (tms (h.4.0 ++ h.0 ∷ []))) (T.Tuple us) s (offer_work f st rest.now)
-      refl (task_is w st.around (map bound st.scope.items) h.4.3.0 h.4.3.1) (no_rest s ts rest h z)
-      (tuple_ok w.around (context w) (place s) (h.4.0 ++ h.0 ∷ []) (map tree us.items) (tree (T.Tuple us))
-      (field_passes s ts us rest h eu) (tree_Tuple us) wi) refl (omega arith)
+      given f st w h.5 T.Int st (STuple (place x.span) (tms (h.4.0 ++ h.0 ∷ []))) (T.Tuple us) x.span
+      (offer_work f st x.rest.now) refl (task_is w st.around (map bound st.scope.items) h.4.3.0 h.4.3.1) (no_rest x h z)
+      (tuple_ok w.around (context w) (place x.span) (h.4.0 ++ h.0 ∷ []) (map tree us.items) (tree (T.Tuple us))
+      (field_passes x us h eu) (tree_Tuple us) wi) refl (omega arith)
 
-  pub field_faulty : (s : Span) (ts us : Vec FType Global) (rest : Bor (List ℕ)) →
-      Offered f st (C.Fields s ts rest) ty q → map tree us.items ≡ map tree ts.items ++ tree ty ∷ [] →
-      length rest.now ≡ 0 →
-      (x : Failure) → Tells x (limits (TTuple (tys (map tree us.items))) (place s) nothing) →
-      Tells x (FaultOf (top f))
-  field_faulty s ts us rest h eu z x k =
+  pub field_faulty : (x : Fields) (us : Vec FType Global) → Offered f st (C.Fields x) ty q →
+      map tree us.items ≡ map tree x.types.items ++ tree ty ∷ [] →
+      length x.rest.now ≡ 0 →
+      (e : Failure) → Tells e (limits (TTuple (tys (map tree us.items))) (place x.span) nothing) →
+      Tells e (FaultOf (top f))
+  field_faulty x us h eu z e k =
       let w = h.1 in
-      faulty f st w h.5 (STuple (place s) (tms (h.4.0 ++ h.0 ∷ []))) x (no_rest s ts rest h z)
-      (forms.tells_map x _ (FaultNoted (STuple (place s) (tms (h.4.0 ++ h.0 ∷ []))) w.around (context w))
-      (tuple_limit w.around (context w) (place s) (h.4.0 ++ h.0 ∷ []) (map tree us.items)
-      (field_passes s ts us rest h eu)) k)
+      faulty f st w h.5 (STuple (place x.span) (tms (h.4.0 ++ h.0 ∷ []))) e (no_rest x h z)
+      (forms.tells_map e _ (FaultNoted (STuple (place x.span) (tms (h.4.0 ++ h.0 ∷ []))) w.around (context w))
+      (tuple_limit w.around (context w) (place x.span) (h.4.0 ++ h.0 ∷ []) (map tree us.items)
+      (field_passes x us h eu)) k)
 
   -- a let
   pub let_enters : (s : Span) (b : ℕ) → Offered f st (C.Let s b) ty q → (sc : Vec Binder Global) →
@@ -609,24 +617,24 @@ module _ (f : FTerm) (st : State) (ty : FType) (q : Span) where
       (forms.assign_first w.around (context w) (place s) h.0 (node_at f b) (tree ty) (place q)
       (same_type (C.Target s b) h h.4.2).0 ne h.3)
 
-  pub assigned_refused : (s : Span) (u : FType) → Offered f st (C.Assigned s u) ty q →
+  pub assigned_refused : (x : Assignment) → Offered f st (C.Assigned x) ty q →
       (z : Result Control Failure) (m : ℕ) →
-      Stops st E22 q (WType (tree u)) (tree ty) z → tree ty ≢ tree u → Goes f st z m
-  assigned_refused s u h z m k ne =
+      Stops st E22 q (WType (tree x.held)) (tree ty) z → tree ty ≢ tree x.held → Goes f st z m
+  assigned_refused x h z m k ne =
       let w = h.1 in
-      refused f st w h.5 (SAssign (place s) h.4.0 h.0) st E22 q k.0 (odds w.around (WType (tree u)) (tree ty)) z m k.1
-      (k.2 ∙ ap (λ n. odds n (WType (tree u)) (tree ty)) h.4.3.0) h.4.1
-      (forms.assign_other w.around (context w) (place s) h.4.0 h.0 (tree u) (tree ty) (place q) h.4.4
-      (same_type (C.Assigned s u) h h.4.3).0 ne h.3)
+      refused f st w h.5 (SAssign (place x.span) h.4.0 h.0) st E22 q k.0 (odds w.around (WType (tree x.held)) (tree ty))
+      z m k.1 (k.2 ∙ ap (λ n. odds n (WType (tree x.held)) (tree ty)) h.4.3.0) h.4.1
+      (forms.assign_other w.around (context w) (place x.span) h.4.0 h.0 (tree x.held) (tree ty) (place q) h.4.4
+      (same_type (C.Assigned x) h h.4.3).0 ne h.3)
 
-  pub assigned_given : (s : Span) (u : FType) → Offered f st (C.Assigned s u) ty q → (t : FType) →
-      tree t ≡ TTuple NoTys → tree ty ≡ tree u → Goes f st (Ok (Give t s T.Int)) (offer_work f st [])
-  assigned_given s u h t eu et =
+  pub assigned_given : (x : Assignment) → Offered f st (C.Assigned x) ty q → (t : FType) →
+      tree t ≡ TTuple NoTys → tree ty ≡ tree x.held → Goes f st (Ok (Give t x.span T.Int)) (offer_work f st [])
+  assigned_given x h t eu et =
       let w = h.1 in
       let wi : Within (TTuple NoTys) = (omega arith, omega arith) in
-      given f st w h.5 T.Int st (SAssign (place s) h.4.0 h.0) t s (offer_work f st []) refl
+      given f st w h.5 T.Int st (SAssign (place x.span) h.4.0 h.0) t x.span (offer_work f st []) refl
       (task_is w st.around (map bound st.scope.items) h.4.3.0 h.4.3.1) h.4.1 (
-        (tree u, eu, h.4.4, subst (Passes h.0 w.around (context w)) et (same_type (C.Assigned s u) h h.4.3).0),
+        (tree x.held, eu, h.4.4, subst (Passes h.0 w.around (context w)) et (same_type (C.Assigned x) h h.4.3).0),
         subst (Below w.around) (sym eu) tt,
         subst Within (sym eu) wi,
       ) refl (omega arith)

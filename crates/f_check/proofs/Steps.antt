@@ -98,16 +98,16 @@ module _ (f : FTerm) (c : Note) (p : Spn) where
           let body = in_body t w (tree x.arg.now) (tree x.res.now) h.2 h.3 (λ n g. FaultNoted t.e n g c p) k in
           back _ h.0 (inr (h.4.0, inr (h.4.1, inl body)))
       go (C.Function s x) h = back _ h.0 (inl (same h.2))
-      go (C.Argument s a r) h = back _ h.1 (inr (TArrow (tree a) (tree r), h.4.0, inl (same h.3)))
+      go (C.Argument x) h = back _ h.1 (inr (TArrow (tree x.arg) (tree x.res), h.4.0, inl (same h.3)))
       go (C.Gen s) h = back _ h.0 (inl (in_gen t w h.1 h.2 h.3 (λ n g. FaultNoted t.e n g c p) k))
-      go (C.Inst s a) h = back _ h.0 (inl (same h.2))
-      go (C.Fields s ts rest) h =
-          let more = map (node_at f) rest.now in
-          back _ h.1 (inl (fault_part w.around (context w) h.0 (map tree ts.items) t.e more h.4 c p (same h.3)))
+      go (C.Inst x) h = back _ h.0 (inl (same h.2))
+      go (C.Fields x) h =
+          let more = map (node_at f) x.rest.now in
+          back _ h.1 (inl (fault_part w.around (context w) h.0 (map tree x.types.items) t.e more h.4 c p (same h.3)))
       go (C.Proj s i) h = back _ h.0 (inl (same h.2))
       go (C.Left s b) h = back _ h.1 (inl (same h.3))
       go (C.Right s) h = back _ h.2 (inr (TInt, h.5, inr (refl, inl (same h.4))))
-      go (C.Test s a b) h = back _ h.0 (inl (same h.2))
+      go (C.Test x) h = back _ h.0 (inl (same h.2))
       go (C.Zero s b) h = back _ h.1 (inr (TInt, h.4, inr (refl, inl (same h.3))))
       go (C.Other s z) h = back _ h.2 (inr (TInt, h.5, inr (refl, inr (tree z, h.6.0, inl (same h.4)))))
       go (C.Let s b) h = back _ h.0 (inl (same h.2))
@@ -123,7 +123,7 @@ module _ (f : FTerm) (c : Note) (p : Spn) where
       go (C.Ref s) h = back _ h.0 (inl (same h.2))
       go (C.Deref s) h = back _ h.0 (inl (same h.2))
       go (C.Target s b) h = back _ h.0 (inl (same h.2))
-      go (C.Assigned s u) h = back _ h.1 (inr (TRef (tree u), h.4, inl (same h.3)))
+      go (C.Assigned x) h = back _ h.1 (inr (TRef (tree x.held), h.4, inl (same h.3)))
 
 -- a fault of a task is the fault of the whole
 pub fails : (f : FTerm) (st : State) (w : Task) → Holds f st w → (e : Failure) → Tells e (FaultOf w) →

@@ -35,14 +35,14 @@ first_type f n g = TInt
 abbrev pub inner : FTerm → FShape → Frame → Tys → Tys
 inner f n (C.Fix x) g = in_fix (tree x.arg.now) (tree x.res.now) g
 inner f n (C.Function s x) g = g
-inner f n (C.Argument s a r) g = g
+inner f n (C.Argument x) g = g
 inner f n (C.Gen s) g = raised g
-inner f n (C.Inst s a) g = g
-inner f n (C.Fields s ts rest) g = g
+inner f n (C.Inst x) g = g
+inner f n (C.Fields x) g = g
 inner f n (C.Proj s i) g = g
 inner f n (C.Left s b) g = g
 inner f n (C.Right s) g = g
-inner f n (C.Test s a b) g = g
+inner f n (C.Test x) g = g
 inner f n (C.Zero s b) g = g
 inner f n (C.Other s z) g = g
 inner f n (C.Let s b) g = g
@@ -53,21 +53,21 @@ inner f n (C.Opened s) g = in_open (opened_of (first_type f n g)) g
 inner f n (C.Ref s) g = g
 inner f n (C.Deref s) g = g
 inner f n (C.Target s b) g = g
-inner f n (C.Assigned s u) g = g
+inner f n (C.Assigned x) g = g
 
 -- the frame is one of this form
 abbrev pub IsOf : FShape → Frame → Type 0
 IsOf n (C.Fix x) = (b : ℕ) × (t u : FType) × (n ≡ S.Fix t u b) × (tree x.arg.now ≡ tree t)
     × (tree x.res.now ≡ tree u)
 IsOf n (C.Function s y) = (a x : ℕ) × (n ≡ S.App a x)
-IsOf n (C.Argument s t r) = (a x : ℕ) × (n ≡ S.App a x)
+IsOf n (C.Argument y) = (a x : ℕ) × (n ≡ S.App a x)
 IsOf n (C.Gen s) = (b : ℕ) × (n ≡ S.Gen b)
-IsOf n (C.Inst s a) = (e : ℕ) × (t : FType) × (n ≡ S.Inst e t)
-IsOf n (C.Fields s ts rest) = (es : _) × (n ≡ S.Tuple es)
+IsOf n (C.Inst x) = (e : ℕ) × (t : FType) × (n ≡ S.Inst e t)
+IsOf n (C.Fields x) = (es : _) × (n ≡ S.Tuple es)
 IsOf n (C.Proj s i) = (j e : ℕ) × (n ≡ S.Proj j e)
 IsOf n (C.Left s y) = (op : Op) × (a b : ℕ) × (n ≡ S.Arith op a b)
 IsOf n (C.Right s) = (op : Op) × (a b : ℕ) × (n ≡ S.Arith op a b)
-IsOf n (C.Test s x y) = (c a b : ℕ) × (n ≡ S.If0 c a b)
+IsOf n (C.Test x) = (c a b : ℕ) × (n ≡ S.If0 c a b)
 IsOf n (C.Zero s y) = (c a b : ℕ) × (n ≡ S.If0 c a b)
 IsOf n (C.Other s z) = (c a b : ℕ) × (n ≡ S.If0 c a b)
 IsOf n (C.Let s y) = (a b : ℕ) × (n ≡ S.Let a b)
@@ -78,7 +78,7 @@ IsOf n (C.Opened s) = (a b : ℕ) × (n ≡ S.Open a b)
 IsOf n (C.Ref s) = (e : ℕ) × (n ≡ S.Ref e)
 IsOf n (C.Deref s) = (e : ℕ) × (n ≡ S.Deref e)
 IsOf n (C.Target s y) = (a b : ℕ) × (n ≡ S.Assign a b)
-IsOf n (C.Assigned s u) = (a b : ℕ) × (n ≡ S.Assign a b)
+IsOf n (C.Assigned x) = (a b : ℕ) × (n ≡ S.Assign a b)
 
 -- the frame of a node of this form waits for part l; the parts before it are noted
 abbrev pub Waits : FTerm → List FType → Tys → FShape → Frame → ℕ → Type 0

@@ -68,20 +68,20 @@ Part f (C.Fix x) t w =
     × (t.scope ≡ w.scope ++ fix_names w.around (tree x.arg.now) (tree x.res.now))
     × Within (TArrow (tree x.arg.now) (tree x.res.now))
 Part f (C.Function s x) t w = (w.e ≡ SApp (place s) t.e (node_at f x)) × IsReady w × Same t w × (x < count f)
-Part f (C.Argument s a r) t w = (e : Tm) × (w.e ≡ SApp (place s) e t.e) × IsReady w × Same t w
-    × IsTypeOf e w.around (context w) (TArrow (tree a) (tree r))
+Part f (C.Argument x) t w = (e : Tm) × (w.e ≡ SApp (place x.span) e t.e) × IsReady w × Same t w
+    × IsTypeOf e w.around (context w) (TArrow (tree x.arg) (tree x.res))
 Part f (C.Gen s) t w = (w.e ≡ SGen (place s) t.e) × IsReady w × (t.around ≡ w.around + 1) × (t.scope ≡ w.scope)
-Part f (C.Inst s a) t w = (w.e ≡ SInst (place s) t.e (tree a.now)) × IsReady w × Same t w
-Part f (C.Fields s ts rest) t w = (es : List Tm)
-    × (w.e ≡ STuple (place s) (tms (es ++ t.e ∷ map (node_at f) rest.now))) × IsReady w × Same t w
-    × AllPass w.around (context w) es (map tree ts.items) × All (λ k. k < count f) rest.now
+Part f (C.Inst x) t w = (w.e ≡ SInst (place x.span) t.e (tree x.ty.now)) × IsReady w × Same t w
+Part f (C.Fields x) t w = (es : List Tm)
+    × (w.e ≡ STuple (place x.span) (tms (es ++ t.e ∷ map (node_at f) x.rest.now))) × IsReady w × Same t w
+    × AllPass w.around (context w) es (map tree x.types.items) × All (λ k. k < count f) x.rest.now
 Part f (C.Proj s i) t w = (w.e ≡ SProj (place s) i t.e) × IsReady w × Same t w
 Part f (C.Left s b) t w = (op : Op) × (w.e ≡ SArith (place s) op t.e (node_at f b)) × IsReady w × Same t w
     × (b < count f)
 Part f (C.Right s) t w = (op : Op) × (a : Tm) × (w.e ≡ SArith (place s) op a t.e) × IsReady w × Same t w
     × Passes a w.around (context w) TInt
-Part f (C.Test s a b) t w = (w.e ≡ SIf0 (place s) t.e (node_at f a) (node_at f b)) × IsReady w × Same t w
-    × (a < count f) × (b < count f)
+Part f (C.Test x) t w = (w.e ≡ SIf0 (place x.span) t.e (node_at f x.zero) (node_at f x.other)) × IsReady w × Same t w
+    × (x.zero < count f) × (x.other < count f)
 Part f (C.Zero s b) t w = (c : Tm) × (w.e ≡ SIf0 (place s) c t.e (node_at f b)) × IsReady w × Same t w
     × Passes c w.around (context w) TInt × (b < count f)
 Part f (C.Other s z) t w = (c : Tm) × (a : Tm) × (w.e ≡ SIf0 (place s) c a t.e) × IsReady w × Same t w
@@ -98,8 +98,8 @@ Part f (C.Opened s) t w = (a : Tm) × (w.e ≡ SOpen (place s) a t.e) × IsReady
 Part f (C.Ref s) t w = (w.e ≡ SRef (place s) t.e) × IsReady w × Same t w
 Part f (C.Deref s) t w = (w.e ≡ SDeref (place s) t.e) × IsReady w × Same t w
 Part f (C.Target s b) t w = (w.e ≡ SAssign (place s) t.e (node_at f b)) × IsReady w × Same t w × (b < count f)
-Part f (C.Assigned s u) t w = (a : Tm) × (w.e ≡ SAssign (place s) a t.e) × IsReady w × Same t w
-    × Passes a w.around (context w) (TRef (tree u))
+Part f (C.Assigned x) t w = (a : Tm) × (w.e ≡ SAssign (place x.span) a t.e) × IsReady w × Same t w
+    × Passes a w.around (context w) (TRef (tree x.held))
 
 -- the whole term, and the term e where the state stands
 abbrev pub top : FTerm → Task
@@ -141,9 +141,9 @@ all_nodes f (k ∷ ks) = nodes (plain (node_at f k)) + all_nodes f ks
 
 abbrev pub rest_of : Frame → List ℕ
 rest_of (C.Function s x) = x ∷ []
-rest_of (C.Fields s ts rest) = rest.now
+rest_of (C.Fields x) = x.rest.now
 rest_of (C.Left s b) = b ∷ []
-rest_of (C.Test s a b) = a ∷ b ∷ []
+rest_of (C.Test x) = x.zero ∷ x.other ∷ []
 rest_of (C.Zero s b) = b ∷ []
 rest_of (C.Let s b) = b ∷ []
 rest_of (C.Open s b) = b ∷ []

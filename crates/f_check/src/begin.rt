@@ -13,7 +13,7 @@ ghost use Rattle.f_check.specs.declared.frame.Control.TheVariants as control;
 
 use crate::count::limit;
 use crate::failure::Failure;
-use crate::frame::{Control, Frame, Head, Packing, State, Written};
+use crate::frame::{Branches, Control, Fields, Frame, Head, Instance, Packing, State, Written};
 use crate::mismatch::{Wanted, odds};
 use crate::parts::shape_body;
 use crate::resume::refused;
@@ -49,11 +49,18 @@ pub(crate) fn begin<'a>(
         }
         FShape::App(f, x) => enter(term, state, Frame::Function { span, x: *x }, *f),
         FShape::Gen(body) => begin_gen(term, state, span, *body),
-        FShape::Inst(e, ty) => enter(term, state, Frame::Inst { span, ty }, *e),
+        FShape::Inst(e, ty) => enter(term, state, Frame::Inst(Instance { span, ty }), *e),
         FShape::Tuple(es) => begin_tuple(alloc, term, state, span, es),
         FShape::Proj(i, e) => enter(term, state, Frame::Proj { span, i: *i }, *e),
         FShape::Arith(_, a, b) => enter(term, state, Frame::Left { span, b: *b }, *a),
-        FShape::If0(c, a, b) => enter(term, state, Frame::Test { span, a: *a, b: *b }, *c),
+        FShape::If0(c, a, b) => {
+            let branches = Branches {
+                span,
+                zero: *a,
+                other: *b,
+            };
+            enter(term, state, Frame::Test(branches), *c)
+        }
         FShape::Let(a, b) => enter(term, state, Frame::Let { span, b: *b }, *a),
         FShape::Pack {
             hidden,
@@ -205,6 +212,9 @@ fn begin_tuple<'a>(
             span,
             bound: FType::Int,
         }),
-        Some((e, rest)) => enter(term, state, Frame::Fields { span, types, rest }, *e),
+        Some((e, rest)) => {
+            let fields = Fields { span, types, rest };
+            enter(term, state, Frame::Fields(fields), *e)
+        }
     }
 }

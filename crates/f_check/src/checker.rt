@@ -22,7 +22,7 @@ use crate::begin::begin;
 use crate::failure::{Failure, fault_alone, mismatch_alone};
 use crate::frame::{Control, Passed, State};
 use crate::mismatch::Mismatch;
-use crate::notes::{blank, close, follow, note};
+use crate::notes::{Answer, blank, close, follow, note};
 use crate::resume::resume;
 use crate::typed::Typed;
 use f_terms::{
@@ -59,7 +59,8 @@ fn type_of(alloc: Global, term: &FTerm) -> Result<(FType, Vec<FType>), Failure>
             }
             Control::Give { ty, span, bound } => {
                 let node = close(&mut path);
-                note(alloc, term, &mut types, node, &ty, bound)?;
+                let answer = Answer { ty: &ty, bound };
+                note(alloc, term, &mut types, node, answer)?;
                 match state.frames.pop() {
                     Some(frame) => {
                         let part = Passed { ty, span };

@@ -76,20 +76,28 @@ fn kept(alloc: Global, shape: &FShape, ty: &FType, bound: FType) -> Result<FType
     }
 }
 
+// What is found of a node whose parts have passed: its type, and the type of the name that it binds.
+#[derive(Drop)]
+pub(crate) struct Answer<'a> {
+    pub ty: &'a FType,
+    pub bound: FType,
+}
+
 // The type of a node is put down.
 pub(crate) fn note(
     alloc: Global,
     term: &FTerm,
     types: &mut Vec<FType>,
     node: u64,
-    ty: &FType,
-    bound: FType,
+    answer: Answer,
 ) -> Result<(), Failure>
     requires inside { node < count term.now }
     requires table { node < length types.old.items }
-    ensures right { OnOk result (Noting term.now types.old.items types.new.items node (tree ty.now) (tree bound)) }
+    ensures right { OnOk result (Noting term.now types.old.items types.new.items node
+        (tree answer.entry.ty.now) (tree answer.entry.bound)) }
     ensures memory { IfErr result (λ e. e ≡ failure.Memory) }
 {
+    let Answer { ty, bound } = answer;
     types[node as usize] = kept(alloc, &term.node(node).shape, ty, bound)?;
     Ok(())
 }

@@ -9,7 +9,9 @@ ghost use Rattle.f_check.specs.declared.failure.Failure.TheVariants as failure;
 
 use crate::count::limit;
 use crate::failure::Failure;
-use crate::frame::{Control, Frame, Head, Packing, Passed, State};
+use crate::frame::{
+    Applied, Assignment, Branches, Control, Fields, Frame, Head, Instance, Packing, Passed, State,
+};
 use crate::mismatch::{Mismatch, Wanted, odds};
 use crate::parts::{
     all_body, arrow_parts, held_part, is_int, outer, some_body, take_field, tuple_parts,
@@ -75,7 +77,7 @@ fn after_function(
         (map bound state.old.scope.items) state.old.frames.items state.new.frames.items c) }
 {
     match arrow_parts(part.ty) {
-        Ok((arg, res)) => enter(term, state, Frame::Argument { span, arg, res }, x),
+        Ok((arg, res)) => enter(term, state, Frame::Argument(Applied { span, arg, res }), x),
         Err(found) => {
             let mismatch = odds(Wanted::Function, found, state.around);
             refused(Code::E07, part.span, mismatch)
@@ -86,16 +88,15 @@ fn after_function(
 fn after_argument(
     term: &FTerm,
     state: &State,
-    span: Span,
-    arg: FType,
-    res: FType,
+    applied: Applied,
     part: Passed,
 ) -> Result<Control, Failure>
-    requires { Offered term.now state.now (frames.Argument span arg res) part.ty part.span }
+    requires { Offered term.now state.now (frames.Argument applied) part.ty part.span }
     ensures goes { Goes term.now state.now result (offer_work term.now state.now []) }
-    ensures frames { IfOk result (λ c. Resumed (frames.Argument span arg res)
+    ensures frames { IfOk result (λ c. Resumed (frames.Argument applied)
         (map bound state.now.scope.items) state.now.frames.items state.now.frames.items c) }
 {
+    let Applied { span, arg, res } = applied;
     if !eq(&part.ty, &arg) {
         let mismatch = odds(Wanted::Exactly(arg), part.ty, state.around);
         return refused(Code::E08, part.span, mismatch);
@@ -135,15 +136,15 @@ fn after_inst(
     alloc: Global,
     term: &FTerm,
     state: &State,
-    span: Span,
-    arg: &FType,
+    instance: Instance,
     part: Passed,
 ) -> Result<Control, Failure>
-    requires { Offered term.now state.now (frames.Inst span arg) part.ty part.span }
+    requires { Offered term.now state.now (frames.Inst instance) part.ty part.span }
     ensures goes { Goes term.now state.now result (offer_work term.now state.now []) }
-    ensures frames { IfOk result (λ c. Resumed (frames.Inst span arg.entry)
+    ensures frames { IfOk result (λ c. Resumed (frames.Inst instance.entry)
         (map bound state.now.scope.items) state.now.frames.items state.now.frames.items c) }
 {
+    let Instance { span, ty: arg } = instance;
     let body = match all_body(part.ty) {
         Ok(body) => body,
         Err(found) => {
@@ -169,20 +170,22 @@ fn push(types: &mut Vec<FType>, ty: FType) -> Result<(), OutOfMemory>
 fn after_field<'a>(
     term: &FTerm,
     state: &mut State<'a>,
-    span: Span,
-    types: Vec<FType>,
-    rest: &'a [u64],
+    fields: Fields<'a>,
     part: Passed,
 ) -> Result<Control, Failure>
-    requires { Offered term.now state.old (frames.Fields span types rest) part.ty part.span }
-    ensures goes { Goes term.now state.new result (offer_work term.now state.old rest.now) }
-    ensures frames { IfOk result (λ c. Resumed (frames.Fields span types rest.entry)
+    requires { Offered term.now state.old (frames.Fields fields) part.ty part.span }
+    ensures goes { Goes term.now state.new result (offer_work term.now state.old fields.entry.rest.now) }
+    ensures frames { IfOk result (λ c. Resumed (frames.Fields fields.entry)
         (map bound state.old.scope.items) state.old.frames.items state.new.frames.items c) }
 {
+    let Fields { span, types, rest } = fields;
     let mut types = types;
     push(&mut types, part.ty)?;
     match rest.split_first() {
-        Some((e, rest)) => enter(term, state, Frame::Fields { span, types, rest }, *e),
+        Some((e, rest)) => {
+            let fields = Fields { span, types, rest };
+            enter(term, state, Frame::Fields(fields), *e)
+        }
         None => {
             let ty = FType::Tuple(types);
             limit(depth(&ty), size(&ty), span)?;
@@ -266,21 +269,21 @@ fn after_right(term: &FTerm, state: &State, span: Span, part: Passed) -> Result<
 fn after_test(
     term: &FTerm,
     state: &mut State,
-    span: Span,
-    a: u64,
-    b: u64,
+    branches: Branches,
     part: Passed,
 ) -> Result<Control, Failure>
-    requires { Offered term.now state.old (frames.Test span a b) part.ty part.span }
-    ensures goes { Goes term.now state.new result (offer_work term.now state.old (a ∷ b ∷ [])) }
-    ensures frames { IfOk result (λ c. Resumed (frames.Test span a b)
+    requires { Offered term.now state.old (frames.Test branches) part.ty part.span }
+    ensures goes { Goes term.now state.new result
+        (offer_work term.now state.old (branches.zero ∷ branches.other ∷ [])) }
+    ensures frames { IfOk result (λ c. Resumed (frames.Test branches)
         (map bound state.old.scope.items) state.old.frames.items state.new.frames.items c) }
 {
+    let Branches { span, zero, other } = branches;
     if !is_int(&part.ty) {
         let mismatch = odds(Wanted::Exactly(FType::Int), part.ty, state.around);
         return refused(Code::E12, part.span, mismatch);
     }
-    enter(term, state, Frame::Zero { span, b }, a)
+    enter(term, state, Frame::Zero { span, b: other }, zero)
 }
 
 fn after_zero(
@@ -491,7 +494,7 @@ fn after_target(
         (map bound state.old.scope.items) state.old.frames.items state.new.frames.items c) }
 {
     match held_part(part.ty) {
-        Ok(held) => enter(term, state, Frame::Assigned { span, held }, b),
+        Ok(held) => enter(term, state, Frame::Assigned(Assignment { span, held }), b),
         Err(found) => {
             let mismatch = odds(Wanted::Reference, found, state.around);
             refused(Code::E21, part.span, mismatch)
@@ -503,15 +506,15 @@ fn after_assigned(
     alloc: Global,
     term: &FTerm,
     state: &State,
-    span: Span,
-    held: FType,
+    assignment: Assignment,
     part: Passed,
 ) -> Result<Control, Failure>
-    requires { Offered term.now state.now (frames.Assigned span held) part.ty part.span }
+    requires { Offered term.now state.now (frames.Assigned assignment) part.ty part.span }
     ensures goes { Goes term.now state.now result (offer_work term.now state.now []) }
-    ensures frames { IfOk result (λ c. Resumed (frames.Assigned span held)
+    ensures frames { IfOk result (λ c. Resumed (frames.Assigned assignment)
         (map bound state.now.scope.items) state.now.frames.items state.now.frames.items c) }
 {
+    let Assignment { span, held } = assignment;
     if !eq(&part.ty, &held) {
         let mismatch = odds(Wanted::Exactly(held), part.ty, state.around);
         return refused(Code::E22, part.span, mismatch);
@@ -539,14 +542,14 @@ pub(crate) fn resume<'a>(
     match frame {
         Frame::Fix(head) => after_fix(alloc, term, state, head, part),
         Frame::Function { span, x } => after_function(term, state, span, x, part),
-        Frame::Argument { span, arg, res } => after_argument(term, state, span, arg, res, part),
+        Frame::Argument(applied) => after_argument(term, state, applied, part),
         Frame::Gen { span } => after_gen(alloc, term, state, span, part),
-        Frame::Inst { span, ty: arg } => after_inst(alloc, term, state, span, arg, part),
-        Frame::Fields { span, types, rest } => after_field(term, state, span, types, rest, part),
+        Frame::Inst(instance) => after_inst(alloc, term, state, instance, part),
+        Frame::Fields(fields) => after_field(term, state, fields, part),
         Frame::Proj { span, i } => after_proj(term, state, span, i, part),
         Frame::Left { span, b } => after_left(term, state, span, b, part),
         Frame::Right { span } => after_right(term, state, span, part),
-        Frame::Test { span, a, b } => after_test(term, state, span, a, b, part),
+        Frame::Test(branches) => after_test(term, state, branches, part),
         Frame::Zero { span, b } => after_zero(term, state, span, b, part),
         Frame::Other { span, zero } => after_other(term, state, span, zero, part),
         Frame::Let { span, b } => after_let(term, state, span, b, part),
@@ -557,6 +560,6 @@ pub(crate) fn resume<'a>(
         Frame::Ref { span } => after_ref(alloc, term, state, span, part),
         Frame::Deref { span } => after_deref(term, state, span, part),
         Frame::Target { span, b } => after_target(term, state, span, b, part),
-        Frame::Assigned { span, held } => after_assigned(alloc, term, state, span, held, part),
+        Frame::Assigned(assignment) => after_assigned(alloc, term, state, assignment, part),
     }
 }

@@ -1,10 +1,10 @@
 -- The binding of names by a list of tasks.
-use Rattle.std.specs.Prelude.{◌≡◌, ℕ, ◌+◌, ◌-◌, ◌*◌, ◌<◌, ◌≤◌, List, [], ◌∷◌, ◌++◌, length, drop}
+use Rattle.std.specs.Prelude.{◌≡◌, ℕ, ◌+◌, ◌-◌, ◌*◌, ◌<◌, ◌≤◌, List, [], ◌∷◌, ◌++◌, length, drop, Result, MatchResult}
 use Rattle.idx_core.specs.declared.span.Span.{Span}
 use Rattle.idx_core.specs.Names.{Name}
 use Rattle.f_terms.specs.Tm.{Tm, tms}
 use Rattle.f_terms.specs.Read.{tree, place}
-use Rattle.f_terms.specs.Stacked.{arity, stacked}
+use Rattle.f_terms.specs.Stacked.{arity, stacked, trees_of}
 use Rattle.f_terms.specs.declared.types.FType.{FType}
 use Rattle.f_terms.specs.declared.stack.FStep.{FStep}
 use Rattle.f_terms.specs.declared.stack.FStep.TheVariants as form
@@ -15,6 +15,7 @@ use Rattle.f_parser.specs.Parts.{part_tree, part_trees}
 use Rattle.f_grammar.specs.Scope.{spelled, TypeOf, TermOf, TermsOf, Use, type_uses, uses, all_uses}
 use Rattle.f_parser.specs.Resolve.{StopsAt}
 use Rattle.f_parser.specs.declared.resolve.Unresolved.{Unresolved}
+use Rattle.f_parser.specs.declared.state.State.{State}
 use Rattle.f_parser.specs.declared.task.Leaves.{Leaves}
 use Rattle.f_parser.specs.declared.task.Leaves.TheVariants.{Nothing, Function, Abstraction, Binding, Opening}
 use Rattle.f_parser.specs.declared.task.Task.{Task}
@@ -166,3 +167,11 @@ pub record Follows (text : List ℕ) (x y : Stand) : Type 0 where
 -- and less is left to do
 abbrev pub Steps : List ℕ → Stand → Stand → Type 0
 Steps text x y = Follows text x y × (steps y.todo < steps x.todo)
+
+-- the task is done next: a state follows the one before, or the binding stops at a name that the task uses
+abbrev pub Goes : List ℕ → Todo → State → State → Result (Unit {0}) Unresolved → Type 0
+Goes text t old new r =
+    MatchResult r
+    (λ u. Steps text (stand (t ∷ todos old.tasks.items) old.values old.types (trees_of old.stack))
+    (stand (todos new.tasks.items) new.values new.types (trees_of new.stack)))
+    (λ e. StopsAt text (uses_of text t old.values old.types) e)

@@ -10,13 +10,14 @@ ghost use Rattle.f_parser.specs.Parts.{part_tree, part_trees};
 ghost use Rattle.f_grammar.specs.Scope.{TermOf, IsBinder, IsLetOrOpen, IsPack, uses};
 ghost use Rattle.f_parser.specs.Resolve.{StopsAt};
 ghost use Rattle.f_parser.specs.Binding.{Bind, BindAll, Put, HasParts, todo, todos};
-ghost use Rattle.f_parser.specs.Binding.{outer_values, outer_types, uses_of, Enough, stand, Steps};
+ghost use Rattle.f_parser.specs.Binding.{outer_values, outer_types, uses_of, Enough, stand, Steps, Goes};
 ghost use Rattle.f_parser.specs.declared.resolve.Unresolved.TheVariants as stopped;
 ghost use Rattle.f_parser.specs.declared.task.Leaves.TheVariants as leaves;
 
 use crate::part::{Part, Parts};
 use crate::parts::{child, children, node, split, whole};
 use crate::resolve::{Unresolved, spelling, type_in_scope};
+use crate::state::State;
 use crate::task::{Leaves, Task};
 use f_grammar::{RawShape, RawTerm};
 use f_terms::{FStack, FStep, FTerm};
@@ -167,17 +168,11 @@ fn open_parts<'a>(tasks: &mut Vec<Task<'a>>, term: Part<'a>) -> Result<(), Unres
 fn open_pack<'a>(
     alloc: Global,
     text: &[u8],
-    tasks: &mut Vec<Task<'a>>,
+    state: &mut State<'a>,
     term: Part<'a>,
-    values: &mut Names,
-    types: &mut Names,
 ) -> Result<(), Unresolved>
     requires { IsPack (part_tree term) }
-    ensures { MatchResult result
-        (λ u. (ts : List Tm) → Steps text.now
-        (stand (Bind (part_tree term.entry) ∷ todos tasks.old.items) values.old types.old ts)
-        (stand (todos tasks.new.items) values.new types.new ts))
-        (λ e. StopsAt text.now (uses text.now values.old types.old (part_tree term.entry)) e) }
+    ensures { Goes text.now (Bind (part_tree term.entry)) state.old state.new result }
 {
     let node = node(term);
     let span = node.span;
@@ -187,16 +182,14 @@ fn open_pack<'a>(
             inner,
             shape,
         } => {
-            let hidden = type_in_scope(alloc, text, hidden, types)?;
-            push(
-                tasks,
-                Task::Pack {
-                    span,
-                    hidden,
-                    shape,
-                },
-            )?;
-            push(tasks, Task::Term(child(term, *inner)))
+            let hidden = type_in_scope(alloc, text, hidden, &mut state.types)?;
+            let pack = Task::Pack {
+                span,
+                hidden,
+                shape,
+            };
+            push(&mut state.tasks, pack)?;
+            push(&mut state.tasks, Task::Term(child(term, *inner)))
         }
         _ => unreachable!(),
     }
@@ -206,17 +199,11 @@ fn open_pack<'a>(
 fn open_binder<'a>(
     alloc: Global,
     text: &[u8],
-    tasks: &mut Vec<Task<'a>>,
+    state: &mut State<'a>,
     term: Part<'a>,
-    values: &mut Names,
-    types: &mut Names,
 ) -> Result<(), Unresolved>
     requires { IsBinder (part_tree term) }
-    ensures { MatchResult result
-        (λ u. (ts : List Tm) → Steps text.now
-        (stand (Bind (part_tree term.entry) ∷ todos tasks.old.items) values.old types.old ts)
-        (stand (todos tasks.new.items) values.new types.new ts))
-        (λ e. StopsAt text.now (uses text.now values.old types.old (part_tree term.entry)) e) }
+    ensures { Goes text.now (Bind (part_tree term.entry)) state.old state.new result }
 {
     let node = node(term);
     let span = node.span;
@@ -228,21 +215,23 @@ fn open_binder<'a>(
             gives,
             body,
         } => {
-            let arg = type_in_scope(alloc, text, takes, types)?;
-            let res = type_in_scope(alloc, text, gives, types)?;
-            values.push(spelling(text, *name))?;
-            values.push(spelling(text, *parameter))?;
+            let arg = type_in_scope(alloc, text, takes, &mut state.types)?;
+            let res = type_in_scope(alloc, text, gives, &mut state.types)?;
+            state.values.push(spelling(text, *name))?;
+            state.values.push(spelling(text, *parameter))?;
             let step = FStep::Fix { arg, res };
-            push_one(tasks, span, step, Leaves::Function, child(term, *body))
+            let body = child(term, *body);
+            push_one(&mut state.tasks, span, step, Leaves::Function, body)
         }
         RawShape::Gen(name, body) => {
-            types.push(spelling(text, *name))?;
+            state.types.push(spelling(text, *name))?;
+            let body = child(term, *body);
             push_one(
-                tasks,
+                &mut state.tasks,
                 span,
                 FStep::Gen,
                 Leaves::Abstraction,
-                child(term, *body),
+                body,
             )
         }
         _ => unreachable!(),
@@ -253,32 +242,23 @@ fn open_binder<'a>(
 fn begin<'a>(
     alloc: Global,
     text: &[u8],
-    tasks: &mut Vec<Task<'a>>,
+    state: &mut State<'a>,
     term: Part<'a>,
-    values: &mut Names,
-    types: &mut Names,
-    stack: &mut FStack,
 ) -> Result<(), Unresolved>
-    ensures { MatchResult result
-        (λ u. Steps text.now
-        (stand (Bind (part_tree term.entry) ∷ todos tasks.old.items) values.old types.old (trees_of stack.old))
-        (stand (todos tasks.new.items) values.new types.new (trees_of stack.new)))
-        (λ e. StopsAt text.now (uses text.now values.old types.old (part_tree term.entry)) e) }
+    ensures { Goes text.now (Bind (part_tree term.entry)) state.old state.new result }
 {
     let node = node(term);
     let span = node.span;
     match &node.shape {
-        RawShape::Var => match values.find(spelling(text, span)) {
-            Some(place) => put(alloc, stack, FStep::Var(place), span),
+        RawShape::Var => match state.values.find(spelling(text, span)) {
+            Some(place) => put(alloc, &mut state.stack, FStep::Var(place), span),
             None => Err(Unresolved::Value(span)),
         },
-        RawShape::Num(value) => put(alloc, stack, FStep::Int(*value), span),
-        RawShape::Fix { .. } | RawShape::Gen(..) => {
-            open_binder(alloc, text, tasks, term, values, types)
-        }
-        RawShape::Pack { .. } => open_pack(alloc, text, tasks, term, values, types),
-        RawShape::Let(..) | RawShape::Open(..) => open_names(tasks, term),
-        _ => open_parts(tasks, term),
+        RawShape::Num(value) => put(alloc, &mut state.stack, FStep::Int(*value), span),
+        RawShape::Fix { .. } | RawShape::Gen(..) => open_binder(alloc, text, state, term),
+        RawShape::Pack { .. } => open_pack(alloc, text, state, term),
+        RawShape::Let(..) | RawShape::Open(..) => open_names(&mut state.tasks, term),
+        _ => open_parts(&mut state.tasks, term),
     }
 }
 
@@ -323,42 +303,35 @@ fn leave(names: Leaves, values: &mut Names, types: &mut Names)
 fn do_task<'a>(
     alloc: Global,
     text: &[u8],
-    tasks: &mut Vec<Task<'a>>,
+    state: &mut State<'a>,
     task: Task<'a>,
-    values: &mut Names,
-    types: &mut Names,
-    stack: &mut FStack,
 ) -> Result<(), Unresolved>
-    requires { Enough (todo task ∷ todos tasks.old.items) (length (trees_of stack.old)) }
-    ensures { MatchResult result
-        (λ u. Steps text.now
-        (stand (todo task.entry ∷ todos tasks.old.items) values.old types.old (trees_of stack.old))
-        (stand (todos tasks.new.items) values.new types.new (trees_of stack.new)))
-        (λ e. StopsAt text.now (uses_of text.now (todo task.entry) values.old types.old) e) }
+    requires { Enough (todo task ∷ todos state.old.tasks.items) (length (trees_of state.old.stack)) }
+    ensures { Goes text.now (todo task.entry) state.old state.new result }
 {
     match task {
-        Task::Term(term) => begin(alloc, text, tasks, term, values, types, stack),
-        Task::Fields(parts) => next_field(tasks, parts),
+        Task::Term(term) => begin(alloc, text, state, term),
+        Task::Fields(parts) => next_field(&mut state.tasks, parts),
         Task::Inst { span, ty } => {
-            let ty = type_in_scope(alloc, text, ty, types)?;
-            put(alloc, stack, FStep::Inst(ty), span)
+            let ty = type_in_scope(alloc, text, ty, &mut state.types)?;
+            put(alloc, &mut state.stack, FStep::Inst(ty), span)
         }
-        Task::Name(name) => Ok(values.push(spelling(text, name))?),
+        Task::Name(name) => Ok(state.values.push(spelling(text, name))?),
         Task::Names { ty, name } => {
-            types.push(spelling(text, ty))?;
-            Ok(values.push(spelling(text, name))?)
+            state.types.push(spelling(text, ty))?;
+            Ok(state.values.push(spelling(text, name))?)
         }
         Task::Pack {
             span,
             hidden,
             shape,
         } => {
-            let shape = type_in_scope(alloc, text, shape, types)?;
-            put(alloc, stack, FStep::Pack { hidden, shape }, span)
+            let shape = type_in_scope(alloc, text, shape, &mut state.types)?;
+            put(alloc, &mut state.stack, FStep::Pack { hidden, shape }, span)
         }
         Task::Form { span, step, names } => {
-            leave(names, values, types);
-            put(alloc, stack, step, span)
+            leave(names, &mut state.values, &mut state.types);
+            put(alloc, &mut state.stack, step, span)
         }
     }
 }
@@ -369,21 +342,15 @@ pub(crate) fn bind(alloc: Global, text: &[u8], term: &RawTerm) -> Result<FTerm, 
         (λ t. TermOf text.now [] [] (tree_of term.now) (spanned t))
         (λ e. StopsAt text.now (uses text.now [] [] (tree_of term.now)) e) }
 {
-    let mut values = Names::new(alloc);
-    let mut types = Names::new(alloc);
-    let mut stack = FStack::new(alloc);
-    let mut tasks = Vec::new(alloc);
-    push(&mut tasks, Task::Term(whole(term)))?;
-    while let Some(task) = pop(&mut tasks) {
-        do_task(
-            alloc,
-            text,
-            &mut tasks,
-            task,
-            &mut values,
-            &mut types,
-            &mut stack,
-        )?;
+    let mut state = State {
+        tasks: Vec::new(alloc),
+        values: Names::new(alloc),
+        types: Names::new(alloc),
+        stack: FStack::new(alloc),
+    };
+    push(&mut state.tasks, Task::Term(whole(term)))?;
+    while let Some(task) = pop(&mut state.tasks) {
+        do_task(alloc, text, &mut state, task)?;
     }
-    Ok(stack.done())
+    Ok(state.stack.done())
 }

@@ -7,6 +7,7 @@ mod part;
 mod parts;
 mod reader;
 mod resolve;
+mod state;
 mod task;
 
 pub use order::uses_in_text_order;

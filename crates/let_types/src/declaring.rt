@@ -10,19 +10,12 @@ ghost use Rattle.let_types.specs.Names.{scope, shown, Under};
 ghost use Rattle.let_types.specs.Parts.{field_type, held_type, opened_type};
 ghost use Rattle.let_types.specs.declared.named.Named.{Named as TheNamed};
 
-use crate::hoisted::types_of_parts;
+use crate::hoisted::{Labels, types_of_parts};
 use crate::named::{Named, field_of_name, held_of_name, opened_of_name};
 use c_terms::CType;
 use h_terms::{HBlock, HForm, HNode, HPart};
 use idx_core::{OutOfMemory, sum};
 use std::alloc::Global;
-
-// The blocks of a program, whose labels have types.
-#[derive(Clone, Copy)]
-pub(crate) struct Labels<'a> {
-    pub(crate) alloc: Global,
-    pub(crate) blocks: &'a [HBlock],
-}
 
 // The variable that these parts are, if they are no more than that.
 fn bare_variable(parts: &[HPart]) -> Option<u64>

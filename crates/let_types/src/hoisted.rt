@@ -16,6 +16,13 @@ use h_terms::{HBlock, HPart};
 use idx_core::OutOfMemory;
 use std::alloc::Global;
 
+// The blocks of a program, whose labels have types.
+#[derive(Clone, Copy)]
+pub(crate) struct Labels<'a> {
+    pub(crate) alloc: Global,
+    pub(crate) blocks: &'a [HBlock],
+}
+
 // The type of the code at a label.
 fn code_at(alloc: Global, blocks: &[HBlock], label: u64) -> Result<CType, OutOfMemory>
     ensures { IfOk result (λ t. ctree t ≡ code_type (block_at (h_blocks blocks.now) label)) }
@@ -92,20 +99,19 @@ fn pack(
 
 // One more part of a value.
 fn put_part(
-    alloc: Global,
-    blocks: &[HBlock],
+    of: Labels,
     names: &[Named],
     types: u64,
     stack: &mut Vec<CType>,
     part: &HPart,
 ) -> Result<(), OutOfMemory>
     ensures { OnOk result ((vs : List HVal) →
-        AreOf (h_blocks blocks.now) (scope types names.now) stack.old.items vs →
-        AreOf (h_blocks blocks.now) (scope types names.now) stack.new.items (more part.now vs)) }
+        AreOf (h_blocks of.entry.blocks.now) (scope types names.now) stack.old.items vs →
+        AreOf (h_blocks of.entry.blocks.now) (scope types names.now) stack.new.items (more part.now vs)) }
 {
     match part {
         HPart::Var(i) => {
-            let t = variable(alloc, names, types, *i)?;
+            let t = variable(of.alloc, names, types, *i)?;
             put(stack, t)?;
             Ok(())
         }
@@ -114,20 +120,20 @@ fn put_part(
             Ok(())
         }
         HPart::Label(label) => {
-            let t = code_at(alloc, blocks, *label)?;
+            let t = code_at(of.alloc, of.blocks, *label)?;
             put(stack, t)?;
             Ok(())
         }
         HPart::Tuple(count) => {
-            tuple(alloc, stack, *count)?;
+            tuple(of.alloc, stack, *count)?;
             Ok(())
         }
         HPart::Apply(ts) => {
-            apply(alloc, stack, ts)?;
+            apply(of.alloc, stack, ts)?;
             Ok(())
         }
         HPart::Pack { hidden, shape } => {
-            pack(alloc, stack, hidden, shape)?;
+            pack(of.alloc, stack, hidden, shape)?;
             Ok(())
         }
     }
@@ -143,9 +149,10 @@ pub fn types_of_parts(
 ) -> Result<Vec<CType>, OutOfMemory>
     ensures { IfOk result (λ r. AreOf (h_blocks blocks.now) (scope types names.now) r.items (reads [] parts.now)) }
 {
+    let of = Labels { alloc, blocks };
     let mut stack = Vec::new(alloc);
     for part in parts {
-        put_part(alloc, blocks, names, types, &mut stack, part)?;
+        put_part(of, names, types, &mut stack, part)?;
     }
     Ok(stack)
 }

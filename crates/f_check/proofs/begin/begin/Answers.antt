@@ -60,8 +60,11 @@ returns-in-Arith-clause-frames c =
 pub returns-in-If0-clause-frames : goal.returns-in-If0-clause-frames
 returns-in-If0-clause-frames c =
     let e = sym c.node-node.ensures.form ∙ c.in-If0.is in
-    begun _ (shape_at c.args.term.now c.args.i) _ _ (C.Test c.node-node.result.now.span c.in-If0.a c.in-If0.b)
-    c.in-If0.c c.enter-in-If0.ensures.frames (c.in-If0.c, c.in-If0.a, c.in-If0.b, e) (ap children e)
+    begun _ (shape_at c.args.term.now c.args.i) _ _ (C.Test (record {
+      span = c.node-node.result.now.span;
+      zero = c.in-If0.a;
+      other = c.in-If0.b;
+    })) c.in-If0.c c.enter-in-If0.ensures.frames (c.in-If0.c, c.in-If0.a, c.in-If0.b, e) (ap children e)
 
 pub enter-requires-in-Let : goal.enter-requires-in-Let
 enter-requires-in-Let c =

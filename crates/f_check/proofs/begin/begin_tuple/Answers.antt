@@ -13,8 +13,9 @@ use Rattle.f_check.proofs.begin.begin_tuple.Goals as goal
 
 pub enter-requires : goal.enter-requires
 enter-requires c =
-    (tuple_enters c.args.term.now c.args.state.now c.args.span c.args.es.now c.in-Some.e.now c.new-types.result
-    c.in-Some.rest c.requires.opens c.requires.inside c.in-Some.ensures.cases.0 c.new-types.ensures.items).0
+    (tuple_enters c.args.term.now c.args.state.now
+    (record { span = c.args.span; types = c.new-types.result; rest = c.in-Some.rest }) c.args.es.now c.in-Some.e.now
+    c.requires.opens c.requires.inside c.in-Some.ensures.cases.0 c.new-types.ensures.items).0
 
 pub returns-in-None-clause-goes : goal.returns-in-None-clause-goes
 returns-in-None-clause-goes c =
@@ -25,13 +26,17 @@ returns-in-None-clause-goes c =
 pub returns-in-Some-clause-goes : goal.returns-in-Some-clause-goes
 returns-in-Some-clause-goes c =
     c.enter.ensures.goes _
-    (tuple_enters c.args.term.now c.args.state.now c.args.span c.args.es.now c.in-Some.e.now c.new-types.result
-    c.in-Some.rest c.requires.opens c.requires.inside c.in-Some.ensures.cases.0 c.new-types.ensures.items).1
+    (tuple_enters c.args.term.now c.args.state.now
+    (record { span = c.args.span; types = c.new-types.result; rest = c.in-Some.rest }) c.args.es.now c.in-Some.e.now
+    c.requires.opens c.requires.inside c.in-Some.ensures.cases.0 c.new-types.ensures.items).1
 
 pub returns-in-Some-clause-frames : goal.returns-in-Some-clause-frames
 returns-in-Some-clause-frames c = λ es is.
-    begun _ (S.Tuple es) _ _ (C.Fields c.args.span c.new-types.result c.in-Some.rest) c.in-Some.e.now
-    c.enter.ensures.frames (es, refl) (is ∙ c.in-Some.ensures.cases.0)
+    begun _ (S.Tuple es) _ _ (C.Fields (record {
+      span = c.args.span;
+      types = c.new-types.result;
+      rest = c.in-Some.rest;
+    })) c.in-Some.e.now c.enter.ensures.frames (es, refl) (is ∙ c.in-Some.ensures.cases.0)
 
 pub returns-in-None-clause-frames : goal.returns-in-None-clause-frames
 returns-in-None-clause-frames c = λ es is. (refl, is ∙ nil_from_length _ c.in-None.ensures.cases)

@@ -18,16 +18,16 @@ use Rattle.f_check.proofs.resume.after_field.Goals as goal
 
 pub enter-requires : goal.enter-requires
 enter-requires c =
-    field_enters c.args.term.now c.args.state.now c.args.part.ty c.args.part.span c.args.span c.args.types
-    c.push.new.types c.args.rest c.requires c.in_ok-push.ensures c.in-Some.e.now c.in-Some.rest
+    field_enters c.args.term.now c.args.state.now c.args.part.ty c.args.part.span c.args.fields
+    c.push.new.types c.requires c.in_ok-push.ensures c.in-Some.e.now c.in-Some.rest
     c.in-Some.ensures.cases.0
 
 pub returns-in_ok-limit-in-None-clause-goes : goal.returns-in_ok-limit-in-None-clause-goes
 returns-in_ok-limit-in-None-clause-goes c =
     let us = c.push.new.types in
     let e = tree_Tuple us in
-    field_given c.args.term.now c.args.state.now c.args.part.ty c.args.part.span c.args.span c.args.types us
-    c.args.rest c.requires c.in_ok-push.ensures c.in-None.ensures.cases
+    field_given c.args.term.now c.args.state.now c.args.part.ty c.args.part.span c.args.fields us c.requires
+    c.in_ok-push.ensures c.in-None.ensures.cases
     (within (TTuple (tys (map tree us.items))) _ _ (c.depth.ensures ∙ ap (λ t. min (depth t) 18446744073709551615) e)
     (c.size.ensures ∙ ap (λ t. min (size t) 18446744073709551615) e) c.in_ok-limit-in-None.ensures.ok)
 
@@ -39,17 +39,18 @@ returns-in_err-limit-in-None-clause-goes c =
     let us = c.push.new.types in
     let e = tree_Tuple us in
     rw (q.1, q.2)
-    (field_faulty c.args.term.now c.args.state.now c.args.part.ty c.args.part.span c.args.span c.args.types us
-    c.args.rest c.requires c.in_ok-push.ensures c.in-None.ensures.cases f
-    (tells_map f _ (limits (TTuple (tys (map tree us.items))) (place c.args.span) nothing)
-    (limits_of (TTuple (tys (map tree us.items))) _ _ (place c.args.span)
+    (field_faulty c.args.term.now c.args.state.now c.args.part.ty c.args.part.span c.args.fields us c.requires
+    c.in_ok-push.ensures c.in-None.ensures.cases f
+    (tells_map f _ (limits (TTuple (tys (map tree us.items))) (place c.args.fields.span) nothing)
+    (limits_of (TTuple (tys (map tree us.items))) _ _ (place c.args.fields.span)
     (c.depth.ensures ∙ ap (λ t. min (depth t) 18446744073709551615) e)
     (c.size.ensures ∙ ap (λ t. min (size t) 18446744073709551615) e))
     c.in_err-limit-in-None.ensures.fault))
 
 pub returns-in-Some-clause-frames : goal.returns-in-Some-clause-frames
 returns-in-Some-clause-frames c =
-    resumed _ (C.Fields c.args.span c.args.types c.args.rest) (C.Fields c.args.span c.push.new.types c.in-Some.rest)
+    resumed _ (C.Fields c.args.fields)
+    (C.Fields (record c.args.fields { types = c.push.new.types; rest = c.in-Some.rest }))
     (map bound c.args.state.now.scope.items) _ _ c.in-Some.e.now c.enter.ensures.frames c.in-Some.ensures.cases.0
     (λ n k. k) (λ f n g. refl)
 

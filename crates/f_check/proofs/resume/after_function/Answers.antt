@@ -21,5 +21,6 @@ returns-in-Err-clause-frames c = gone _ _ _ c.refused.ensures
 
 pub returns-in-Ok-clause-frames : goal.returns-in-Ok-clause-frames
 returns-in-Ok-clause-frames c =
-    resumed _ (C.Function c.args.span c.args.x) (C.Argument c.args.span c.in-Ok.arg c.in-Ok.res)
+    resumed _ (C.Function c.args.span c.args.x)
+    (C.Argument (record { span = c.args.span; arg = c.in-Ok.arg; res = c.in-Ok.res }))
     (map bound c.args.state.now.scope.items) _ _ c.args.x c.enter.ensures.frames refl (λ n k. k) (λ f n g. refl)

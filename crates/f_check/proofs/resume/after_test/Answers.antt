@@ -8,7 +8,7 @@ use Rattle.f_check.proofs.resume.after_test.Goals as goal
 
 pub returns-then-not-is_int-clause-goes : goal.returns-then-not-is_int-clause-goes
 returns-then-not-is_int-clause-goes c =
-    test_refused c.args.term.now c.args.state.now c.args.part.ty c.args.part.span c.args.span c.args.a c.args.b
+    test_refused c.args.term.now c.args.state.now c.args.part.ty c.args.part.span c.args.branches
     c.requires _ _
     (c.odds-mismatch.result, c.refused.ensures, c.odds-mismatch.ensures)
     (λ e. absurd (true≢false (sym (c.if-not-is_int.ensures.1 e))))
@@ -18,5 +18,6 @@ returns-then-not-is_int-clause-frames c = gone _ _ _ c.refused.ensures
 
 pub returns-clause-frames : goal.returns-clause-frames
 returns-clause-frames c =
-    resumed _ (C.Test c.args.span c.args.a c.args.b) (C.Zero c.args.span c.args.b)
-    (map bound c.args.state.now.scope.items) _ _ c.args.a c.enter.ensures.frames refl (λ n k. k) (λ f n g. refl)
+    resumed _ (C.Test c.args.branches) (C.Zero c.args.branches.span c.args.branches.other)
+    (map bound c.args.state.now.scope.items) _ _ c.args.branches.zero c.enter.ensures.frames refl
+    (λ n k. k) (λ f n g. refl)

@@ -12,29 +12,32 @@ returns-in_err-do_task c =
     let p = err_from_is_err_and c.from_residual-in_err-do_task.result c.from_residual-in_err-do_task.ensures.1 in
     let text = c.args.text.now in
     let l = c.loop-task in
+    let s = l.state in
     let t = todo c.in-Some.task in
     rw (p.1, p.2)
-    (stop_of_whole text (tree_of c.args.term.now) (stand (todos l.tasks.items) l.values l.types (trees_of l.stack))
-    (uses_of text t l.values l.types)
-    (uses_left text (todos c.pop.new.tasks.items) (values_left text t l.values) (types_left text t l.types)) _
-    l.invariant (ap (λ tds. uses_left text tds l.values l.types) c.in-Some.ensures) c.in_err-do_task.ensures)
+    (stop_of_whole text (tree_of c.args.term.now) (stand (todos s.tasks.items) s.values s.types (trees_of s.stack))
+    (uses_of text t s.values s.types)
+    (uses_left text (todos c.pop.new.tasks.items) (values_left text t s.values) (types_left text t s.types)) _
+    l.invariant (ap (λ tds. uses_left text tds s.values s.types) c.in-Some.ensures) c.in_err-do_task.ensures)
 
 pub loop-task-preserved : goal.loop-task-preserved
 loop-task-preserved c =
     let text = c.args.text.now in
     let l = c.loop-task in
+    let s = l.state in
     let start = stand (Bind (tree_of c.args.term.now) ∷ []) [] [] [] in
-    then text start (stand (todo c.in-Some.task ∷ todos c.pop.new.tasks.items) l.values l.types (trees_of l.stack))
-    (stand (todos c.do_task.new.tasks.items) c.do_task.new.values c.do_task.new.types
-    (trees_of c.do_task.new.stack))
-    (subst (λ tds. Follows text start (stand tds l.values l.types (trees_of l.stack))) c.in-Some.ensures l.invariant)
+    then text start (stand (todo c.in-Some.task ∷ todos c.pop.new.tasks.items) s.values s.types (trees_of s.stack))
+    (stand (todos c.do_task.new.state.tasks.items) c.do_task.new.state.values c.do_task.new.state.types
+    (trees_of c.do_task.new.state.stack))
+    (subst (λ tds. Follows text start (stand tds s.values s.types (trees_of s.stack))) c.in-Some.ensures l.invariant)
     c.in_ok-do_task.ensures.0
 
 pub returns : goal.returns
 returns c =
     let text = c.args.text.now in
     let l = c.loop-task in
+    let s = l.state in
     let start = stand (Bind (tree_of c.args.term.now) ∷ []) [] [] [] in
-    ended text (tree_of c.args.term.now) l.values l.types (trees_of l.stack) (spanned c.done.result)
-    (subst (λ tds. Follows text start (stand tds l.values l.types (trees_of l.stack))) c.in_default.ensures
+    ended text (tree_of c.args.term.now) s.values s.types (trees_of s.stack) (spanned c.done.result)
+    (subst (λ tds. Follows text start (stand tds s.values s.types (trees_of s.stack))) c.in_default.ensures
     l.invariant) c.done.ensures

@@ -11,10 +11,10 @@ use Rattle.f_parser.proofs.binding.do_task.Goals as goal
 pub returns-in-Fields : goal.returns-in-Fields
 returns-in-Fields c =
     let text = c.args.text.now in
-    let v = c.args.values.now in
-    let a = c.args.types.now in
-    let ts = trees_of c.args.stack.now in
-    let old = todos c.args.tasks.now.items in
+    let v = c.args.state.now.values in
+    let a = c.args.state.now.types in
+    let ts = trees_of c.args.state.now.stack in
+    let old = todos c.args.state.now.tasks.items in
     let new = todos c.next_field.new.tasks.items in
     subst (λ t. MatchResult c.next_field.result (λ u. Steps text (stand (todo t ∷ old) v a ts) (stand new v a ts))
     (λ e. StopsAt text (uses_of text (todo t) v a) e)) (sym c.in-Fields.is)
@@ -23,10 +23,10 @@ returns-in-Fields c =
 pub returns-in_ok-ty-in-Inst : goal.returns-in_ok-ty-in-Inst
 returns-in_ok-ty-in-Inst c =
     let text = c.args.text.now in
-    let v = c.args.values.now in
-    let a = c.args.types.now in
-    let ts = trees_of c.args.stack.now in
-    let old = todos c.args.tasks.now.items in
+    let v = c.args.state.now.values in
+    let a = c.args.state.now.types in
+    let ts = trees_of c.args.state.now.stack in
+    let old = todos c.args.state.now.tasks.items in
     let x = c.in_ok-ty-in-Inst.ensures in
     subst (λ t. MatchResult c.put.result
     (λ u. Steps text (stand (todo t ∷ old) v a ts)
@@ -39,10 +39,10 @@ returns-in_ok-ty-in-Inst c =
 pub returns-in-Form : goal.returns-in-Form
 returns-in-Form c =
     let text = c.args.text.now in
-    let v = c.args.values.now in
-    let a = c.args.types.now in
-    let ts = trees_of c.args.stack.now in
-    let old = todos c.args.tasks.now.items in
+    let v = c.args.state.now.values in
+    let a = c.args.state.now.types in
+    let ts = trees_of c.args.state.now.stack in
+    let old = todos c.args.state.now.tasks.items in
     subst (λ t. MatchResult c.put-in-Form.result
     (λ u. Steps text (stand (todo t ∷ old) v a ts)
     (stand old c.leave.new.values c.leave.new.types (trees_of c.put-in-Form.new.stack)))
@@ -55,10 +55,10 @@ returns-in-Form c =
 pub returns-in_ok-shape-in-Pack : goal.returns-in_ok-shape-in-Pack
 returns-in_ok-shape-in-Pack c =
     let text = c.args.text.now in
-    let v = c.args.values.now in
-    let a = c.args.types.now in
-    let ts = trees_of c.args.stack.now in
-    let old = todos c.args.tasks.now.items in
+    let v = c.args.state.now.values in
+    let a = c.args.state.now.types in
+    let ts = trees_of c.args.state.now.stack in
+    let old = todos c.args.state.now.tasks.items in
     let x = c.in_ok-shape-in-Pack.ensures in
     subst (λ t. MatchResult c.put-in-Pack.result
     (λ u. Steps text (stand (todo t ∷ old) v a ts)
@@ -72,10 +72,10 @@ returns-in_ok-shape-in-Pack c =
 pub returns-in_ok-push-in-Name : goal.returns-in_ok-push-in-Name
 returns-in_ok-push-in-Name c =
     let text = c.args.text.now in
-    let v = c.args.values.now in
-    let a = c.args.types.now in
-    let ts = trees_of c.args.stack.now in
-    let old = todos c.args.tasks.now.items in
+    let v = c.args.state.now.values in
+    let a = c.args.state.now.types in
+    let ts = trees_of c.args.state.now.stack in
+    let old = todos c.args.state.now.tasks.items in
     subst (λ t. Steps text (stand (todo t ∷ old) v a ts) (stand old c.push.new.self a ts)) (sym c.in-Name.is)
     (named_in text old v a c.push.new.self ts c.in-Name.name
     (c.in_ok-push-in-Name.ensures.pushed ∙ ap (λ (x : Name). x ∷ v) c.spelling.ensures))
@@ -83,10 +83,10 @@ returns-in_ok-push-in-Name c =
 pub returns-in_ok-push-in-Names-2 : goal.returns-in_ok-push-in-Names-2
 returns-in_ok-push-in-Names-2 c =
     let text = c.args.text.now in
-    let v = c.args.values.now in
-    let a = c.args.types.now in
-    let ts = trees_of c.args.stack.now in
-    let old = todos c.args.tasks.now.items in
+    let v = c.args.state.now.values in
+    let a = c.args.state.now.types in
+    let ts = trees_of c.args.state.now.stack in
+    let old = todos c.args.state.now.tasks.items in
     subst (λ t. Steps text (stand (todo t ∷ old) v a ts)
     (stand old c.push-in-Names-2.new.self c.push-in-Names.new.self ts)) (sym c.in-Names.is)
     (named_both_in text old v a c.push-in-Names-2.new.self c.push-in-Names.new.self ts c.in-Names.ty c.in-Names.name

@@ -1,5 +1,6 @@
 use Rattle.std.proofs.Common.{◌∙◌, ap, sym, arith}
 use Rattle.std.proofs.lemmas.Result.{err_from_is_err_and}
+use Rattle.f_terms.specs.Stacked.{trees_of}
 use Rattle.f_grammar.specs.Raw.{RFix, RGen}
 use Rattle.f_grammar.specs.Read.{type_of}
 use Rattle.f_grammar.specs.declared.raw.RawShape.TheVariants as S
@@ -38,11 +39,12 @@ returns-in_err-res-in-Fix c =
 
 pub returns-in_ok-push-in-Fix-2 : goal.returns-in_ok-push-in-Fix-2
 returns-in_ok-push-in-Fix-2 c =
-    let old = todos c.args.tasks.now.items in
+    let old = todos c.args.state.now.tasks.items in
+    let ts = trees_of c.args.state.now.stack in
     let x = c.in_ok-arg-in-Fix.ensures in
     let y = c.in_ok-res-in-Fix.ensures in
     let s = c.node-node.result.now.span in
-    let e = part_tree c.child.result in
+    let e = part_tree c.child-body.result in
     rw (
       c.in_ok-push-in-Fix-2.ensures.pushed,
       c.in_ok-push-in-Fix.ensures.pushed,
@@ -52,40 +54,41 @@ returns-in_ok-push-in-Fix-2 c =
       x.kept,
     )
     (stopped c.args.text.now _ c.push_one.result _ _
-    (λ u eq ts. by_parts c.args.text.now old (todos c.push_one.new.tasks.items) _ (part_tree c.args.term)
-    (RFix s c.in-Fix.name c.in-Fix.parameter (type_of c.in-Fix.takes) (type_of c.in-Fix.gives) e) c.args.values.now
-    c.args.types.now _ _ ts
+    (λ u eq. by_parts c.args.text.now old (todos c.push_one.new.tasks.items) _ (part_tree c.args.term)
+    (RFix s c.in-Fix.name c.in-Fix.parameter (type_of c.in-Fix.takes) (type_of c.in-Fix.gives) e)
+    c.args.state.now.values c.args.state.now.types _ _ ts
     (form_is c.args.term c.node-node.result.now
     (S.Fix c.in-Fix.name c.in-Fix.parameter c.in-Fix.takes c.in-Fix.gives c.in-Fix.body) c.node-node.ensures.tree
     c.in-Fix.is
     ∙ sym (ap (λ z. RFix s c.in-Fix.name c.in-Fix.parameter (type_of c.in-Fix.takes) (type_of c.in-Fix.gives) z)
-    c.child.ensures)) eq
-    (fix c.args.text.now old c.args.values.now c.args.types.now ts s c.in-Fix.name c.in-Fix.parameter
+    c.child-body.ensures)) eq
+    (fix c.args.text.now old c.args.state.now.values c.args.state.now.types ts s c.in-Fix.name c.in-Fix.parameter
     (type_of c.in-Fix.takes) (type_of c.in-Fix.gives) c.in_ok-arg-in-Fix.arg c.in_ok-res-in-Fix.res e x.right
     (rw x.kept at y.right)))
     c.push_one.ensures)
 
 pub returns-in_ok-push-in-Gen : goal.returns-in_ok-push-in-Gen
 returns-in_ok-push-in-Gen c =
-    let old = todos c.args.tasks.now.items in
+    let old = todos c.args.state.now.tasks.items in
+    let ts = trees_of c.args.state.now.stack in
     let s = c.node-node.result.now.span in
-    let e = part_tree c.child-in-Gen.result in
+    let e = part_tree c.child-body-in-Gen.result in
     rw (c.in_ok-push-in-Gen.ensures.pushed, c.spelling-in-Gen.ensures)
     (stopped c.args.text.now _ c.push_one-in-Gen.result _ _
-    (λ u eq ts. by_parts c.args.text.now old (todos c.push_one-in-Gen.new.tasks.items) _ (part_tree c.args.term)
-    (RGen s c.in-Gen.name e) c.args.values.now c.args.types.now _ _ ts
+    (λ u eq. by_parts c.args.text.now old (todos c.push_one-in-Gen.new.tasks.items) _ (part_tree c.args.term)
+    (RGen s c.in-Gen.name e) c.args.state.now.values c.args.state.now.types _ _ ts
     (form_is c.args.term c.node-node.result.now (S.Gen c.in-Gen.name c.in-Gen.body) c.node-node.ensures.tree
-    c.in-Gen.is ∙ sym (ap (λ z. RGen s c.in-Gen.name z) c.child-in-Gen.ensures)) eq
-    (gen c.args.text.now old c.args.values.now c.args.types.now ts s c.in-Gen.name e))
+    c.in-Gen.is ∙ sym (ap (λ z. RGen s c.in-Gen.name z) c.child-body-in-Gen.ensures)) eq
+    (gen c.args.text.now old c.args.state.now.values c.args.state.now.types ts s c.in-Gen.name e))
     c.push_one-in-Gen.ensures)
 
-pub child-requires : goal.child-requires
-child-requires c =
+pub child-body-requires : goal.child-body-requires
+child-body-requires c =
     inside c.args.term c.node-node.result.now
     (S.Fix c.in-Fix.name c.in-Fix.parameter c.in-Fix.takes c.in-Fix.gives c.in-Fix.body) c.node-node.ensures.inside
     c.in-Fix.is 0 0 (omega arith)
 
-pub child-requires-in-Gen : goal.child-requires-in-Gen
-child-requires-in-Gen c =
+pub child-body-requires-in-Gen : goal.child-body-requires-in-Gen
+child-body-requires-in-Gen c =
     inside c.args.term c.node-node.result.now (S.Gen c.in-Gen.name c.in-Gen.body) c.node-node.ensures.inside
     c.in-Gen.is 0 0 (omega arith)

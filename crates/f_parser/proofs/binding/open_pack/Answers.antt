@@ -1,5 +1,6 @@
 use Rattle.std.proofs.Common.{List, ◌∷◌, ◌∙◌, ap, sym, arith}
 use Rattle.std.proofs.lemmas.Result.{err_from_is_err_and}
+use Rattle.f_terms.specs.Stacked.{trees_of}
 use Rattle.f_grammar.specs.Raw.{RPack}
 use Rattle.f_grammar.specs.Read.{type_of}
 use Rattle.f_grammar.specs.declared.raw.RawShape.TheVariants as S
@@ -22,7 +23,8 @@ returns-in_err-hidden-in-Pack c =
 
 pub returns : goal.returns
 returns c =
-    let old = todos c.args.tasks.now.items in
+    let old = todos c.args.state.now.tasks.items in
+    let ts = trees_of c.args.state.now.stack in
     let x = c.in_ok-hidden-in-Pack.ensures in
     let s = c.node-node.result.now.span in
     let e = part_tree c.child.result in
@@ -30,12 +32,13 @@ returns c =
     let r = type_of c.in-Pack.shape in
     rw x.kept
     (stopped c.args.text.now _ c.push-in-Pack.result _ _
-    (λ u eq ts. by_parts c.args.text.now old (todos c.push-in-Pack.new.tasks.items) _ (part_tree c.args.term)
-    (RPack s t e r) c.args.values.now c.args.types.now _ _ ts
+    (λ u eq. by_parts c.args.text.now old (todos c.push-in-Pack.new.tasks.items) _ (part_tree c.args.term)
+    (RPack s t e r) c.args.state.now.values c.args.state.now.types _ _ ts
     (form_is c.args.term c.node-node.result.now (S.Pack c.in-Pack.hidden c.in-Pack.inner c.in-Pack.shape)
     c.node-node.ensures.tree c.in-Pack.is ∙ sym (ap (λ z. RPack s t z r) c.child.ensures))
     (eq ∙ ap (λ (tds : List Todo). Bind e ∷ tds) c.in_ok-push-in-Pack.ensures)
-    (pack c.args.text.now old c.args.values.now c.args.types.now ts s t e r c.in_ok-hidden-in-Pack.hidden x.right))
+    (pack c.args.text.now old c.args.state.now.values c.args.state.now.types ts s t e r
+    c.in_ok-hidden-in-Pack.hidden x.right))
     c.push-in-Pack.ensures)
 
 pub child-requires : goal.child-requires

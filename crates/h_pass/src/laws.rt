@@ -6,8 +6,8 @@ ghost use Rattle.h_pass.specs.Statements.{BoundIsSmall, ScopedIsBack, NodesKept}
 use c_terms::laws::{typed_is_any_law, typed_is_scoped_law, within_is_typed_law};
 use h_terms::laws::{h_never_stuck_law, h_typed_is_any_law};
 
-/// The blocks are the codes of the closed term, one for one and in order; each block's code put back for its label gives
-/// that term; and the labels stand in the order of its text.
+/// The blocks are the codes of the closed term, one for one and in order; each block's code put back for its label
+/// gives that term; and the labels stand in the order of its text.
 pub fn hoist_is_back_law()
     ensures { HoistIsBack }
 {

@@ -1,9 +1,9 @@
 -- A typed term has nothing that is missing.
-use Rattle.std.proofs.Common.{ℕ, suc, List, [], ◌∷◌, subst}
+use Rattle.std.proofs.Common.{ℕ, suc, List, subst}
 use Rattle.c_terms.specs.C.{CApply, CArith, CCall, CCell, CCode, CDecl, CGet, CHalt, CIf, CInt, CLet, CName, CPack}
 use Rattle.c_terms.specs.C.{CProj, CSet, CTm, CTuple, CTy, CTys, CUnpack, CVal, CVals, CVar, MoreCVals}
 use Rattle.c_terms.specs.C.{NoCVals, TCCode}
-use Rattle.c_terms.specs.Typing.{CTyped, CHas, CHave, CIns, cargs_onto}
+use Rattle.c_terms.specs.Typing.{CTyped, CHas, CHave}
 
 abbrev NotNumber : CVal → Type 0
 NotNumber (CInt n) = ⊥
@@ -42,7 +42,7 @@ abbrev IsCodeType : CTy → Type 0
 IsCodeType (TCCode owes args) = Unit {0}
 IsCodeType t = ⊥
 
-pub not_number : (n : ℕ) (g : List CTy) (v : CVal) (owes : ℕ) (args : CTys) → CHas n g v (TCCode owes args) →
+not_number : (n : ℕ) (g : List CTy) (v : CVal) (owes : ℕ) (args : CTys) → CHas n g v (TCCode owes args) →
     NotNumber v
 not_number n g (CInt i) owes args h = subst IsCodeType h tt
 not_number n g (CVar i) owes args h = tt
@@ -75,8 +75,3 @@ mutual
   clean_t n g (CCall f ts vs) h = (clean_v n g f _ h.1, clean_vs n g vs _ h.3)
   clean_t n g (CIf v t u) h = (clean_v n g v _ h.0, clean_t n g t h.1, clean_t n g u h.2)
   clean_t n g (CHalt v) h = clean_v n g v _ h
-
--- a code is typed by itself
-abbrev pub IsTypedCode : CVal → Type 0
-IsTypedCode (CCode owes args body) = CIns owes args × CTyped owes (cargs_onto args (TCCode owes args ∷ [])) body
-IsTypedCode v = ⊥

@@ -269,7 +269,7 @@ stands_t : (ks : HBlks) (ce : CEnter) (he : HEnter) → HFollows ks ce he →
     (t : CTm) (own : Own) (d b : ℕ) (ws : CWords) (ys : HWords) (st : CWords) (hst : HWords) → HoldsT ks b t →
     EnvOk ks own d ws ys → StandAll (IsBlock ks) st hst → hterm ks he (hoist_t own d b t) ys hst ≡ cterm ce b t ws st
 stands_t ks ce he f (CLet e t) own d b ws ys st hst k h w =
-    value_stands (IsBlock ks) (λ r. r) (cd_value b e ws st) (hd_value (hoist_d own d b e) ys hst) _ _
+    value_stands (IsBlock ks) (cd_value b e ws st) (hd_value (hoist_d own d b e) ys hst) _ _
     (stands_d e ks own d b ws ys st hst k.0 h w)
     (λ v y st2 hst2 r w2. stands_t ks ce he f t own (suc d) (cd_next b e) (MoreWords v ws) (MoreWords y ys) st2 hst2
     k.1 (r, h) w2)
@@ -277,11 +277,11 @@ stands_t ks ce he f (CCall g ts vs) own d b ws ys st hst k h w =
     call_stands ks ce he f _ _ _ _ st hst (stands_v g ks own d b ws ys k.0 h)
     (stands_vs vs ks own d (cv_next b g) ws ys k.1 h) w
 stands_t ks ce he f (CIf v t u) own d b ws ys st hst k h w =
-    zero_stands (IsBlock ks) (λ r. r) _ _ _ _ _ _ (stands_v v ks own d b ws ys k.0 h)
+    zero_stands (IsBlock ks) _ _ _ _ _ _ (stands_v v ks own d b ws ys k.0 h)
     (stands_t ks ce he f t own d (cv_next b v) ws ys st hst k.1 h w)
     (stands_t ks ce he f u own d (ct_next (cv_next b v) t) ws ys st hst k.2 h w)
 stands_t ks ce he f (CHalt v) own d b ws ys st hst k h w =
-    halt_stands (IsBlock ks) (λ r. r) _ _ (stands_v v ks own d b ws ys k h)
+    halt_stands (IsBlock ks) _ _ (stands_v v ks own d b ws ys k h)
 
 env_onto : (ks : HBlks) (own : Own) (d : ℕ) (vs ws : CWords) (ys zs : HWords) → StandAll (IsBlock ks) vs ys →
     EnvOk ks own d ws zs → EnvOk ks own (lift (size vs) d) (onto vs ws) (onto ys zs)

@@ -4,10 +4,8 @@ pub mod Hoisting
 pub mod Types
 pub mod Sizes
 pub mod PutsBack
-mod Labels
 mod Clean
-mod ByRule
-mod TypedByRule
+mod OneHoisting
 pub mod ScopedProps
 pub mod Fusing
 pub mod Stepping

@@ -4,8 +4,9 @@ use Rattle.std.specs.Int.{int_wrap}
 use Rattle.calc_core.specs.Ends.{Halted, Spent}
 use Rattle.h_terms.specs.H.{HLabel, HVar}
 use Rattle.h_terms.specs.Meaning.{hrun}
-use Rattle.h_pass.specs.Back.{codes, put_back}
-use Rattle.h_pass.specs.Example.{count_down, done, example, example_blocks, example_main}
+use Rattle.h_pass.specs.Back.{IsHoisted, codes, put_back}
+use Rattle.h_pass.specs.Example.{both_done, both_labels, count_down, done, example, example_blocks, example_main}
+use Rattle.h_pass.specs.Example.{two_blocks}
 use Rattle.h_pass.specs.Hoist.{Code, blocks_of, main_of}
 use Rattle.h_pass.specs.Stream.{name_at}
 
@@ -22,6 +23,24 @@ puts_back = refl
 
 the_codes : codes 0 example_blocks ≡ count_down ∷ done ∷ []
 the_codes = refl
+
+-- the label of the code around stands anywhere; that of the code inside is the next one
+in_order : IsHoisted example_blocks example_main example
+in_order = record {
+  codes = refl;
+  back = refl;
+  order = (
+    (tt, (tt, ((refl, (tt, tt)), (tt, (tt, (tt, (tt, (tt, tt)))))))),
+    (
+      (tt, (λ other. refl, (tt, tt)), ((tt, tt), (λ other. absurd (other refl), (tt, tt)))),
+      (tt, tt),
+    ),
+  );
+}
+
+-- <L0, L1>, where the two blocks have one code
+each_in_turn : IsHoisted two_blocks (both_labels 0 1) both_done
+each_in_turn = record { codes = refl; back = refl; order = (((refl, (refl, tt)), tt), (tt, (tt, tt))) }
 
 -- five calls: four of the code that counts down from 3, and one of the code inside
 it_halts : hrun 5 example_blocks example_main ≡ record { end = Halted (pos 42); entered = 0 ∷ 0 ∷ 0 ∷ 0 ∷ 1 ∷ [] }

@@ -1,6 +1,5 @@
 -- Words that stand for others, code by code: as labels do for the codes of a closed program.
-use Rattle.std.proofs.Common.{Bool, true, false, ◌≡◌, ℕ, zero, suc, Option, Some, None, refl, sym, ap, ◌∙◌, subst}
-use Rattle.std.proofs.Common.{subst₂}
+use Rattle.std.proofs.Common.{◌≡◌, ℕ, zero, suc, Option, Some, None, refl, sym, ap, ap₂, ◌∙◌, subst, subst₂}
 use Rattle.idx_core.specs.declared.arith.Op.{Op}
 use Rattle.idx_core.specs.Arith.{is_zero}
 use Rattle.calc_core.specs.Ends.{Result, pick}
@@ -115,29 +114,24 @@ module _ {C D : Type 0} (Is : C → D → Type 0) where
       subst (λ x. MadeStands (set (WCell p) w st) (set x z hst)) (sym h)
       ((NoWords, refl, refl), hold_stands p st hst w z r q)
 
-  module _ {R : Type 0} (see : Result → R) where
-    pub zero_stands : (v : Word C) (y : Word D) (r q s t : Result) → Stands v y → see s ≡ see r → see t ≡ see q →
-        see (at_zero y s t) ≡ see (at_zero v r q)
-    zero_stands (WInt n) y r q s t h d e = ap (λ z. see (at_zero z s t)) h ∙ pick_same (is_zero n)
-      where
-        pick_same : (b : Bool) → see (pick b s t) ≡ see (pick b r q)
-        pick_same true = d
-        pick_same false = e
-    zero_stands (WTuple ws) y r q s t h d e = ap (λ z. see (at_zero z s t)) h.1
-    zero_stands (WCode c env) y r q s t h d e = ap (λ z. see (at_zero z s t)) h.1
-    zero_stands (WCell p) y r q s t h d e = ap (λ z. see (at_zero z s t)) h
+  pub zero_stands : (v : Word C) (y : Word D) (r q s t : Result) → Stands v y → s ≡ r → t ≡ q →
+      at_zero y s t ≡ at_zero v r q
+  zero_stands (WInt n) y r q s t h d e = ap (λ z. at_zero z s t) h ∙ ap₂ (pick (is_zero n)) d e
+  zero_stands (WTuple ws) y r q s t h d e = ap (λ z. at_zero z s t) h.1
+  zero_stands (WCode c env) y r q s t h d e = ap (λ z. at_zero z s t) h.1
+  zero_stands (WCell p) y r q s t h d e = ap (λ z. at_zero z s t) h
 
-    pub halt_stands : (v : Word C) (y : Word D) → Stands v y → see (halt_with y) ≡ see (halt_with v)
-    halt_stands (WInt n) y h = ap (λ z. see (halt_with z)) h
-    halt_stands (WTuple ws) y h = ap (λ z. see (halt_with z)) h.1
-    halt_stands (WCode c env) y h = ap (λ z. see (halt_with z)) h.1
-    halt_stands (WCell p) y h = ap (λ z. see (halt_with z)) h
+  pub halt_stands : (v : Word C) (y : Word D) → Stands v y → halt_with y ≡ halt_with v
+  halt_stands (WInt n) y h = ap halt_with h
+  halt_stands (WTuple ws) y h = ap halt_with h.1
+  halt_stands (WCode c env) y h = ap halt_with h.1
+  halt_stands (WCell p) y h = ap halt_with h
 
-    pub value_stands : (o : Made C) (p : Made D) (f : Word C → Words C → Result) (g : Word D → Words D → Result) →
-        MadeStands o p →
-        ((v : Word C) (y : Word D) (st : Words C) (hst : Words D) → Stands v y → StandAll st hst →
-        see (g y hst) ≡ see (f v st)) → see (with_value p g) ≡ see (with_value o f)
-    value_stands Fails Fails f g h k = refl
-    value_stands Fails (Makes y hst) f g h k = absurd h
-    value_stands (Makes v st) Fails f g h k = absurd h
-    value_stands (Makes v st) (Makes y hst) f g h k = k v y st hst h.0 h.1
+  pub value_stands : (o : Made C) (p : Made D) (f : Word C → Words C → Result) (g : Word D → Words D → Result) →
+      MadeStands o p →
+      ((v : Word C) (y : Word D) (st : Words C) (hst : Words D) → Stands v y → StandAll st hst →
+      g y hst ≡ f v st) → with_value p g ≡ with_value o f
+  value_stands Fails Fails f g h k = refl
+  value_stands Fails (Makes y hst) f g h k = absurd h
+  value_stands (Makes v st) Fails f g h k = absurd h
+  value_stands (Makes v st) (Makes y hst) f g h k = k v y st hst h.0 h.1

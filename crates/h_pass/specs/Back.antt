@@ -1,8 +1,9 @@
--- Each code put back for its label, and inside the code its own name.
-use Rattle.std.specs.Prelude.{◌≡◌, pos, ℕ, zero, suc, Bool, true, false, cond, nat_eq, nat_lt, List, [], ◌∷◌, ◌++◌}
+-- Each code put back for its label, and inside the code its own name; and labels in the order of the text.
+use Rattle.std.specs.Prelude.{◌≡◌, ◌≢◌, pos, ℕ, zero, suc, Bool, true, false, cond, nat_eq, nat_lt, List, [], ◌∷◌}
+use Rattle.std.specs.Prelude.{◌++◌}
 use Rattle.c_terms.specs.C.{CApply, CArith, CCall, CCell, CCode, CDecl, CGet, CHalt, CIf, CInt, CLet, CName, CPack}
 use Rattle.c_terms.specs.C.{CProj, CSet, CTm, CTuple, CUnpack, CVal, CVals, CVar, MoreCVals, NoCTys, NoCVals}
-use Rattle.c_terms.specs.C.{ccount}
+use Rattle.c_terms.specs.C.{ccount, cd_next, ct_next, cv_next}
 use Rattle.h_terms.specs.H.{HApply, HArith, HBlks, HCall, HCell, HDecl, HGet, HHalt, HIf, HInt, HLabel, HLet, HName}
 use Rattle.h_terms.specs.H.{HPack, HProj, HSet, HTm, HTuple, HUnpack, HVal, HVals, HVar, MoreHVals, NoHVals}
 use Rattle.h_pass.specs.Hoist.{Code, Nobody, Own}
@@ -103,8 +104,61 @@ abbrev mutual
   codes_t (CIf v t u) = codes_v v ++ (codes_t t ++ codes_t u)
   codes_t (CHalt v) = codes_v v
 
--- a program is the hoisted form of a closed term: its blocks are the codes of the term, one for one and in order; and
--- each block's code put back for its label gives the term. A label that no later block has, and a variable that is not
--- in scope, give a term that is not typed
-abbrev pub IsHoisted : HBlks → HTm → CTm → Type 0
-IsHoisted ks t closed = (codes 0 ks ≡ codes_t closed) × (put_back ks t ≡ closed)
+-- a label, where the next code in the text has number b: it is b, or else the name of the code around
+abbrev pub Next : Own → ℕ → ℕ → Type 0
+Next Nobody b l = l ≡ b
+Next (Code k) b l = k ≢ l → l ≡ b
+
+-- the labels stand in the order in which their codes stand in the text of the closed term: part after part, each from
+-- the number where the part before it ended
+abbrev mutual
+  pub InOrder_v : Own → ℕ → (ℕ → CVal) → ℕ → HVal → Type 0
+  InOrder_v own d f b (HVar i) = Unit {0}
+  InOrder_v own d f b (HInt n) = Unit {0}
+  InOrder_v own d f b (HLabel l) = Next own b l
+  InOrder_v own d f b (HTuple vs) = InOrder_vs own d f b vs
+  InOrder_v own d f b (HApply v ts) = InOrder_v own d f b v
+  InOrder_v own d f b (HPack h v s) = InOrder_v own d f b v
+
+  pub InOrder_vs : Own → ℕ → (ℕ → CVal) → ℕ → HVals → Type 0
+  InOrder_vs own d f b NoHVals = Unit {0}
+  InOrder_vs own d f b (MoreHVals v vs) =
+      InOrder_v own d f b v × InOrder_vs own d f (cv_next b (back_v own d f v)) vs
+
+-- in a declaration
+abbrev pub InOrder_d : Own → ℕ → (ℕ → CVal) → ℕ → HDecl → Type 0
+InOrder_d own d f b (HName v) = InOrder_v own d f b v
+InOrder_d own d f b (HProj i v) = InOrder_v own d f b v
+InOrder_d own d f b (HArith op v w) = InOrder_v own d f b v × InOrder_v own d f (cv_next b (back_v own d f v)) w
+InOrder_d own d f b (HUnpack v) = InOrder_v own d f b v
+InOrder_d own d f b (HCell v) = InOrder_v own d f b v
+InOrder_d own d f b (HGet v) = InOrder_v own d f b v
+InOrder_d own d f b (HSet v w) = InOrder_v own d f b v × InOrder_v own d f (cv_next b (back_v own d f v)) w
+
+-- in a term, under one more variable after a declaration
+abbrev pub InOrder_t : Own → ℕ → (ℕ → CVal) → ℕ → HTm → Type 0
+InOrder_t own d f b (HLet e t) = InOrder_d own d f b e × InOrder_t own (suc d) f (cd_next b (back_d own d f e)) t
+InOrder_t own d f b (HCall g ts vs) = InOrder_v own d f b g × InOrder_vs own d f (cv_next b (back_v own d f g)) vs
+InOrder_t own d f b (HIf v t u) =
+    InOrder_v own d f b v × InOrder_t own d f (cv_next b (back_v own d f v)) t
+    × InOrder_t own d f (ct_next (cv_next b (back_v own d f v)) (back_t own d f t)) u
+InOrder_t own d f b (HHalt v) = InOrder_v own d f b v
+
+-- in the bodies of the blocks from label b on: the codes inside the code of a label have the numbers after it
+abbrev pub BodiesInOrder : ℕ → HBlks → Type 0
+BodiesInOrder b [] = Unit {0}
+BodiesInOrder b (k ∷ ks) =
+    InOrder_t (Code b) (ccount k.args) (code_at (suc b) (codes (suc b) ks)) (suc b) k.body × BodiesInOrder (suc b) ks
+
+-- in the main term and in each block
+abbrev pub InOrder : HBlks → HTm → Type 0
+InOrder ks t = InOrder_t Nobody 0 (code_at 0 (codes 0 ks)) 0 t × BodiesInOrder 0 ks
+
+-- A program is the hoisted form of a closed term: its blocks are the codes of the term, one for one and in order; each
+-- block's code put back for its label gives the term; and the labels stand in the order in which their codes stand in
+-- the text of the term. A label that no later block has, and a variable that is not in scope, give a term that is not
+-- typed
+pub record IsHoisted (ks : HBlks) (t : HTm) (closed : CTm) : Type 0 where
+  pub codes : codes 0 ks ≡ codes_t closed
+  pub back : put_back ks t ≡ closed
+  pub order : InOrder ks t

@@ -1,8 +1,8 @@
 -- What hoisting keeps.
-use Rattle.std.specs.Prelude.{◌≡◌, ◌≢◌, ℕ, List, [], map}
-use Rattle.calc_core.specs.Ends.{End, Result, Stuck}
+use Rattle.std.specs.Prelude.{◌≡◌, ◌≢◌, ℕ, []}
+use Rattle.calc_core.specs.Ends.{Stuck}
 use Rattle.c_terms.specs.Bound.{CBound, CFits}
-use Rattle.c_terms.specs.C.{CTm, CVal}
+use Rattle.c_terms.specs.C.{CTm}
 use Rattle.c_terms.specs.Each.{CTypedWith}
 use Rattle.c_terms.specs.Meaning.{crun}
 use Rattle.c_terms.specs.Reach.{CWithin}
@@ -15,7 +15,7 @@ use Rattle.h_terms.specs.Each.{HProgramWith}
 use Rattle.h_terms.specs.H.{HBlks, HTm}
 use Rattle.h_terms.specs.Meaning.{hrun}
 use Rattle.h_terms.specs.Typing.{HProgramGood}
-use Rattle.h_pass.specs.Back.{IsHoisted, code_at, codes}
+use Rattle.h_pass.specs.Back.{IsHoisted}
 use Rattle.h_pass.specs.Hoist.{blocks_of, main_of}
 use Rattle.h_pass.specs.Stream.{hoisted, whole}
 
@@ -23,21 +23,18 @@ use Rattle.h_pass.specs.Stream.{hoisted, whole}
 abbrev pub HoistIsBack : Type 0
 HoistIsBack = (t : CTm) → CTyped 0 [] t → IsHoisted (blocks_of t) (main_of t) t
 
--- how a run ends, and the codes that it enters, one after the other
-pub record CodesRun : Type 0 where
-  pub end : End
-  pub entered : List CVal
+-- the rule leaves nothing to choose: whatever is hoisted, by the rule, from a typed closed term is its hoisted form
+abbrev pub OneHoisting : Type 0
+OneHoisting =
+    (ks : HBlks) (t : HTm) (closed : CTm) → CTyped 0 [] closed → IsHoisted ks t closed →
+    (ks ≡ blocks_of closed) × (t ≡ main_of closed)
 
--- a run of a program with these blocks, by the codes of the labels
-abbrev pub by_codes : HBlks → Result → CodesRun
-by_codes ks r = record { end = r.end; entered = map (code_at 0 (codes 0 ks)) r.entered }
-
--- whatever is hoisted, by the rule, from a typed closed program is typed; and within each number of calls it ends as
--- that does, and enters the same codes. Of two blocks with one code the rule leaves open which is entered
+-- so whatever is hoisted by the rule is typed; and within each number of calls it ends as the closed term does, and the
+-- blocks entered have the numbers of the codes entered
 abbrev pub HoistedMeansTheSame : Type 0
 HoistedMeansTheSame =
     (ks : HBlks) (t : HTm) (closed : CTm) → CTyped 0 [] closed → IsHoisted ks t closed →
-    HProgramGood ks t × ((n : ℕ) → by_codes ks (hrun n ks t) ≡ by_codes ks (crun n closed))
+    HProgramGood ks t × ((n : ℕ) → hrun n ks t ≡ crun n closed)
 
 -- within any number of calls it ends as the closed term does, and the blocks entered have the numbers of the codes
 -- entered

@@ -1,6 +1,5 @@
 -- Rows of trees, the first one on top, and how many trees a row has.
 use Rattle.std.specs.Prelude.{List, [], ◌∷◌}
-use Rattle.std.proofs.Props.{props}
 
 -- the first, or what stands for it
 abbrev pub top : {T : Type 0} → T → List T → T

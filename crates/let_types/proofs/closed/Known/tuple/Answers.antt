@@ -1,19 +1,13 @@
-use Rattle.std.proofs.Common.{List, ◌≡◌, ◌≤◌, ◌-◌, ◌∙◌, ◌++◌, ◌∷◌, [], ℕ, ap, ap₂, arith, drop, length}
-use Rattle.std.proofs.Common.{length-drop, map, refl, take}
-use Rattle.std.proofs.lemmas.List.{take_all}
+use Rattle.std.proofs.Common.{◌≡◌, ◌-◌, ◌∙◌, ◌++◌, ◌∷◌, [], ap, ap₂, arith, drop, length}
+use Rattle.std.proofs.Common.{map, refl}
+use Rattle.std.proofs.lemmas.List.{take_rest}
 use Rattle.std.proofs.lemmas.Result.{on_ok_weaker}
 use Rattle.calc_core.proofs.Trees.{tree_Tuple}
 use Rattle.c_terms.specs.Read.{ctys}
 use Rattle.let_types.specs.Known.{own, types_in, with_values}
 use Rattle.let_types.specs.KnownRead.{entry, known, seen}
-use Rattle.let_types.specs.declared.closed.Seen.{Seen}
 use Rattle.let_types.proofs.Knowing.{gathered}
 use Rattle.let_types.proofs.closed.Known.tuple.Goals as goal
-
-rest_is : (k : ℕ) (xs : List Seen) → take (length xs - k) (drop k xs) ≡ drop k xs
-rest_is k xs =
-    let many = length-drop k xs in
-    let le : length (drop k xs) ≤ length xs - k = omega (arith, many) in take_all (length xs - k) (drop k xs) le
 
 pub returns : goal.returns
 returns c =
@@ -31,5 +25,5 @@ returns c =
     c.truncate.ensures.items refl
     (c.in_ok-fields.ensures
     ∙ ap₂ (λ es xs. types_in k (map entry es) (map seen xs)) c.deref.ensures.value
-    (rest_is from c.deref-2.result.now ∙ ap (drop from) c.deref-2.ensures.value)))
+    (take_rest c.deref-2.result.now from ∙ ap (drop from) c.deref-2.ensures.value)))
     c.put_own.ensures

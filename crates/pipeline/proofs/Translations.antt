@@ -29,8 +29,8 @@ module _ (e : Term) (P : TProg) (made : IsMade e P) (t : IsTranslation e P) (as_
 
   same : (form : Form) → form_text form e ≡ text_in form e P t
   same Source = refl
-  same Cps = ap k_text (sym as_made.converted)
-  same Closed = ap c_text closed_is
+  same (Cps typed) = ap (k_text typed) (sym as_made.converted)
+  same (Closed typed) = ap (c_text typed) closed_is
   same (Hoisted typed) = ap₂ (h_text typed) blocks_are main_is
   same (Allocated typed) =
       ap₂ (a_text typed) (ap₂ alloc_prog blocks_are main_is ∙ sym as_made.allocated)

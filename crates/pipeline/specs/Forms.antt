@@ -36,8 +36,8 @@ assembly_text P = render (second_written P)
 
 abbrev pub form_text : Form → Term → List ℕ
 form_text Source e = term_text e
-form_text Cps e = k_text (cps_term e)
-form_text Closed e = c_text (closed_term e)
+form_text (Cps typed) e = k_text typed (cps_term e)
+form_text (Closed typed) e = c_text typed (closed_term e)
 form_text (Hoisted typed) e = h_text typed (blocks_of (closed_term e)) (main_of (closed_term e))
 form_text (Allocated typed) e = a_text typed (allocated_program (closed_term e)) (allocated_main (closed_term e))
 form_text Assembly e = assembly_text (compiled_program e)

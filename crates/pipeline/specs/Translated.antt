@@ -18,8 +18,8 @@ use Rattle.pipeline.specs.Forms.{assembly_text, form_text}
 -- the notation of the program of a form in a translation
 abbrev pub text_in : Form → (e : Term) (P : TProg) → IsTranslation e P → List ℕ
 text_in Source e P t = term_text e
-text_in Cps e P t = k_text t.converted
-text_in Closed e P t = c_text t.closed
+text_in (Cps typed) e P t = k_text typed t.converted
+text_in (Closed typed) e P t = c_text typed t.closed
 text_in (Hoisted typed) e P t = h_text typed t.blocks t.main
 text_in (Allocated typed) e P t = a_text typed t.allocated t.start
 text_in Assembly e P t = assembly_text P

@@ -8,29 +8,29 @@ ghost use Rattle.pipeline.specs.Forms.{form_text};
 use crate::compile;
 use crate::passes::{allocated, closed, hoisted};
 use a_notation::write_allocated;
-use kc_notation::{write_closed, write_cps};
 use f_check::Program;
 use f_writer::write_term;
 use h_notation::write_hoisted;
 use idx_core::OutOfMemory;
 use k_pass::cps;
+use kc_notation::{write_closed, write_cps};
 use std::alloc::Global;
 use t_writer::write2;
 use talc_words::Form;
 
-fn converted_text(alloc: Global, program: &Program) -> Result<Vec<u8>, OutOfMemory>
-    ensures { IfOk result (λ text. text.items ≡ form_text form.Cps (term_of (program_term program.now))) }
+fn converted_text(alloc: Global, program: &Program, typed: bool) -> Result<Vec<u8>, OutOfMemory>
+    ensures { IfOk result (λ text. text.items ≡ form_text (form.Cps typed) (term_of (program_term program.now))) }
 {
     let converted = cps(alloc, program)?;
-    let text = write_cps(alloc, &converted)?;
+    let text = write_cps(alloc, &converted, typed)?;
     Ok(text)
 }
 
-fn closed_text(alloc: Global, program: &Program) -> Result<Vec<u8>, OutOfMemory>
-    ensures { IfOk result (λ text. text.items ≡ form_text form.Closed (term_of (program_term program.now))) }
+fn closed_text(alloc: Global, program: &Program, typed: bool) -> Result<Vec<u8>, OutOfMemory>
+    ensures { IfOk result (λ text. text.items ≡ form_text (form.Closed typed) (term_of (program_term program.now))) }
 {
     let closed = closed(alloc, program)?;
-    let text = write_closed(alloc, &closed)?;
+    let text = write_closed(alloc, &closed, typed)?;
     Ok(text)
 }
 
@@ -66,8 +66,8 @@ pub fn form_of(alloc: Global, program: &Program, form: Form) -> Result<Vec<u8>, 
 {
     match form {
         Form::Source => write_term(alloc, program.term()),
-        Form::Cps => converted_text(alloc, program),
-        Form::Closed => closed_text(alloc, program),
+        Form::Cps { typed } => converted_text(alloc, program, typed),
+        Form::Closed { typed } => closed_text(alloc, program, typed),
         Form::Hoisted { typed } => hoisted_text(alloc, program, typed),
         Form::Allocated { typed } => allocated_text(alloc, program, typed),
         Form::Assembly => assembly_text(alloc, program),

@@ -62,8 +62,8 @@ CompileTold registers text old new answer =
 abbrev pub form_at : ℕ → Option Form
 form_at number =
     if number == 0 then Some form.Source
-    else if number == 1 then Some form.Cps
-    else if number == 2 then Some form.Closed
+    else if number == 1 then Some (form.Cps false)
+    else if number == 2 then Some (form.Closed false)
     else if number == 3 then Some (form.Hoisted false)
     else if number == 4 then Some (form.Allocated false)
     else if number == 5 then Some form.Assembly

@@ -50,8 +50,8 @@ pub(crate) fn form_at(number: u32) -> Option<Form>
 {
     match number {
         0 => Some(Form::Source),
-        1 => Some(Form::Cps),
-        2 => Some(Form::Closed),
+        1 => Some(Form::Cps { typed: false }),
+        2 => Some(Form::Closed { typed: false }),
         3 => Some(Form::Hoisted { typed: false }),
         4 => Some(Form::Allocated { typed: false }),
         5 => Some(Form::Assembly),

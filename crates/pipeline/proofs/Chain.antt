@@ -32,7 +32,7 @@ log_is (Halted i) log = refl
 log_is Spent log = refl
 log_is Stuck log = refl
 
-pub finish_halted : (e : End) (log other : List ℕ) (i : ℤ) → finish e log ≡ A.Halted i other → e ≡ Halted i
+finish_halted : (e : End) (log other : List ℕ) (i : ℤ) → finish e log ≡ A.Halted i other → e ≡ Halted i
 finish_halted (Halted j) log other i e = cc
 finish_halted Spent log other i e = absurd (impossible e)
   where

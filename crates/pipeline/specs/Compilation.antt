@@ -22,9 +22,9 @@ use Rattle.pipeline.specs.Work.{WorkByBound}
 -- the program is a translation of the term by the rules of the passes in turn: conversion to continuation-passing
 -- style, closure conversion, hoisting, allocation, code generation. The hoisted program gives the closed term when
 -- codes are put back for labels, and the allocated program stands for the hoisted one. No function of a pass is named.
--- The rules leave open whether the conversion names a value more, which label of equal blocks and which of equal data
--- is named where, the types at a `malloc`, which registers there are, and moves of operands within the bound of a rule;
--- those of closure conversion give one term
+-- The rules leave open whether the conversion names a value more, which of equal data is named where, the types at a
+-- `malloc`, which registers there are, and moves of operands within the bound of a rule; those of closure conversion
+-- give one term, and those of hoisting one program
 pub record IsTranslation (e : Term) (P : TProg) : Type 0 where
   pub converted : KTm
   pub closed : CTm

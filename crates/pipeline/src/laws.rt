@@ -18,7 +18,8 @@ pub fn one_source_gives_one_closed_term()
 {}
 
 /// Whatever is a translation of a term by the rules of the passes, is well formed and is accepted means the same as the
-/// term: who reads the rules needs no function of a pass for that.
+/// term, and no place of it is executed more often than once more than the term takes turns: who reads the rules needs
+/// no function of a pass for that.
 pub fn translations_mean_the_same()
     ensures { TranslationsMeanTheSame }
 {
@@ -32,6 +33,8 @@ pub fn translations_mean_the_same()
     h_terms::laws::h_never_stuck_law();
     a_laws::standing_means_the_same();
     t_gen_laws::rules_mean_the_same();
+    t_rules::erased_code_stands_at_its_place();
+    t_rules::runs_stay_within_times();
 }
 
 /// The program that the passes make of a program of the source is a translation of it by the rules, and its forms on

@@ -1,7 +1,7 @@
 -- The notation of the types of closed programs, as bytes. A type inside n type names names its variable i as the type
 -- name with n - 1 - i others around it.
 use Rattle.std.specs.Prelude.{◌≡◌, ◌≤◌, ◌^◌, ℕ, suc, ◌+◌, ◌-◌, ◌==◌, ◌&&◌, ◌||◌, not, List, [], ◌++◌, Option}
-use Rattle.std.specs.Prelude.{Some, None, Bool, false, if◌then◌else◌, codes}
+use Rattle.std.specs.Prelude.{Some, None, Bool, true, false, if◌then◌else◌, codes}
 use Rattle.page_core.specs.Names.{separator, type_name, type_names}
 use Rattle.c_terms.specs.C.{CTy, TCInt, TCVar, TCTuple, TCCode, TCExists, TCRef, CTys, NoCTys, MoreCTys}
 

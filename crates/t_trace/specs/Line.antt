@@ -2,10 +2,12 @@
 -- type.
 use Rattle.std.specs.Prelude.{◌≡◌, ℕ, zero, suc, ◌+◌, ◌-◌, ◌==◌, nat_lt, List, [], ◌∷◌, ◌++◌, Bool, true, false}
 use Rattle.std.specs.Prelude.{if◌then◌else◌, codes, decimal}
+use Rattle.t_types.specs.Read.{file as file_of}
 use Rattle.t_types.specs.Tree.{Ty, IntTy, VarTy, CodeTy, ExistsTy, TupleTy, TFile, NoRegs, MoreRegs, TFields, NoFields}
 use Rattle.t_types.specs.Tree.{MoreFields}
 use Rattle.t_terms.specs.declared.shown.Shown.{Shown}
 use Rattle.t_terms.specs.declared.shown.Shown.TheVariants.{Int, Tuple, Label}
+use Rattle.t_trace.specs.declared.lines.Place.{Place}
 use Rattle.t_writer.specs.Lexeme.{number_text}
 
 -- a word: an integer, `@` and an address, `L` and the number of a block
@@ -75,3 +77,7 @@ abbrev pub line_text : (m block index n : ℕ) → List (ℕ × Shown) → TFile
 line_text m block index n words file =
     decimal m ++ (codes " b" ++ (decimal block ++ (codes "." ++ (decimal index ++ (codes " {"
     ++ (words_text n 0 words file ++ codes "}\n"))))))
+
+-- the line of a state that stands at a place
+abbrev pub place_line : ℕ → Place → List (ℕ × Shown) → List ℕ
+place_line m p words = line_text m p.block p.index p.vars words (file_of p.types.now.regs.items)

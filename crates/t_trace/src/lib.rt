@@ -5,5 +5,5 @@
 mod lines;
 mod types;
 
-pub use lines::{line, write_line};
+pub use lines::{Place, line, write_line};
 pub use types::{type_at, write_type};

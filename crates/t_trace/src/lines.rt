@@ -2,7 +2,7 @@
 ghost use Rattle.std.specs.Prelude.{◌≡◌, ◌++◌, IfOk, OnOk};
 ghost use Rattle.t_types.specs.Read.{file};
 ghost use Rattle.t_types.specs.Tree.{BelowFile};
-ghost use Rattle.t_trace.specs.Line.{word_text, words_text, line_text, AreWordsOf};
+ghost use Rattle.t_trace.specs.Line.{word_text, words_text, line_text, place_line, AreWordsOf};
 
 use crate::types::{write_separator, write_type};
 use idx_core::OutOfMemory;
@@ -49,29 +49,35 @@ fn write_words(
     Ok(())
 }
 
-/// Puts the line of a state at the end of a text: how many steps led to it, its place, and the registers that are known
-/// there, each with its word and its type, where so many type names are in scope. An error is want of memory.
+/// Where a state stands: its block, its index there, how many type names are in scope, and the types of the registers
+/// that are known.
+#[derive(Clone, Copy)]
+pub struct Place<'a> {
+    pub block: u64,
+    pub index: u64,
+    pub vars: u64,
+    pub types: &'a RegFile,
+}
+
+/// Puts the line of a state at the end of a text: how many steps led to it, where it stands, and the registers that are
+/// known there, each with its word and its type. An error is want of memory.
 pub fn write_line(
     text: &mut Vec<u8>,
     m: u64,
-    block: u64,
-    index: u64,
-    vars: u64,
-    types: &RegFile,
+    place: Place,
     words: &[(u64, Shown)],
 ) -> Result<(), OutOfMemory>
-    requires scope { BelowFile vars (file types.now.regs.items) }
-    requires words { AreWordsOf words.now (file types.now.regs.items) }
-    ensures { OnOk result (text.new.items ≡ text.old.items
-        ++ line_text m block index vars words.now (file types.now.regs.items)) }
+    requires scope { BelowFile place.vars (file place.types.now.regs.items) }
+    requires words { AreWordsOf words.now (file place.types.now.regs.items) }
+    ensures { OnOk result (text.new.items ≡ text.old.items ++ place_line m place.entry words.now) }
 {
     write_natural(text, m)?;
     text.extend_from_slice(b" b")?;
-    write_natural(text, block)?;
+    write_natural(text, place.block)?;
     text.extend_from_slice(b".")?;
-    write_natural(text, index)?;
+    write_natural(text, place.index)?;
     text.extend_from_slice(b" {")?;
-    write_words(text, vars, &types.regs, words)?;
+    write_words(text, place.vars, &place.types.regs, words)?;
     text.extend_from_slice(b"}\n")?;
     Ok(())
 }
@@ -94,6 +100,12 @@ pub fn line(
         ≡ line_text m block index vars words.now.items (file types.now.regs.items)) }
 {
     let mut text = Vec::new(alloc);
-    write_line(&mut text, m, block, index, vars, types, words)?;
+    let place = Place {
+        block,
+        index,
+        vars,
+        types,
+    };
+    write_line(&mut text, m, place, words)?;
     Ok(text)
 }

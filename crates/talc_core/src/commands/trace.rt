@@ -29,7 +29,7 @@ use t_check::{Checked, Walk};
 use t_machine::{Machine, Ran, load};
 use t_rules::{erased_words_are_of_their_kind, states_are_typed};
 use t_terms::Shown;
-use t_trace::write_line;
+use t_trace::{Place, write_line};
 use t_types::TType;
 
 // Which states are shown: from the one after so many instructions to the one after so many.
@@ -78,7 +78,13 @@ fn write_state(
     let (block, index) = machine.place();
     let (vars, known) = walk.to(block, index)?;
     let words = words_of(alloc, machine, &known.regs)?;
-    write_line(lines, m, block, index, vars, &known, &words)?;
+    let place = Place {
+        block,
+        index,
+        vars,
+        types: &known,
+    };
+    write_line(lines, m, place, &words)?;
     Ok(())
 }
 

@@ -1,4 +1,4 @@
-use Rattle.std.proofs.Common.{rules, ◌+◌, ◌++◌, refl, sym, ap, ◌∙◌}
+use Rattle.std.proofs.Common.{rules, ◌++◌, refl, sym, ap, ◌∙◌}
 use Rattle.t_types.specs.declared.types.TType.TheViews.{the_lemmas}
 use Rattle.t_types.specs.Read.{file, fields}
 use Rattle.t_types.specs.Tree.{Ty}

@@ -2,6 +2,8 @@
 use Rattle.std.proofs.Common.{◌≡◌, ◌≢◌, ℕ, ◌+◌, ◌<◌, ◌≤◌, List, [], ◌∷◌, ◌++◌, length, slice_get, drop, map, Vec}
 use Rattle.std.proofs.Common.{Global, refl, sym, ◌∙◌, ap, subst, Option, Some, None, arith, true, false}
 use Rattle.std.proofs.lemmas.Option.{slice_get_within}
+use Rattle.std.proofs.Common.{Result, IsErrAnd, MatchResult}
+use Rattle.std.proofs.lemmas.Result.{err_from_is_err_and}
 use Rattle.std.proofs.lemmas.List.{append-nil, map-append}
 use mathlib.Core.Former.{Count}
 use Rattle.f_lexer.specs.declared.token.Token.{Token}
@@ -86,6 +88,11 @@ pub fails_deep : (ts : List Token) (d i : ℕ) (c : Token) (n : Line) (rhs rest 
     marks table (rhs ++ rest) ≡ 1 → Fails ts d i (Nt n ∷ rest) vs e
 fails_deep ts d i c n rhs rest vs e h q r m =
     rw h.0 (step.line_too_deep table 200 ts d i c n rhs rest vs q r (omega (arith, m, h.1)))
+
+-- the exit of a `?`
+pub refused : {A : Type 0} (P : A → Type 0) (Q : Stopped → Type 0) (r : Result A Stopped) (s : Stopped) →
+    IsErrAnd r (λ e. e ≡ s) → Q s → MatchResult r P Q
+refused P Q r s h q = let p = err_from_is_err_and r h in rw (p.1, p.2) q
 
 -- rows
 pub not_fits : (w : Wanted) (o : Option Token) (c : Token) → next_of table w o ≡ None → o ≡ Some c →

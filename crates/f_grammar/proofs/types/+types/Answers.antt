@@ -1,19 +1,16 @@
-use Rattle.std.proofs.Common.{◌≡◌, List, [], ◌∷◌, ◌++◌, ◌+◌, slice_get, Some, refl, sym, subst, ◌∙◌, ap, arith}
+use Rattle.std.proofs.Common.{List, [], ◌∷◌, ◌++◌, ◌+◌, refl, sym, subst, ◌∙◌, ap, arith}
 use Rattle.std.proofs.lemmas.Option.{slice_get_within}
 use Rattle.f_grammar.specs.declared.cursor.Wanted.TheVariants as want
-use Rattle.f_grammar.specs.Machine.{table, LT, LU, LTypes, MoreArrow, MoreTypes, OfToken, OfType, TypeParen, TypeTuple}
-use Rattle.f_grammar.specs.Machine.{TypeBound, TypeArrow, TypeRef, TypeNext, bound_owed, unit_after, type_after}
-use Rattle.f_grammar.specs.Machine.{arrow_after, types_tail}
+use Rattle.f_grammar.specs.Machine.{table, LT, LU, LTypes, MoreArrow, MoreTypes, TypeTuple}
+use Rattle.f_grammar.specs.Machine.{TypeInt, TypeName, TypeBound, TypeArrow, TypeRef, TypeNext, bound_owed, types_tail}
 use Rattle.text_core.specs.Table.{Tm, Nt, Do, Mark}
 use Rattle.text_core.proofs.Going as step
-use Rattle.f_grammar.specs.Raw.{RawTy}
 use Rattle.f_grammar.specs.Reads.{found_ty, ReadsType}
 use Rattle.f_grammar.proofs.Typing.{type_Tuple, types_more, fails_after, fails_call, fails_expect, fails_deep}
-use Rattle.f_grammar.proofs.Typing.{after_bound, after_arrow, none_of, arrow_owed, within, token_of, bound_1, bound_2}
-use Rattle.f_grammar.proofs.Typing.{bound_3, bound_whole, left_1, left_2, left_whole, arrow_1, arrow_whole, word_whole}
-use Rattle.f_grammar.proofs.Typing.{name_whole, tuple_1, tuple_whole, paren_1, paren_2, paren_whole, ref_1, ref_whole}
-use Rattle.f_grammar.proofs.Typing.{no_unit, no_unit_end, refused, none_whole, first_1, first_whole, comma_1, comma_whole}
-use Rattle.f_grammar.proofs.Typing.{list_1, list_whole}
+use Rattle.f_grammar.proofs.Typing.{refused, after_bound, after_arrow, none_of, tuple_owed, paren_owed, ref_owed}
+use Rattle.f_grammar.proofs.Typing.{arrow_owed, within, token_of, closes, bound_1, bound_2, bound_3, left_1, left_2}
+use Rattle.f_grammar.proofs.Typing.{left_whole, arrow_1, unit_1, word, paren_2, paren_whole, no_unit, no_unit_end}
+use Rattle.f_grammar.proofs.Typing.{none_whole, first_1, first_whole, comma_1, comma_whole, list_1, list_whole}
 use Rattle.f_grammar.proofs.types.+types.Goals as goal
 
 pub part_type-returns-in_default : goal.part_type-returns-in_default
@@ -22,8 +19,7 @@ part_type-returns-in_default t c =
 
 pub part_type-returns-in_err-inner-in-LeftAngle : goal.part_type-returns-in_err-inner-in-LeftAngle
 part_type-returns-in_err-inner-in-LeftAngle t c =
-    refused _ _ _ _ c.from_residual.ensures.1 (fails_deep _ _ _ c.in-Some.token LU
-    (Nt LTypes ∷ (Mark ∷ (Do TypeTuple ∷ []))) [] [] _
+    refused _ _ _ _ c.from_residual.ensures.1 (fails_deep _ _ _ c.in-Some.token LU tuple_owed [] [] _
     c.in_err-inner-in-LeftAngle.ensures (sym c.peek.ensures ∙ c.in-Some.is) (rw c.in-LeftAngle.is refl) refl)
 
 pub part_type-types-requires : goal.part_type-types-requires
@@ -36,13 +32,12 @@ pub part_type-returns-in_err-found-in-LeftAngle : goal.part_type-returns-in_err-
 part_type-returns-in_err-found-in-LeftAngle t c =
     let q = c.in_ok-inner-in-LeftAngle.ensures in
     refused _ _ _ _ c.from_residual-in_err-found-in-LeftAngle.ensures.1 (fails_after _ _ _ _ _ _ _ _ _
-    (tuple_1 _ _ _ c.in-Some.token (sym c.peek.ensures ∙ c.in-Some.is) c.in-LeftAngle.is q.1)
+    (unit_1 _ _ _ c.in-Some.token tuple_owed (sym c.peek.ensures ∙ c.in-Some.is) (rw c.in-LeftAngle.is refl) (omega (arith, q.1)))
     (fails_call _ _ _ _ (Nt LTypes ∷ []) _ _ _ (omega (arith, q.0)) c.in_err-found-in-LeftAngle.ensures))
 
 pub part_type-returns-in_err-inner-in-LeftParen : goal.part_type-returns-in_err-inner-in-LeftParen
 part_type-returns-in_err-inner-in-LeftParen t c =
-    refused _ _ _ _ c.from_residual-in_err-inner-in-LeftParen.ensures.1 (fails_deep _ _ _ c.in-Some.token LU
-    (Nt LT ∷ (Tm want.RightParen ∷ (Mark ∷ (Do TypeParen ∷ [])))) [] [] _
+    refused _ _ _ _ c.from_residual-in_err-inner-in-LeftParen.ensures.1 (fails_deep _ _ _ c.in-Some.token LU paren_owed [] [] _
     c.in_err-inner-in-LeftParen.ensures (sym c.peek.ensures ∙ c.in-Some.is) (rw c.in-LeftParen.is refl) refl)
 
 pub part_type-whole_type-requires : goal.part_type-whole_type-requires
@@ -55,7 +50,7 @@ pub part_type-returns-in_err-found-in-LeftParen : goal.part_type-returns-in_err-
 part_type-returns-in_err-found-in-LeftParen t c =
     let q = c.in_ok-inner-in-LeftParen.ensures in
     refused _ _ _ _ c.from_residual-in_err-found-in-LeftParen.ensures.1 (fails_after _ _ _ _ _ _ _ _ _
-    (paren_1 _ _ _ c.in-Some.token (sym c.peek.ensures ∙ c.in-Some.is) c.in-LeftParen.is q.1)
+    (unit_1 _ _ _ c.in-Some.token paren_owed (sym c.peek.ensures ∙ c.in-Some.is) (rw c.in-LeftParen.is refl) (omega (arith, q.1)))
     (fails_call _ _ _ _ (Nt LT ∷ []) _ _ _ (omega (arith, q.0)) c.in_err-found-in-LeftParen.ensures))
 
 pub part_type-returns-in_err-close-in-LeftParen : goal.part_type-returns-in_err-close-in-LeftParen
@@ -67,8 +62,7 @@ part_type-returns-in_err-close-in-LeftParen t c =
 
 pub part_type-returns-in_err-inner-in-Ref : goal.part_type-returns-in_err-inner-in-Ref
 part_type-returns-in_err-inner-in-Ref t c =
-    refused _ _ _ _ c.from_residual-in_err-inner-in-Ref.ensures.1 (fails_deep _ _ _ c.in-Some.token LU
-    (Nt LU ∷ (Mark ∷ (Do TypeRef ∷ []))) [] [] _
+    refused _ _ _ _ c.from_residual-in_err-inner-in-Ref.ensures.1 (fails_deep _ _ _ c.in-Some.token LU ref_owed [] [] _
     c.in_err-inner-in-Ref.ensures (sym c.peek.ensures ∙ c.in-Some.is) (rw c.in-Ref.is refl) refl)
 
 pub part_type-part_type-requires : goal.part_type-part_type-requires
@@ -81,32 +75,31 @@ pub part_type-returns-in_err-held-in-Ref : goal.part_type-returns-in_err-held-in
 part_type-returns-in_err-held-in-Ref t c =
     let q = c.in_ok-inner-in-Ref.ensures in
     refused _ _ _ _ c.from_residual-in_err-held-in-Ref.ensures.1 (fails_after _ _ _ _ _ _ _ _ _
-    (ref_1 _ _ _ c.in-Some.token (sym c.peek.ensures ∙ c.in-Some.is) c.in-Ref.is q.1)
+    (unit_1 _ _ _ c.in-Some.token ref_owed (sym c.peek.ensures ∙ c.in-Some.is) (rw c.in-Ref.is refl) (omega (arith, q.1)))
     (fails_call _ _ _ _ (Nt LU ∷ []) _ _ _ (omega (arith, q.0)) c.in_err-held-in-Ref.ensures))
 
 pub part_type-returns-in_ok-ty-in-Ref : goal.part_type-returns-in_ok-ty-in-Ref
 part_type-returns-in_ok-ty-in-Ref t c =
     let q = c.in_ok-inner-in-Ref.ensures in
-    ref_whole _ _ _ c.in-Some.token _ _ _ _ (sym c.peek.ensures ∙ c.in-Some.is) c.in-Ref.is q.1 q.0 c.in_ok-held-in-Ref.ensures
-    (ap (λ (t : RawTy). record { ty = t; end = c.in_ok-held-in-Ref.held.end }) c.in_ok-ty-in-Ref.ensures)
+    closes _ _ _ LU LU TypeRef _ (unit_1 _ _ _ c.in-Some.token ref_owed (sym c.peek.ensures ∙ c.in-Some.is) (rw c.in-Ref.is refl)
+    (omega (arith, q.1))) (omega arith) q.0 c.in_ok-held-in-Ref.ensures (λ below. rw c.in_ok-ty-in-Ref.ensures refl)
 
 pub part_type-returns-in-Int : goal.part_type-returns-in-Int
 part_type-returns-in-Int t c =
     subst (ReadsType LU c.args.tokens.now c.args.depth c.args.at) (sym c.one_token.ensures)
-    (word_whole _ _ _ c.in-Some.token (sym c.peek.ensures ∙ c.in-Some.is) c.requires.depth c.in-Int.is)
+    (word _ _ _ c.in-Some.token TypeInt _ (sym c.peek.ensures ∙ c.in-Some.is) c.requires.depth (rw c.in-Int.is refl) (λ below. refl))
 
 pub part_type-returns-in-Name : goal.part_type-returns-in-Name
 part_type-returns-in-Name t c =
     subst (ReadsType LU c.args.tokens.now c.args.depth c.args.at) (sym c.one_token-in-Name.ensures)
-    (name_whole _ _ _ c.in-Some.token (sym c.peek.ensures ∙ c.in-Some.is) c.requires.depth c.in-Name.is)
+    (word _ _ _ c.in-Some.token TypeName _ (sym c.peek.ensures ∙ c.in-Some.is) c.requires.depth (rw c.in-Name.is refl) (λ below. refl))
 
 pub part_type-returns-in_ok-found-in-LeftAngle : goal.part_type-returns-in_ok-found-in-LeftAngle
 part_type-returns-in_ok-found-in-LeftAngle t c =
     let q = c.in_ok-inner-in-LeftAngle.ensures in
-    let f = c.in_ok-found-in-LeftAngle.found in
-    tuple_whole _ _ _ c.in-Some.token f.close _ _ _ _ (sym c.peek.ensures ∙ c.in-Some.is) c.in-LeftAngle.is q.1 q.0
-    c.in_ok-found-in-LeftAngle.ensures
-    (ap (λ (t : RawTy). record { ty = t; end = f.close.span.end }) (type_Tuple f.types))
+    closes _ _ _ LU LTypes TypeTuple _ (unit_1 _ _ _ c.in-Some.token tuple_owed (sym c.peek.ensures ∙ c.in-Some.is)
+    (rw c.in-LeftAngle.is refl) (omega (arith, q.1))) (omega arith) q.0 c.in_ok-found-in-LeftAngle.ensures
+    (λ below. rw (type_Tuple c.in_ok-found-in-LeftAngle.found.types) refl)
 
 pub part_type-returns-in_ok-close-in-LeftParen : goal.part_type-returns-in_ok-close-in-LeftParen
 part_type-returns-in_ok-close-in-LeftParen t c =
@@ -237,9 +230,9 @@ pub whole_type-returns-in_ok-ty-in-Some : goal.whole_type-returns-in_ok-ty-in-So
 whole_type-returns-in_ok-ty-in-Some t c =
     let z = token_of _ c.in-Some.quantifier (sym c.next_binder.ensures ∙ c.in-Some.is) in
     let q = c.in_ok-inner-in-Some.ensures in
-    bound_whole _ _ _ z.0 _ z.1 z.2 q.1 _ _ _ _ _ _ c.in_ok-name-in-Some.ensures
-    c.in_ok-expect-in-Some.ensures q.0 c.in_ok-body-in-Some.ensures
-    (ap (λ (t : RawTy). record { ty = t; end = c.in_ok-body-in-Some.body.end }) c.in_ok-ty-in-Some.ensures)
+    closes _ _ _ LT LT (TypeBound c.in-Some.quantifier) _
+    (bound_3 _ _ _ z.0 _ z.1 z.2 q.1 _ _ c.in_ok-name-in-Some.ensures c.in_ok-expect-in-Some.ensures)
+    (omega arith) q.0 c.in_ok-body-in-Some.ensures (λ below. rw c.in_ok-ty-in-Some.ensures refl)
 
 pub whole_type-returns-in-None-take : goal.whole_type-returns-in-None-take
 whole_type-returns-in-None-take t c =
@@ -249,6 +242,7 @@ pub whole_type-returns-in_ok-ty-in-Some-take : goal.whole_type-returns-in_ok-ty-
 whole_type-returns-in_ok-ty-in-Some-take t c =
     let g = sym c.take.ensures ∙ c.in-Some-take.is in
     let q = c.in_ok-inner-in-Some-take.ensures in
-    arrow_whole _ _ _ _ _ _ _ _ _ _ (sym c.next_binder.ensures ∙ c.in-None.is) c.in_ok-left-in-None.ensures g q.1 q.0
-    c.in_ok-right-in-Some-take.ensures
-    (ap (λ (t : RawTy). record { ty = t; end = c.in_ok-right-in-Some-take.right.end }) c.in_ok-ty-in-Some-take.ensures)
+    let f = c.in_ok-left-in-None.ensures in
+    closes _ _ _ LT LT TypeArrow _ (arrow_1 _ _ _ _ _ _ (sym c.next_binder.ensures ∙ c.in-None.is) f g q.1)
+    (omega (arith, f.forward)) q.0 c.in_ok-right-in-Some-take.ensures
+    (λ below. rw c.in_ok-ty-in-Some-take.ensures refl)

@@ -3,7 +3,8 @@ use Rattle.text_core.specs.Table.{Nt, Tm, Mark}
 use Rattle.f_grammar.specs.Machine.{LT}
 use Rattle.f_grammar.specs.Reads.{found_ty}
 use Rattle.f_grammar.specs.declared.cursor.Wanted.TheVariants as want
-use Rattle.f_grammar.proofs.Typing.{within, fails_after, fails_call, fails_expect, refused, no_param, deep_param, param_1}
+use Rattle.f_grammar.proofs.Typing.{within, fails_after, fails_call, fails_expect, refused}
+use Rattle.f_grammar.proofs.Typing.{no_param, deep_param, param_1}
 use Rattle.f_grammar.proofs.Typing.{param_2, param_3, param_4, param_whole}
 use Rattle.f_grammar.proofs.params.parameter.Goals as goal
 

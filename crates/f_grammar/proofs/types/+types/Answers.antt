@@ -32,12 +32,14 @@ pub part_type-returns-in_err-found-in-LeftAngle : goal.part_type-returns-in_err-
 part_type-returns-in_err-found-in-LeftAngle t c =
     let q = c.in_ok-inner-in-LeftAngle.ensures in
     refused _ _ _ _ c.from_residual-in_err-found-in-LeftAngle.ensures.1 (fails_after _ _ _ _ _ _ _ _ _
-    (unit_1 _ _ _ c.in-Some.token tuple_owed (sym c.peek.ensures ∙ c.in-Some.is) (rw c.in-LeftAngle.is refl) (omega (arith, q.1)))
+    (unit_1 _ _ _ c.in-Some.token tuple_owed (sym c.peek.ensures ∙ c.in-Some.is) (rw c.in-LeftAngle.is refl)
+    (omega (arith, q.1)))
     (fails_call _ _ _ _ (Nt LTypes ∷ []) _ _ _ (omega (arith, q.0)) c.in_err-found-in-LeftAngle.ensures))
 
 pub part_type-returns-in_err-inner-in-LeftParen : goal.part_type-returns-in_err-inner-in-LeftParen
 part_type-returns-in_err-inner-in-LeftParen t c =
-    refused _ _ _ _ c.from_residual-in_err-inner-in-LeftParen.ensures.1 (fails_deep _ _ _ c.in-Some.token LU paren_owed [] [] _
+    refused _ _ _ _ c.from_residual-in_err-inner-in-LeftParen.ensures.1
+    (fails_deep _ _ _ c.in-Some.token LU paren_owed [] [] _
     c.in_err-inner-in-LeftParen.ensures (sym c.peek.ensures ∙ c.in-Some.is) (rw c.in-LeftParen.is refl) refl)
 
 pub part_type-whole_type-requires : goal.part_type-whole_type-requires
@@ -50,14 +52,16 @@ pub part_type-returns-in_err-found-in-LeftParen : goal.part_type-returns-in_err-
 part_type-returns-in_err-found-in-LeftParen t c =
     let q = c.in_ok-inner-in-LeftParen.ensures in
     refused _ _ _ _ c.from_residual-in_err-found-in-LeftParen.ensures.1 (fails_after _ _ _ _ _ _ _ _ _
-    (unit_1 _ _ _ c.in-Some.token paren_owed (sym c.peek.ensures ∙ c.in-Some.is) (rw c.in-LeftParen.is refl) (omega (arith, q.1)))
+    (unit_1 _ _ _ c.in-Some.token paren_owed (sym c.peek.ensures ∙ c.in-Some.is) (rw c.in-LeftParen.is refl)
+    (omega (arith, q.1)))
     (fails_call _ _ _ _ (Nt LT ∷ []) _ _ _ (omega (arith, q.0)) c.in_err-found-in-LeftParen.ensures))
 
 pub part_type-returns-in_err-close-in-LeftParen : goal.part_type-returns-in_err-close-in-LeftParen
 part_type-returns-in_err-close-in-LeftParen t c =
     let q = c.in_ok-inner-in-LeftParen.ensures in
     refused _ _ _ _ c.from_residual-in_err-close-in-LeftParen.ensures.1 (fails_after _ _ _ _ _ _ _ _ _
-    (paren_2 _ _ _ c.in-Some.token _ _ _ (sym c.peek.ensures ∙ c.in-Some.is) c.in-LeftParen.is q.1 q.0 c.in_ok-found-in-LeftParen.ensures)
+    (paren_2 _ _ _ c.in-Some.token _ _ _ (sym c.peek.ensures ∙ c.in-Some.is) c.in-LeftParen.is q.1 q.0
+    c.in_ok-found-in-LeftParen.ensures)
     (fails_expect _ _ _ want.RightParen _ _ _ c.in_err-close-in-LeftParen.ensures))
 
 pub part_type-returns-in_err-inner-in-Ref : goal.part_type-returns-in_err-inner-in-Ref
@@ -75,24 +79,28 @@ pub part_type-returns-in_err-held-in-Ref : goal.part_type-returns-in_err-held-in
 part_type-returns-in_err-held-in-Ref t c =
     let q = c.in_ok-inner-in-Ref.ensures in
     refused _ _ _ _ c.from_residual-in_err-held-in-Ref.ensures.1 (fails_after _ _ _ _ _ _ _ _ _
-    (unit_1 _ _ _ c.in-Some.token ref_owed (sym c.peek.ensures ∙ c.in-Some.is) (rw c.in-Ref.is refl) (omega (arith, q.1)))
+    (unit_1 _ _ _ c.in-Some.token ref_owed (sym c.peek.ensures ∙ c.in-Some.is) (rw c.in-Ref.is refl)
+    (omega (arith, q.1)))
     (fails_call _ _ _ _ (Nt LU ∷ []) _ _ _ (omega (arith, q.0)) c.in_err-held-in-Ref.ensures))
 
 pub part_type-returns-in_ok-ty-in-Ref : goal.part_type-returns-in_ok-ty-in-Ref
 part_type-returns-in_ok-ty-in-Ref t c =
     let q = c.in_ok-inner-in-Ref.ensures in
-    closes _ _ _ LU LU TypeRef _ (unit_1 _ _ _ c.in-Some.token ref_owed (sym c.peek.ensures ∙ c.in-Some.is) (rw c.in-Ref.is refl)
-    (omega (arith, q.1))) (omega arith) q.0 c.in_ok-held-in-Ref.ensures (λ below. rw c.in_ok-ty-in-Ref.ensures refl)
+    closes _ _ _ LU LU TypeRef _ (unit_1 _ _ _ c.in-Some.token ref_owed (sym c.peek.ensures ∙ c.in-Some.is)
+    (rw c.in-Ref.is refl) (omega (arith, q.1))) (omega arith) q.0 c.in_ok-held-in-Ref.ensures
+    (λ below. rw c.in_ok-ty-in-Ref.ensures refl)
 
 pub part_type-returns-in-Int : goal.part_type-returns-in-Int
 part_type-returns-in-Int t c =
     subst (ReadsType LU c.args.tokens.now c.args.depth c.args.at) (sym c.one_token.ensures)
-    (word _ _ _ c.in-Some.token TypeInt _ (sym c.peek.ensures ∙ c.in-Some.is) c.requires.depth (rw c.in-Int.is refl) (λ below. refl))
+    (word _ _ _ c.in-Some.token TypeInt _ (sym c.peek.ensures ∙ c.in-Some.is) c.requires.depth (rw c.in-Int.is refl)
+    (λ below. refl))
 
 pub part_type-returns-in-Name : goal.part_type-returns-in-Name
 part_type-returns-in-Name t c =
     subst (ReadsType LU c.args.tokens.now c.args.depth c.args.at) (sym c.one_token-in-Name.ensures)
-    (word _ _ _ c.in-Some.token TypeName _ (sym c.peek.ensures ∙ c.in-Some.is) c.requires.depth (rw c.in-Name.is refl) (λ below. refl))
+    (word _ _ _ c.in-Some.token TypeName _ (sym c.peek.ensures ∙ c.in-Some.is) c.requires.depth
+    (rw c.in-Name.is refl) (λ below. refl))
 
 pub part_type-returns-in_ok-found-in-LeftAngle : goal.part_type-returns-in_ok-found-in-LeftAngle
 part_type-returns-in_ok-found-in-LeftAngle t c =
@@ -115,32 +123,37 @@ part_type-returns-in_default-kind t c =
 
 pub types-returns-in_err-first-in-None : goal.types-returns-in_err-first-in-None
 types-returns-in_err-first-in-None t c =
-    refused _ _ _ _ c.from_residual.ensures.1 (fails_after _ _ _ _ _ _ _ _ _ (first_1 _ _ _ (sym c.take.ensures ∙ c.in-None.is))
+    refused _ _ _ _ c.from_residual.ensures.1 (fails_after _ _ _ _ _ _ _ _ _
+    (first_1 _ _ _ (sym c.take.ensures ∙ c.in-None.is))
     (fails_call _ _ _ _ (Nt LT ∷ []) types_tail _ _ (omega arith) c.in_err-first-in-None.ensures))
 
 pub types-loop-types-init : goal.types-loop-types-init
 types-loop-types-init t c =
     let f = c.in_ok-first-in-None.first in
-    first_whole _ _ _ _ (found_ty f) _ (sym c.take.ensures ∙ c.in-None.is) c.in_ok-first-in-None.ensures (types_more [] _ f.ty
+    first_whole _ _ _ _ (found_ty f) _ (sym c.take.ensures ∙ c.in-None.is) c.in_ok-first-in-None.ensures
+    (types_more [] _ f.ty
     (c.in_ok-push-in-None.ensures.items ∙ ap (λ (x : List _). x ++ f.ty ∷ []) c.new-types.ensures.items))
 
 pub types-whole_type-requires-in-Some-take : goal.types-whole_type-requires-in-Some-take
 types-whole_type-requires-in-Some-take t c =
     let r = c.loop-types.invariant in
-    let l = within c.args.tokens.now c.loop-types.next want.Comma _ (sym c.take-in-loop-types.ensures ∙ c.in-Some-take.is) in
+    let l = within c.args.tokens.now c.loop-types.next want.Comma _
+    (sym c.take-in-loop-types.ensures ∙ c.in-Some-take.is) in
     (omega (arith, l, r.forward), (c.requires.depth, omega (arith, l)))
 
 pub types-returns-in_err-found-in-None : goal.types-returns-in_err-found-in-None
 types-returns-in_err-found-in-None t c =
     refused _ _ _ _ c.from_residual-in_err-found-in-None.ensures.1 (fails_after _ _ _ _ _ _ _ _ _
-    (comma_1 _ _ _ _ _ _ c.requires.depth c.loop-types.invariant (sym c.take-in-loop-types.ensures ∙ c.in-Some-take.is))
+    (comma_1 _ _ _ _ _ _ c.requires.depth c.loop-types.invariant
+    (sym c.take-in-loop-types.ensures ∙ c.in-Some-take.is))
     (fails_call _ _ _ _ (Nt LT ∷ []) (Do TypeNext ∷ (Nt MoreTypes ∷ (Tm want.RightAngle ∷ []))) _ _
     (omega arith) c.in_err-found-in-None.ensures))
 
 pub types-loop-types-preserved : goal.types-loop-types-preserved
 types-loop-types-preserved t c =
     let f = c.in_ok-found-in-None.found in
-    comma_whole _ _ _ _ _ _ _ (found_ty f) _ c.requires.depth c.loop-types.invariant (sym c.take-in-loop-types.ensures ∙ c.in-Some-take.is)
+    comma_whole _ _ _ _ _ _ _ (found_ty f) _ c.requires.depth c.loop-types.invariant
+    (sym c.take-in-loop-types.ensures ∙ c.in-Some-take.is)
     c.in_ok-found-in-None.ensures (types_more _ _ f.ty c.in_ok-push-in-None-2.ensures.items)
 
 pub types-returns-in_err-close-in-None : goal.types-returns-in_err-close-in-None
@@ -157,7 +170,8 @@ types-returns-in-Some t c =
 
 pub types-returns-in_ok-close-in-None : goal.types-returns-in_ok-close-in-None
 types-returns-in_ok-close-in-None t c =
-    list_whole _ _ _ _ _ _ c.requires.depth c.loop-types.invariant (sym c.take-in-loop-types.ensures ∙ c.in_default.is) c.in_ok-close-in-None.ensures
+    list_whole _ _ _ _ _ _ c.requires.depth c.loop-types.invariant
+    (sym c.take-in-loop-types.ensures ∙ c.in_default.is) c.in_ok-close-in-None.ensures
 
 pub whole_type-returns-in_err-inner-in-Some : goal.whole_type-returns-in_err-inner-in-Some
 whole_type-returns-in_err-inner-in-Some t c =
@@ -196,7 +210,8 @@ whole_type-returns-in_err-body-in-Some t c =
 
 pub whole_type-returns-in_err-left-in-None : goal.whole_type-returns-in_err-left-in-None
 whole_type-returns-in_err-left-in-None t c =
-    refused _ _ _ _ c.from_residual-in_err-left-in-None.ensures.1 (fails_after _ _ _ _ _ _ _ _ _ (left_1 _ _ _ (sym c.next_binder.ensures ∙ c.in-None.is))
+    refused _ _ _ _ c.from_residual-in_err-left-in-None.ensures.1
+    (fails_after _ _ _ _ _ _ _ _ _ (left_1 _ _ _ (sym c.next_binder.ensures ∙ c.in-None.is))
     (fails_call _ _ _ _ (Nt LU ∷ []) (Nt MoreArrow ∷ []) [] _ (omega arith) c.in_err-left-in-None.ensures))
 
 pub whole_type-returns-in_err-inner-in-Some-take : goal.whole_type-returns-in_err-inner-in-Some-take
@@ -236,7 +251,8 @@ whole_type-returns-in_ok-ty-in-Some t c =
 
 pub whole_type-returns-in-None-take : goal.whole_type-returns-in-None-take
 whole_type-returns-in-None-take t c =
-    left_whole _ _ _ _ _ (sym c.next_binder.ensures ∙ c.in-None.is) c.in_ok-left-in-None.ensures (sym c.take.ensures ∙ c.in-None-take.is)
+    left_whole _ _ _ _ _ (sym c.next_binder.ensures ∙ c.in-None.is) c.in_ok-left-in-None.ensures
+    (sym c.take.ensures ∙ c.in-None-take.is)
 
 pub whole_type-returns-in_ok-ty-in-Some-take : goal.whole_type-returns-in_ok-ty-in-Some-take
 whole_type-returns-in_ok-ty-in-Some-take t c =

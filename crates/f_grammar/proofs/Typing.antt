@@ -2,6 +2,8 @@
 use Rattle.std.proofs.Common.{◌≡◌, ◌≢◌, ℕ, ◌+◌, ◌<◌, ◌≤◌, List, [], ◌∷◌, ◌++◌, length, slice_get, drop, map, Vec}
 use Rattle.std.proofs.Common.{Global, refl, sym, ◌∙◌, ap, subst, Option, Some, None, arith, true, false}
 use Rattle.std.proofs.lemmas.Option.{slice_get_within}
+use Rattle.std.proofs.Common.{Result, IsErrAnd, MatchResult}
+use Rattle.std.proofs.lemmas.Result.{err_from_is_err_and}
 use Rattle.std.proofs.lemmas.List.{append-nil, map-append}
 use mathlib.Core.Former.{Count}
 use Rattle.f_lexer.specs.declared.token.Token.{Token}
@@ -10,10 +12,11 @@ use Rattle.f_lexer.specs.declared.kind.Kind.TheVariants as k
 use Rattle.f_grammar.specs.declared.cursor.Wanted.{Wanted}
 use Rattle.f_grammar.specs.declared.cursor.Wanted.TheVariants as want
 use Rattle.f_grammar.specs.declared.types.Quantifier.{Quantifier}
-use Rattle.f_grammar.specs.Raw.{RawTy, RTuple, RawTys, MoreRawTys, TyPiece, int_ty, name_ty, tuple_ty, arrow_ty}
-use Rattle.f_grammar.specs.Raw.{bound_ty, ref_ty, paren_ty, raw_tys}
+use Rattle.f_grammar.specs.Raw.{RawTy, RTuple, RawTys, MoreRawTys, TyPiece}
+use Rattle.f_grammar.specs.Raw.{paren_ty, raw_tys}
+use Rattle.f_grammar.specs.Machine.{Act}
 use Rattle.f_grammar.specs.Machine.{table, Line, LT, LU, LTypes, LParam, param_after, MoreArrow, MoreTypes, Stack, Val}
-use Rattle.f_grammar.specs.Machine.{OfToken, OfType, OfTypes, TypeInt, TypeName, TypeParen, TypeUnit, TypeTuple}
+use Rattle.f_grammar.specs.Machine.{OfToken, OfType, OfTypes, TypeParen, TypeUnit, TypeTuple}
 use Rattle.f_grammar.specs.Machine.{TypeBound, TypeArrow, TypeRef, TypeFirst, TypeNext, fits, unit_after, type_after}
 use Rattle.f_grammar.specs.Machine.{types_after, arrow_after, type_commas_after, type_tail, types_tail, binder_of}
 use Rattle.f_grammar.specs.Machine.{binder_next, bound_owed}
@@ -87,6 +90,11 @@ pub fails_deep : (ts : List Token) (d i : ℕ) (c : Token) (n : Line) (rhs rest 
 fails_deep ts d i c n rhs rest vs e h q r m =
     rw h.0 (step.line_too_deep table 200 ts d i c n rhs rest vs q r (omega (arith, m, h.1)))
 
+-- the exit of a `?`
+pub refused : {A : Type 0} (P : A → Type 0) (Q : Stopped → Type 0) (r : Result A Stopped) (s : Stopped) →
+    IsErrAnd r (λ e. e ≡ s) → Q s → MatchResult r P Q
+refused P Q r s h q = let p = err_from_is_err_and r h in rw (p.1, p.2) q
+
 -- rows
 pub not_fits : (w : Wanted) (o : Option Token) (c : Token) → next_of table w o ≡ None → o ≡ Some c →
     fits w c.kind ≡ false
@@ -111,6 +119,15 @@ token_of (Some c) q e = (c, refl, e)
 unbound : (o : Option Token) (c : Token) → binder_next o ≡ None → o ≡ Some c → binder_of c.kind ≡ None
 unbound None c e h = absurd (cc)
 unbound (Some t) c e h = let same : t ≡ c = cc in rw (sym same) e
+
+abbrev pub tuple_owed : Stack
+tuple_owed = Nt LTypes ∷ (Mark ∷ (Do TypeTuple ∷ []))
+
+abbrev pub paren_owed : Stack
+paren_owed = Nt LT ∷ (Tm want.RightParen ∷ (Mark ∷ (Do TypeParen ∷ [])))
+
+abbrev pub ref_owed : Stack
+ref_owed = Nt LU ∷ (Mark ∷ (Do TypeRef ∷ []))
 
 abbrev pub arrow_owed : Stack
 arrow_owed = Nt LT ∷ (Mark ∷ (Do TypeArrow ∷ []))
@@ -153,6 +170,18 @@ pub within : (ts : List Token) (i : ℕ) (w : Wanted) (c : Token) → next_of ta
 within ts i w c e = slice_get_within ts i c (step.is_next table ts i w c e)
 
 module _ (ts : List Token) (d i : ℕ) where
+  -- the last line of a form that opened a construct, and what is made of it
+  pub closes : {j k m : ℕ} {us ws : List Val} (n l : Line) (x : Act) (out : List Val) →
+      Moves ts d i (Nt n ∷ []) [] j (Nt l ∷ (Mark ∷ (Do x ∷ []))) us → i < j → m ≡ d + 1 → Reads l ts m j k ws →
+      ((below : List Val) → table.act x ((ws ++ us) ++ below) ≡ out ++ below) → Reads n ts d i k out
+  closes {j} {k} {m} {us} {ws} n l x out h f p r e = record {
+    forward = omega (arith, f, r.forward);
+    in_range = r.in_range;
+    same = step.then_goes table 200 ts d (by_line ts d m (Mark ∷ (Do x ∷ [])) us h (omega (arith, p)) r.same)
+        (step.then_goes table 200 ts d (step.mark_goes table 200 ts d k (Do x ∷ []) (ws ++ us))
+        (step.do_goes table 200 ts d k x [] (ws ++ us) out e));
+  }
+
   -- T ::= all name . T | some name . T
   module _ (a : Token) (q : Quantifier) (e : slice_get ts i ≡ Some a) (y : binder_of a.kind ≡ Some q)
       (h : d < 200) where
@@ -162,33 +191,15 @@ module _ (ts : List Token) (d i : ℕ) where
     pub bound_2 : (n : Token) → next_of table want.Name (slice_get ts (i + 1)) ≡ Some n →
         Moves ts d i (Nt LT ∷ []) [] (i + 2) (Tm want.Dot ∷ (Nt LT ∷ (Mark ∷ (Do (TypeBound q) ∷ []))))
         (OfToken n ∷ (OfToken a ∷ []))
-    bound_2 n f = step.goes_to table 200 ts d (omega arith) (step.then_goes table 200 ts d bound_1
-        (step.token_taken table 200 ts d (i + 1) n want.Name (Tm want.Dot ∷ (Nt LT ∷ (Mark ∷ (Do (TypeBound q) ∷ []))))
-        (OfToken a ∷ []) f (omega arith)))
+    bound_2 n f = step.goes_to table 200 ts d (omega arith) (by_token ts d want.Name n
+        (Tm want.Dot ∷ (Nt LT ∷ (Mark ∷ (Do (TypeBound q) ∷ [])))) (OfToken a ∷ []) bound_1 f (omega arith))
 
     pub bound_3 : (n s : Token) → next_of table want.Name (slice_get ts (i + 1)) ≡ Some n →
         next_of table want.Dot (slice_get ts (i + 2)) ≡ Some s →
         Moves ts d i (Nt LT ∷ []) [] (i + 3) (Nt LT ∷ (Mark ∷ (Do (TypeBound q) ∷ [])))
         (OfToken s ∷ (OfToken n ∷ (OfToken a ∷ [])))
-    bound_3 n s f z = step.goes_to table 200 ts d (omega arith) (step.then_goes table 200 ts d (bound_2 n f)
-        (step.token_taken table 200 ts d (i + 2) s want.Dot (Nt LT ∷ (Mark ∷ (Do (TypeBound q) ∷ [])))
-        (OfToken n ∷ (OfToken a ∷ [])) z (omega arith)))
-
-    pub bound_whole : (n s : Token) (m j : ℕ) (t u : TyPiece) →
-        next_of table want.Name (slice_get ts (i + 1)) ≡ Some n →
-        next_of table want.Dot (slice_get ts (i + 2)) ≡ Some s → m ≡ d + 1 → Reads LT ts m (i + 3) j (OfType t ∷ []) →
-        u ≡ bound_ty q n.span t → Reads LT ts d i j (OfType u ∷ [])
-    bound_whole n s m j t u f z p r x = record {
-      forward = omega (arith, r.forward);
-      in_range = r.in_range;
-      same = rw x (step.then_goes table 200 ts d (bound_3 n s f z)
-          (step.then_goes table 200 ts d
-          (step.call_goes table 200 ts d (Mark ∷ (Do (TypeBound q) ∷ []))
-          (OfToken s ∷ (OfToken n ∷ (OfToken a ∷ []))) (omega (arith, p)) r.same)
-          (step.then_goes table 200 ts d (step.mark_goes table 200 ts d j (Do (TypeBound q) ∷ []) _)
-          (step.do_goes table 200 ts d j (TypeBound q) [] (OfType t ∷ (OfToken s ∷ (OfToken n ∷ (OfToken a ∷ []))))
-          (OfType (bound_ty q n.span t) ∷ []) (λ below. refl)))));
-    }
+    bound_3 n s f z = step.goes_to table 200 ts d (omega arith) (by_token ts d want.Dot s
+        (Nt LT ∷ (Mark ∷ (Do (TypeBound q) ∷ []))) (OfToken n ∷ (OfToken a ∷ [])) (bound_2 n f) z (omega arith))
 
   -- T ::= U -> T | U
   pub left_1 : binder_next (slice_get ts i) ≡ None → Moves ts d i (Nt LT ∷ []) [] i (Nt LU ∷ (Nt MoreArrow ∷ [])) []
@@ -219,21 +230,6 @@ module _ (ts : List Token) (d i : ℕ) where
       (step.is_next table ts j want.Arrow a f) (after_arrow a.kind (step.is_of table ts j want.Arrow a f))
       (omega arith))
 
-  pub arrow_whole : (j n m : ℕ) (t u v : TyPiece) (a : Token) → binder_next (slice_get ts i) ≡ None →
-      Reads LU ts d i j (OfType t ∷ []) → next_of table want.Arrow (slice_get ts j) ≡ Some a → d < 200 →
-      m ≡ d + 1 → Reads LT ts m (j + 1) n (OfType u ∷ []) → v ≡ arrow_ty t u → Reads LT ts d i n (OfType v ∷ [])
-  arrow_whole j n m t u v a e r f h p q x = record {
-    forward = omega (arith, r.forward, q.forward);
-    in_range = q.in_range;
-    same = rw x (step.then_goes table 200 ts d (arrow_1 j t a e r f h)
-        (step.then_goes table 200 ts d
-        (step.call_goes table 200 ts d (Mark ∷ (Do TypeArrow ∷ [])) (OfToken a ∷ (OfType t ∷ []))
-        (omega (arith, p)) q.same)
-        (step.then_goes table 200 ts d (step.mark_goes table 200 ts d n (Do TypeArrow ∷ []) _)
-        (step.do_goes table 200 ts d n TypeArrow [] (OfType u ∷ (OfToken a ∷ (OfType t ∷ [])))
-        (OfType (arrow_ty t u) ∷ []) (λ below. refl)))));
-  }
-
   -- U
   pub unit_1 : (c : Token) (rhs : Stack) → slice_get ts i ≡ Some c → unit_after c.kind ≡ Some rhs →
       marks table rhs + d ≤ 200 → Moves ts d i (Nt LU ∷ []) [] (i + 1) (rhs ++ []) (OfToken c ∷ [])
@@ -241,55 +237,23 @@ module _ (ts : List Token) (d i : ℕ) where
       step.line_goes table 200 ts d i c LU rhs [] [] e f
       (subst (λ (x : Stack). marks table x + d ≤ 200) (sym (append-nil rhs)) h)
 
-  pub word_whole : (c : Token) → slice_get ts i ≡ Some c → d ≤ 200 → c.kind ≡ k.Int →
-      Reads LU ts d i (i + 1) (OfType (int_ty c.span) ∷ [])
-  word_whole c e h q = record {
+  pub word : (c : Token) (x : Act) (t : TyPiece) → slice_get ts i ≡ Some c → d ≤ 200 →
+      unit_after c.kind ≡ Some (Do x ∷ []) →
+      ((below : List Val) → table.act x (OfToken c ∷ below) ≡ OfType t ∷ below) →
+      Reads LU ts d i (i + 1) (OfType t ∷ [])
+  word c x t e h q f = record {
     forward = omega arith;
     in_range = (let l = slice_get_within ts i c e in omega arith);
-    same = step.then_goes table 200 ts d (unit_1 c (Do TypeInt ∷ []) e (rw q refl) (omega arith))
-        (step.do_goes table 200 ts d (i + 1) TypeInt [] (OfToken c ∷ []) (OfType (int_ty c.span) ∷ [])
-        (λ below. refl));
+    same = step.then_goes table 200 ts d (unit_1 c (Do x ∷ []) e q (omega arith))
+        (step.do_goes table 200 ts d (i + 1) x [] (OfToken c ∷ []) (OfType t ∷ []) f);
   }
-
-  pub name_whole : (c : Token) → slice_get ts i ≡ Some c → d ≤ 200 → c.kind ≡ k.Name →
-      Reads LU ts d i (i + 1) (OfType (name_ty c.span) ∷ [])
-  name_whole c e h q = record {
-    forward = omega arith;
-    in_range = (let l = slice_get_within ts i c e in omega arith);
-    same = step.then_goes table 200 ts d (unit_1 c (Do TypeName ∷ []) e (rw q refl) (omega arith))
-        (step.do_goes table 200 ts d (i + 1) TypeName [] (OfToken c ∷ []) (OfType (name_ty c.span) ∷ [])
-        (λ below. refl));
-  }
-
-  pub tuple_1 : (c : Token) → slice_get ts i ≡ Some c → c.kind ≡ k.LeftAngle → d < 200 →
-      Moves ts d i (Nt LU ∷ []) [] (i + 1) (Nt LTypes ∷ (Mark ∷ (Do TypeTuple ∷ []))) (OfToken c ∷ [])
-  tuple_1 c e q h = unit_1 c (Nt LTypes ∷ (Mark ∷ (Do TypeTuple ∷ []))) e (rw q refl) (omega arith)
-
-  pub tuple_whole : (c s : Token) (m j : ℕ) (us : List RawTy) (t : TyPiece) → slice_get ts i ≡ Some c →
-      c.kind ≡ k.LeftAngle → d < 200 → m ≡ d + 1 → Reads LTypes ts m (i + 1) j (OfToken s ∷ (OfTypes us ∷ [])) →
-      t ≡ tuple_ty us s.span → Reads LU ts d i j (OfType t ∷ [])
-  tuple_whole c s m j us t e q h p r x = record {
-    forward = omega (arith, r.forward);
-    in_range = r.in_range;
-    same = rw x (step.then_goes table 200 ts d (tuple_1 c e q h)
-        (step.then_goes table 200 ts d
-        (step.call_goes table 200 ts d (Mark ∷ (Do TypeTuple ∷ [])) (OfToken c ∷ []) (omega (arith, p)) r.same)
-        (step.then_goes table 200 ts d (step.mark_goes table 200 ts d j (Do TypeTuple ∷ []) _)
-        (step.do_goes table 200 ts d j TypeTuple [] (OfToken s ∷ (OfTypes us ∷ (OfToken c ∷ [])))
-        (OfType (tuple_ty us s.span) ∷ []) (λ below. refl)))));
-  }
-
-  pub paren_1 : (c : Token) → slice_get ts i ≡ Some c → c.kind ≡ k.LeftParen → d < 200 →
-      Moves ts d i (Nt LU ∷ []) [] (i + 1) (Nt LT ∷ (Tm want.RightParen ∷ (Mark ∷ (Do TypeParen ∷ []))))
-      (OfToken c ∷ [])
-  paren_1 c e q h = unit_1 c (Nt LT ∷ (Tm want.RightParen ∷ (Mark ∷ (Do TypeParen ∷ [])))) e (rw q refl) (omega arith)
 
   pub paren_2 : (c : Token) (m j : ℕ) (t : TyPiece) → slice_get ts i ≡ Some c → c.kind ≡ k.LeftParen → d < 200 →
       m ≡ d + 1 → Reads LT ts m (i + 1) j (OfType t ∷ []) →
       Moves ts d i (Nt LU ∷ []) [] j (Tm want.RightParen ∷ (Mark ∷ (Do TypeParen ∷ []))) (OfType t ∷ (OfToken c ∷ []))
-  paren_2 c m j t e q h p r = step.then_goes table 200 ts d (paren_1 c e q h)
-      (step.call_goes table 200 ts d (Tm want.RightParen ∷ (Mark ∷ (Do TypeParen ∷ []))) (OfToken c ∷ [])
-      (omega (arith, p)) r.same)
+  paren_2 c m j t e q h p r =
+      by_line ts d m (Tm want.RightParen ∷ (Mark ∷ (Do TypeParen ∷ []))) (OfToken c ∷ [])
+      (unit_1 c paren_owed e (rw q refl) (omega arith)) (omega (arith, p)) r.same
 
   pub paren_whole : (c s : Token) (m j : ℕ) (t : TyPiece) → slice_get ts i ≡ Some c → c.kind ≡ k.LeftParen → d < 200 →
       m ≡ d + 1 → Reads LT ts m (i + 1) j (OfType t ∷ []) →
@@ -298,30 +262,12 @@ module _ (ts : List Token) (d i : ℕ) where
   paren_whole c s m j t e q h p r f = record {
     forward = omega (arith, r.forward);
     in_range = (let l = within ts j want.RightParen s f in omega arith);
-    same = step.then_goes table 200 ts d (paren_2 c m j t e q h p r)
-        (step.then_goes table 200 ts d
-        (step.token_taken table 200 ts d j s want.RightParen (Mark ∷ (Do TypeParen ∷ []))
-        (OfType t ∷ (OfToken c ∷ [])) f (omega arith))
+    same = step.then_goes table 200 ts d
+        (by_token ts d want.RightParen s (Mark ∷ (Do TypeParen ∷ [])) (OfType t ∷ (OfToken c ∷ []))
+        (paren_2 c m j t e q h p r) f (omega arith))
         (step.then_goes table 200 ts d (step.mark_goes table 200 ts d (j + 1) (Do TypeParen ∷ []) _)
         (step.do_goes table 200 ts d (j + 1) TypeParen [] (OfToken s ∷ (OfType t ∷ (OfToken c ∷ [])))
-        (OfType (paren_ty t s.span) ∷ []) (λ below. refl))));
-  }
-
-  pub ref_1 : (c : Token) → slice_get ts i ≡ Some c → c.kind ≡ k.Ref → d < 200 →
-      Moves ts d i (Nt LU ∷ []) [] (i + 1) (Nt LU ∷ (Mark ∷ (Do TypeRef ∷ []))) (OfToken c ∷ [])
-  ref_1 c e q h = unit_1 c (Nt LU ∷ (Mark ∷ (Do TypeRef ∷ []))) e (rw q refl) (omega arith)
-
-  pub ref_whole : (c : Token) (m j : ℕ) (t u : TyPiece) → slice_get ts i ≡ Some c → c.kind ≡ k.Ref → d < 200 →
-      m ≡ d + 1 → Reads LU ts m (i + 1) j (OfType t ∷ []) → u ≡ ref_ty t → Reads LU ts d i j (OfType u ∷ [])
-  ref_whole c m j t u e q h p r x = record {
-    forward = omega (arith, r.forward);
-    in_range = r.in_range;
-    same = rw x (step.then_goes table 200 ts d (ref_1 c e q h)
-        (step.then_goes table 200 ts d
-        (step.call_goes table 200 ts d (Mark ∷ (Do TypeRef ∷ [])) (OfToken c ∷ []) (omega (arith, p)) r.same)
-        (step.then_goes table 200 ts d (step.mark_goes table 200 ts d j (Do TypeRef ∷ []) _)
-        (step.do_goes table 200 ts d j TypeRef [] (OfType t ∷ (OfToken c ∷ [])) (OfType (ref_ty t) ∷ [])
-        (λ below. refl)))));
+        (OfType (paren_ty t s.span) ∷ []) (λ below. refl)));
   }
 
   pub no_unit : (c : Token) → slice_get ts i ≡ Some c → unit_after c.kind ≡ None →

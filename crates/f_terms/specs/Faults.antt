@@ -2,7 +2,7 @@
 -- its type looked at before its body, and a `pack` its two types before its part.
 use Rattle.std.specs.Prelude.{◌≡◌, ℕ, ◌+◌, Option, Some, None}
 use Rattle.text_core.specs.Refusals.{Refusal, nothing, refuse, check, part}
-use Rattle.f_terms.specs.Ty.{Ty, TInt, TVar, TArrow, TAll, TTuple, TSome, TRef, Tys, NoTys, MoreTys, shift, put, Below}
+use Rattle.f_terms.specs.Ty.{Ty, TInt, TArrow, TAll, TTuple, TSome, TRef, Tys, NoTys, MoreTys, shift, put, Below}
 use Rattle.f_terms.specs.Tm.{Spn, Tm, SVar, SNum, SFix, SApp, SGen, SInst, STuple, SProj, SArith, SIf0, SLet, SPack}
 use Rattle.f_terms.specs.Tm.{SOpen, SRef, SDeref, SAssign, Tms, NoTms}
 use Rattle.f_terms.specs.Tm.{MoreTms, span_of}
@@ -64,48 +64,23 @@ limits t s rest = check (Shallow t) (bare L4 s) (check (Small t) (bare L5 s) res
 -- by the form of a type
 abbrev pub if_arrow : Ty → Refusal Note Spn → (Ty → Ty → Refusal Note Spn) → Refusal Note Spn
 if_arrow (TArrow a b) other go = go a b
-if_arrow TInt other go = other
-if_arrow (TVar i) other go = other
-if_arrow (TAll t) other go = other
-if_arrow (TTuple ts) other go = other
-if_arrow (TSome t) other go = other
-if_arrow (TRef t) other go = other
+if_arrow _ other go = other
 
 abbrev pub if_all : Ty → Refusal Note Spn → (Ty → Refusal Note Spn) → Refusal Note Spn
 if_all (TAll t) other go = go t
-if_all TInt other go = other
-if_all (TVar i) other go = other
-if_all (TArrow a b) other go = other
-if_all (TTuple ts) other go = other
-if_all (TSome t) other go = other
-if_all (TRef t) other go = other
+if_all _ other go = other
 
 abbrev pub if_tuple : Ty → Refusal Note Spn → (Tys → Refusal Note Spn) → Refusal Note Spn
 if_tuple (TTuple ts) other go = go ts
-if_tuple TInt other go = other
-if_tuple (TVar i) other go = other
-if_tuple (TArrow a b) other go = other
-if_tuple (TAll t) other go = other
-if_tuple (TSome t) other go = other
-if_tuple (TRef t) other go = other
+if_tuple _ other go = other
 
 abbrev pub if_some : Ty → Refusal Note Spn → (Ty → Refusal Note Spn) → Refusal Note Spn
 if_some (TSome t) other go = go t
-if_some TInt other go = other
-if_some (TVar i) other go = other
-if_some (TArrow a b) other go = other
-if_some (TAll t) other go = other
-if_some (TTuple ts) other go = other
-if_some (TRef t) other go = other
+if_some _ other go = other
 
 abbrev pub if_ref : Ty → Refusal Note Spn → (Ty → Refusal Note Spn) → Refusal Note Spn
 if_ref (TRef t) other go = go t
-if_ref TInt other go = other
-if_ref (TVar i) other go = other
-if_ref (TArrow a b) other go = other
-if_ref (TAll t) other go = other
-if_ref (TTuple ts) other go = other
-if_ref (TSome t) other go = other
+if_ref _ other go = other
 
 abbrev pub if_none : Option Ty → Refusal Note Spn → Refusal Note Spn
 if_none None fault = fault

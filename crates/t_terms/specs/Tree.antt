@@ -57,12 +57,7 @@ pub record TProg : Type 0 where
 -- the number of type names in the rest after an instruction, where there are d before it
 abbrev pub names_after : TInstr → ℕ → ℕ
 names_after (Unpack rd v) d = d + 1
-names_after (Arith op rd rs v) d = d
-names_after (Bnz r v) d = d
-names_after (Ld rd rs field) d = d
-names_after (Malloc rd ts) d = d
-names_after (Mov rd v) d = d
-names_after (St rd field rs) d = d
+names_after _ d = d
 
 -- the tree with each type variable i at depth d replaced by f d i
 abbrev pub over_value : Over Ty TValue

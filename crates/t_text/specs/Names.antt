@@ -92,12 +92,7 @@ instr_of text ls a (RUnpack n rd v) = Unpack rd (value_of text ls a v)
 -- an unpack binds a name in the rest of its block
 abbrev pub names_after : List ℕ → RawInstr → List Name → List Name
 names_after text (RUnpack n rd v) a = spelled text n ∷ a
-names_after text (RArith op rd rs v) a = a
-names_after text (RBnz r v) a = a
-names_after text (RLd rd rs i) a = a
-names_after text (RMalloc rd ts) a = a
-names_after text (RMov rd v) a = a
-names_after text (RSt rd i rs) a = a
+names_after text _ a = a
 
 abbrev pub names_after_all : List ℕ → List (RawInstr × Span) → List Name → List Name
 names_after_all text [] a = a

@@ -9,7 +9,7 @@ use Rattle.c_terms.specs.C.{CUnpack, CCell, CGet, CSet, CTm, CLet, CCall, CIf}
 use Rattle.c_terms.specs.C.{CHalt, ccount}
 use Rattle.c_terms.specs.Typing.{cargs_onto}
 use Rattle.let_types.specs.Closed.{decl_type, names_behind}
-use Rattle.let_types.specs.TypeTexts.{type_text, types_text}
+use Rattle.let_types.specs.TypeTexts.{note_text, type_text, types_text}
 
 -- the arguments of a code with their types, with so many before them
 abbrev pub arguments_after : ℕ → ℕ → CTys → List ℕ

@@ -190,7 +190,7 @@ pub good_projections : (n : ℕ) (rest us : CTys) (j e : ℕ) (t : CTm) (cg : Li
 good_projections n NoCTys us j e t cg h d q = q
 good_projections n (MoreCTys x rest) us j e t cg h d q =
     let p = tdrop_step j us x rest d in
-    (us, x, h, p.0, good_projections n rest us (suc j) (suc e) t (x ∷ cg) h p.1 q)
+    (x, (us, h, p.0), good_projections n rest us (suc j) (suc e) t (x ∷ cg) h p.1 q)
 
 -- lookups
 pub at_append : (g cg : List CTy) (i : ℕ) (t : CTy) → CAt cg i t → CAt (g ++ cg) (lift (tsize g) i) t

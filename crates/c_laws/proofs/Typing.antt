@@ -8,7 +8,8 @@ use Rattle.k_terms.specs.K.{KTy, KTys, TKInt, TKVar, TKTuple, TKCode, TKExists, 
 use Rattle.k_terms.specs.K.{KInt, KTuple, KCode, KVals, NoKVals, MoreKVals, KDecl, KName, KProj, KArith, KPack}
 use Rattle.k_terms.specs.K.{KUnpack, KCell, KGet, KSet, KTm, KLet, KCall, KIf, KHalt, kcount, kren, krens_scope}
 use Rattle.k_terms.specs.K.{kargs_onto, kbody_scope, opens, scope_more}
-use Rattle.c_rules.specs.Free.{tfree, tfrees, tfree_v, tfree_vs, tfree_t, occurs_v, occurs_vs, occurs_t}
+use Rattle.c_rules.specs.Free.{tfree, tfrees, tfree_v, tfree_vs, tfree_d, tfree_t, occurs_v, occurs_vs}
+use Rattle.c_rules.specs.Free.{occurs_d, occurs_t}
 use Rattle.k_terms.specs.Types.{kv_type, kd_type}
 use Rattle.c_terms.specs.C.{CTy, CTys, TCVar, TCTuple, TCCode, TCExists, TCRef, NoCTys, MoreCTys, CVal, CVar, CTuple}
 use Rattle.c_terms.specs.C.{NoCVals, MoreCVals, CTm, ccount, CVals}
@@ -16,7 +17,8 @@ use Rattle.k_terms.specs.Typing.{KIns, KTyped, kscons, ksub, ksubs, knames, KAt}
 use Rattle.c_terms.specs.Typing.{CAt, CField, cup, csubs, scons, names, cargs_onto, crens_scope}
 use Rattle.c_rules.specs.Close.{Scope, ctype, ctypes, rank, picked_tvars, pick_type, picked_types, picked, tfree_kept}
 use Rattle.c_rules.specs.Close.{keeps, uses, named, tkeeps, env_type, closure, outside, inner, rebuilt, projections}
-use Rattle.c_rules.specs.Close.{closed_args, closed_code, with_decl, in_call, no_scope, close_v, close_vs, close_t}
+use Rattle.c_rules.specs.Close.{closed_args, closed_code, with_decl, in_call, no_scope, close_v, close_vs, close_d, close_t}
+use Rattle.c_rules.specs.Close.{with_var, open_if}
 use Rattle.c_rules.specs.Close.{close_of, var_value, pick_one}
 use Rattle.c_laws.proofs.Envs.{or_left, or_right}
 use Rattle.c_laws.proofs.Types.{gen_ctype, scons_gen, under_lift, cup_under, cup_lift, sub_ctypes, picked_names}
@@ -33,7 +35,7 @@ use Rattle.k_terms.proofs.Types.{d_type, v_type}
 use Rattle.c_laws.proofs.Ranges.{t_range}
 use Rattle.c_laws.proofs.Meaning.{ctypes_count}
 use Rattle.k_terms.specs.Each.{KAll, KHasWith, KHaveWith, KGivesWith, KTypedWith}
-use Rattle.c_terms.specs.Each.{CAll, CHasWith, CHaveWith, CTypedWith, CProp}
+use Rattle.c_terms.specs.Each.{CAll, CHasWith, CHaveWith, CGivesWith, CTypedWith, CProp}
 use Rattle.k_terms.proofs.Each.{plain_v, plain_d, plain_t}
 use Rattle.c_laws.proofs.Kept.{Have, HaveAll, IsKept, picked_tvars_all, rank_le, lift_le, lift_first}
 use Rattle.c_laws.proofs.Fitting.{Fits, fewer, in_picked, in_picked_tvars, sub_picked, cup_env, fits_let, fits_call}
@@ -44,6 +46,16 @@ use Rattle.std.proofs.lemmas.Bool.{and_parts as and_split}
 after_more : (k : Bool) (n : ℕ) → n ≤ after_one k n
 after_more true n = omega arith
 after_more false n = omega arith
+
+opens_close : (s : Scope) (d : KDecl) → opens d ≡ opens (close_d s d)
+opens_close s (KName v) = refl
+opens_close s (KProj i v) = refl
+opens_close s (KArith op v w) = refl
+opens_close s (KPack h v t) = refl
+opens_close s (KUnpack v) = refl
+opens_close s (KCell v) = refl
+opens_close s (KGet v) = refl
+opens_close s (KSet v w) = refl
 
 module _ (L : ℕ → Type 0) (S : KTy → Type 0) (M : ℕ → Type 0) (Q : CProp) (kp : IsKept L S M Q) where
   abbrev P : ℕ → KTy → Type 0
@@ -96,7 +108,7 @@ module _ (L : ℕ → Type 0) (S : KTy → Type 0) (M : ℕ → Type 0) (Q : CPr
   projectionsP n NoCTys us j e t cg qu qs h d q = q
   projectionsP n (MoreCTys x rest) us j e t cg qu qs h d q =
       let p = tdrop_step j us x rest d in
-      (us, x, (qu, h), p.0, qs.0, projectionsP n rest us (suc j) (suc e) t (x ∷ cg) qu qs.1 h p.1 q)
+      (x, (qs.0, us, (qu, h), p.0), projectionsP n rest us (suc j) (suc e) t (x ∷ cg) qu qs.1 h p.1 q)
 
   kept_all : (n : ℕ) (keep : ℕ → Bool) (g : List KTy) (r : ℕ → ℕ) (acc : CTys) → M n → Have S g → CAll Q n acc →
       CAll Q n (picked_types keep (ctype r) g acc)
@@ -411,6 +423,34 @@ module _ (L : ℕ → Type 0) (S : KTy → Type 0) (M : ℕ → Type 0) (Q : CPr
   all_ctypes n m NoKTys r l h = tt
   all_ctypes n m (MoreKTys t ts) r l h = (kp.type n t r l h.0.1, all_ctypes n m ts r l h.1)
 
+  -- what follows a declaration
+  abbrev Keeps : KTm → Type 0
+  Keeps t = (s : Scope) (n : ℕ) (cg : List CTy) → n ≤ s.tcount → Have S s.types →
+      Fits (λ i. occurs_t i t) (λ j. tfree_t j t) s n cg → KTypedWith P s.tcount s.types t →
+      CTypedWith Q n cg (close_t s t)
+
+  rest_of : (t : KTm) → Keeps t → (b : Bool) (u : KTy) (s : Scope) (n : ℕ) (cg : List CTy) → n ≤ s.tcount →
+      Have S s.types → S u →
+      Fits (λ i. occurs_t i t) (λ j. tfree_t j t) (with_var u (open_if b s)) (after_one b n)
+      (ctype (open_if b s).tvar u ∷ scope_more b cg) →
+      KTypedWith P (after_one b s.tcount) (u ∷ scope_more b s.types) t →
+      CTypedWith Q (after_one b n) (ctype (open_if b s).tvar u ∷ scope_more b cg) (close_t (with_var u (open_if b s)) t)
+  rest_of t go true u s n cg l sm x f h =
+      go (with_var u (open_if true s)) (suc n) _ (omega (arith, l)) (x, have_ren s.types suc sm) f h
+  rest_of t go false u s n cg l sm x f h = go (with_var u (open_if false s)) n _ l (x, sm) f h
+
+  first_of_two : (v w : KVal) (s : Scope) (n : ℕ) (cg : List CTy) →
+      Fits (λ i. occurs_v i v || occurs_v i w) (λ j. tfree_v j v || tfree_v j w) s n cg →
+      Fits (λ i. occurs_v i v) (λ j. tfree_v j v) s n cg
+  first_of_two v w s n cg f = fewer _ _ _ _ s n cg (λ i. or_left (occurs_v i v) (occurs_v i w))
+      (λ j. or_left (tfree_v j v) (tfree_v j w)) f
+
+  second_of_two : (v w : KVal) (s : Scope) (n : ℕ) (cg : List CTy) →
+      Fits (λ i. occurs_v i v || occurs_v i w) (λ j. tfree_v j v || tfree_v j w) s n cg →
+      Fits (λ i. occurs_v i w) (λ j. tfree_v j w) s n cg
+  second_of_two v w s n cg f = fewer _ _ _ _ s n cg (λ i. or_right (occurs_v i v) (occurs_v i w))
+      (λ j. or_right (tfree_v j v) (tfree_v j w)) f
+
   mutual
     has_v : (v : KVal) (s : Scope) (n : ℕ) (cg : List CTy) (t : KTy) → n ≤ s.tcount + 1 → Have S s.types →
         Fits (λ i. occurs_v i v) (λ j. tfree_v j v) s n cg → KHasWith P s.tcount s.types v t →
@@ -433,7 +473,7 @@ module _ (L : ℕ → Type 0) (S : KTy → Type 0) (M : ℕ → Type 0) (Q : CPr
         (λ d. kept_lt s.types (keeps args body) s.tcount j f.scoped d) e in
         let ln : M n = kp.more s.tcount n l h.0.0 in
         let own : P s.tcount (TKCode owes args) = subst (P s.tcount) h.1 h.0 in
-        let lm : L (lift owes s.tcount) = names_in body (lift owes s.tcount) (kbody_scope owes args s.types) h.3 in
+        let lm : L (lift owes s.tcount) = names_in body (lift owes s.tcount) (kbody_scope owes args s.types) h.4 in
         let inside : Have S (inner s owes args body).types =
         have_args args (kren (lift owes) (TKCode owes args) ∷ krens_scope (lift owes) s.types)
         (kp.args owes args own.1) (have_ren (TKCode owes args ∷ s.types) (lift owes) (own.1, sm)) in
@@ -442,10 +482,10 @@ module _ (L : ℕ → Type 0) (S : KTy → Type 0) (M : ℕ → Type 0) (Q : CPr
         (closed_code s owes args body (close_t (inner s owes args body) body))
         (CTuple (picked (keeps args body) s.vars NoCVals)) ln lm own.1 sm f.below range
         (code_has s owes args body (close_t (inner s owes args body) body) n cg ln lm own.1 sm f.scoped
-        (same_length (keeps args body) s.vars s.types s.tvar cg f.agree) h.2 (plain_t P body _ _ h.3) range
+        (same_length (keeps args body) s.vars s.types s.tvar cg f.agree) h.2 (plain_t P body _ _ h.4) range
         (λ dg k. good_t body (inner s owes args body) (lift owes (rank (tkeeps s.types owes args body) s.tcount)) dg
         (lift_le owes (rank (tkeeps s.types owes args body) s.tcount) s.tcount
-        (rank_le (tkeeps s.types owes args body) s.tcount)) inside k h.3)) (
+        (rank_le (tkeeps s.types owes args body) s.tcount)) inside k h.4)) (
           kp.env n s.tvar args body s.types ln sm,
           _,
           refl,
@@ -468,158 +508,84 @@ module _ (L : ℕ → Type 0) (S : KTy → Type 0) (M : ℕ → Type 0) (Q : CPr
           (λ j. or_right (tfree_v j v) (tfree_vs j vs)) f) h.4,
     )
 
+    gives_d : (d : KDecl) (s : Scope) (n : ℕ) (cg : List CTy) (t : KTy) → n ≤ s.tcount → Have S s.types →
+        Fits (λ i. occurs_d i d) (λ j. tfree_d j d) s n cg → KGivesWith P s.tcount s.types d t →
+        CGivesWith Q n cg (close_d s d) (ctype (open_if (opens d) s).tvar t)
+    gives_d (KName v) s n cg t l sm f h = has_v v s n cg t (omega (arith, l)) sm f h
+    gives_d (KProj i v) s n cg t l sm f h = (
+      kp.type n t s.tvar (kp.more s.tcount n (omega (arith, l)) h.0.0) h.0.1,
+      ctypes s.tvar h.1,
+      has_v v s n cg (TKTuple h.1) (omega (arith, l)) sm f h.2,
+      field_has i h.1 t s.tvar h.3,
+    )
+    gives_d (KArith op v w) s n cg t l sm f h = (
+      kp.type n t s.tvar (kp.more s.tcount n (omega (arith, l)) h.0.0) h.0.1,
+      ap (ctype s.tvar) h.1,
+      has_v v s n cg TKInt (omega (arith, l)) sm (first_of_two v w s n cg f) h.2,
+      has_v w s n cg TKInt (omega (arith, l)) sm (second_of_two v w s n cg f) h.3,
+    )
+    gives_d (KPack hid v shape) s n cg t l sm f h =
+        let r = s.tvar in
+        let ln : M n = kp.more s.tcount n (omega (arith, l)) h.0.0 in
+        let of_d = λ (j : ℕ) (e : tfree j hid || (tfree_v j v || tfree j shape) ≡ true).
+        f.below j (or_left (tfree j hid || (tfree_v j v || tfree j shape)) _ e) in (
+          kp.type n t r ln h.0.1,
+          ctype (under 1 r) h.2,
+          ap (ctype r) h.3,
+          ap (ctype r) h.4,
+          in_ctype hid r n (λ j e. of_d j (or_left (tfree j hid) (tfree_v j v || tfree j shape) e)),
+          in_ctype shape r n
+              (λ j e. of_d j
+              (or_right (tfree j hid) (tfree_v j v || tfree j shape) (or_right (tfree_v j v) (tfree j shape) e))),
+          kp.type n hid r ln h.1.1,
+          subst (CHasWith Q n cg (close_v s v))
+              (sym (gen_ctype h.2 (scons (ctype r hid) TCVar) (under 1 r) r (kscons hid TKVar)
+              (scons_gen (ctype r hid) hid TCVar r r TKVar refl (λ i. refl))))
+              (has_v v s n cg (ksub (kscons hid TKVar) h.2) (omega (arith, l)) sm
+              (fewer _ _ _ _ s n cg (λ i e. e)
+              (λ j e. or_right (tfree j hid) (tfree_v j v || tfree j shape) (or_left (tfree_v j v) (tfree j shape) e))
+              f) h.7),
+        )
+    gives_d (KUnpack v) s n cg t l sm f h = (
+      kp.type (suc n) t (under 1 s.tvar) (kp.more (suc s.tcount) (suc n) (omega (arith, l)) h.0.0) h.0.1,
+      has_v v s n cg (TKExists t) (omega (arith, l)) sm f h.1,
+    )
+    gives_d (KCell v) s n cg t l sm f h = (
+      kp.type n t s.tvar (kp.more s.tcount n (omega (arith, l)) h.0.0) h.0.1,
+      ctype s.tvar h.1,
+      ap (ctype s.tvar) h.2,
+      has_v v s n cg h.1 (omega (arith, l)) sm f h.3,
+    )
+    gives_d (KGet v) s n cg t l sm f h = (
+      kp.type n t s.tvar (kp.more s.tcount n (omega (arith, l)) h.0.0) h.0.1,
+      has_v v s n cg (TKRef t) (omega (arith, l)) sm f h.1,
+    )
+    gives_d (KSet v w) s n cg t l sm f h = (
+      kp.type n t s.tvar (kp.more s.tcount n (omega (arith, l)) h.0.0) h.0.1,
+      ctype s.tvar h.1,
+      ap (ctype s.tvar) h.2,
+      has_v v s n cg (TKRef h.1) (omega (arith, l)) sm (first_of_two v w s n cg f) h.3,
+      has_v w s n cg h.1 (omega (arith, l)) sm (second_of_two v w s n cg f) h.4,
+    )
+
     good_t : (t : KTm) (s : Scope) (n : ℕ) (cg : List CTy) → n ≤ s.tcount → Have S s.types →
         Fits (λ i. occurs_t i t) (λ j. tfree_t j t) s n cg → KTypedWith P s.tcount s.types t → CTypedWith Q n cg
         (close_t s t)
-    good_t (KLet (KName v) t) s n cg l sm f h =
-        let d = KName v in
-        let pd = plain_d P d s.tcount s.types h.0 h.1 in
-        let e = d_type d s.tcount s.types h.0 pd in (
-          ctype s.tvar (kv_type s.types v),
-          subst (λ x. CHasWith Q n cg (close_v s v) (ctype s.tvar x)) (sym e)
-              (has_v v s n cg h.0 (omega (arith, l)) sm
-              (fewer _ _ _ _ s n cg (λ i. or_left (occurs_v i v) (occurs_t (suc i) t))
-              (λ j. or_left (tfree_v j v) (tfree_t j t)) f) h.1),
-          good_t t (with_decl d s) n _ l
-              (subst (λ x. Have S (x ∷ s.types)) (sym e) (given d s.tcount s.types h.0 h.1, sm))
-              (fits_let d t s n cg h.0 pd f) (subst (λ x. KTypedWith P s.tcount (x ∷ s.types) t) (sym e) h.2),
-        )
-    good_t (KLet (KProj i v) t) s n cg l sm f h =
-        let d = KProj i v in
-        let pd = plain_d P d s.tcount s.types h.0 h.1 in
-        let e = d_type d s.tcount s.types h.0 pd in (
-          ctypes s.tvar h.1.1,
-          ctype s.tvar (kd_type s.types d),
-          has_v v s n cg (TKTuple h.1.1) (omega (arith, l)) sm
-              (fewer _ _ _ _ s n cg (λ i. or_left (occurs_v i v) (occurs_t (suc i) t))
-              (λ j. or_left (tfree_v j v) (tfree_t j t)) f) h.1.2,
-          subst (λ x. CField i (ctypes s.tvar h.1.1) (ctype s.tvar x)) (sym e) (field_has i h.1.1 h.0 s.tvar h.1.3),
-          subst (λ x. Q n (ctype s.tvar x)) (sym e)
-              (kp.type n h.0 s.tvar (kp.more s.tcount n (omega (arith, l)) h.1.0.0) h.1.0.1),
-          good_t t (with_decl d s) n _ l
-              (subst (λ x. Have S (x ∷ s.types)) (sym e) (given d s.tcount s.types h.0 h.1, sm))
-              (fits_let d t s n cg h.0 pd f) (subst (λ x. KTypedWith P s.tcount (x ∷ s.types) t) (sym e) h.2),
-        )
-    good_t (KLet (KArith op v w) t) s n cg l sm f h =
-        let d = KArith op v w in
-        let pd = plain_d P d s.tcount s.types h.0 h.1 in (
-          has_v v s n cg TKInt (omega (arith, l)) sm
-              (fewer _ _ _ _ s n cg
-              (λ i e. or_left (occurs_v i v || occurs_v i w) (occurs_t (suc i) t)
-              (or_left (occurs_v i v) (occurs_v i w) e))
-              (λ j e. or_left (tfree_v j v || tfree_v j w) (tfree_t j t) (or_left (tfree_v j v) (tfree_v j w) e)) f)
-              h.1.2,
-          has_v w s n cg TKInt (omega (arith, l)) sm
-              (fewer _ _ _ _ s n cg
-              (λ i e. or_left (occurs_v i v || occurs_v i w) (occurs_t (suc i) t)
-              (or_right (occurs_v i v) (occurs_v i w) e))
-              (λ j e. or_left (tfree_v j v || tfree_v j w) (tfree_t j t) (or_right (tfree_v j v) (tfree_v j w) e)) f)
-              h.1.3,
-          good_t t (with_decl d s) n _ l (subst S h.1.1 h.1.0.1, sm) (fits_let d t s n cg h.0 pd f)
-              (subst (λ x. KTypedWith P s.tcount (x ∷ s.types) t) h.1.1 h.2),
-        )
-    good_t (KLet (KPack hid v shape) t) s n cg l sm f h =
-        let d = KPack hid v shape in
-        let r = s.tvar in
+    good_t (KLet d t) s n cg l sm f h =
         let pd = plain_d P d s.tcount s.types h.0 h.1 in
         let e = d_type d s.tcount s.types h.0 pd in
-        let ln : M n = kp.more s.tcount n (omega (arith, l)) h.1.0.0 in
-        let of_d = λ (j : ℕ) (e : tfree j hid || (tfree_v j v || tfree j shape) ≡ true).
-        f.below j (or_left ((tfree j hid || (tfree_v j v || tfree j shape)) || tfree_t j t) _
-        (or_left (tfree j hid || (tfree_v j v || tfree j shape)) (tfree_t j t) e)) in (
-          ctype r shape,
-          (
-            kp.type n shape r ln (subst S h.1.4 h.1.0.1),
-            ctype (under 1 r) h.1.2,
-            ap (ctype r) h.1.3,
-            refl,
-            in_ctype hid r n (λ j e. of_d j (or_left (tfree j hid) (tfree_v j v || tfree j shape) e)),
-            in_ctype shape r n
-                (λ j e. of_d j
-                (or_right (tfree j hid) (tfree_v j v || tfree j shape) (or_right (tfree_v j v) (tfree j shape) e))),
-            kp.type n hid r ln h.1.1.1,
-            subst (CHasWith Q n cg (close_v s v))
-                (sym (gen_ctype h.1.2 (scons (ctype r hid) TCVar) (under 1 r) r (kscons hid TKVar)
-                (scons_gen (ctype r hid) hid TCVar r r TKVar refl (λ i. refl))))
-                (has_v v s n cg (ksub (kscons hid TKVar) h.1.2) (omega (arith, l)) sm
-                (fewer _ _ _ _ s n cg (λ i. or_left (occurs_v i v) (occurs_t (suc i) t))
-                (λ j e. or_left (tfree j hid || (tfree_v j v || tfree j shape)) (tfree_t j t)
-                (or_right (tfree j hid) (tfree_v j v || tfree j shape)
-                (or_left (tfree_v j v) (tfree j shape) e))) f) h.1.7),
-          ),
-          good_t t (with_decl d s) n _ l
-              (subst (λ x. Have S (x ∷ s.types)) (sym e) (given d s.tcount s.types h.0 h.1, sm))
-              (fits_let d t s n cg h.0 pd f) (subst (λ x. KTypedWith P s.tcount (x ∷ s.types) t) (sym e) h.2),
-        )
-    good_t (KLet (KUnpack v) t) s n cg l sm f h =
-        let d = KUnpack v in
-        let pd = plain_d P d s.tcount s.types h.0 h.1 in
-        let e = d_type d s.tcount s.types h.0 pd in (
-          ctype (under 1 s.tvar) (kd_type s.types d),
-          subst (λ x. CHasWith Q n cg (close_v s v) (TCExists (ctype (under 1 s.tvar) x))) (sym e)
-              (has_v v s n cg (TKExists h.0) (omega (arith, l)) sm
-              (fewer _ _ _ _ s n cg (λ i. or_left (occurs_v i v) (occurs_t (suc i) t))
-              (λ j. or_left (tfree_v j v) (tfree_t (suc j) t)) f) h.1.1),
-          subst (λ x. Q (suc n) (ctype (under 1 s.tvar) x)) (sym e)
-              (kp.type (suc n) h.0 (under 1 s.tvar) (kp.more (suc s.tcount) (suc n) (omega (arith, l)) h.1.0.0)
-              h.1.0.1),
-          good_t t (with_decl d s) (suc n) _ (omega (arith, l))
-              (subst (λ x. Have S (x ∷ krens_scope suc s.types)) (sym e)
-              (given d s.tcount s.types h.0 h.1, have_ren s.types suc sm)) (fits_let d t s n cg h.0 pd f)
-              (subst (λ x. KTypedWith P (suc s.tcount) (x ∷ krens_scope suc s.types) t) (sym e) h.2),
-        )
-    good_t (KLet (KCell v) t) s n cg l sm f h =
-        let d = KCell v in
-        let pd = plain_d P d s.tcount s.types h.0 h.1 in
-        let e = d_type d s.tcount s.types h.0 pd in (
-          ctype s.tvar (kv_type s.types v),
-          subst (λ x. CHasWith Q n cg (close_v s v) (ctype s.tvar x))
-              (sym (v_type v s.tcount s.types h.1.1 (plain_v P v s.tcount s.types h.1.1 h.1.3)))
-              (has_v v s n cg h.1.1 (omega (arith, l)) sm
-              (fewer _ _ _ _ s n cg (λ i. or_left (occurs_v i v) (occurs_t (suc i) t))
-              (λ j. or_left (tfree_v j v) (tfree_t j t)) f) h.1.3),
-          subst (λ x. Q n (ctype s.tvar x)) (sym e)
-              (kp.type n h.0 s.tvar (kp.more s.tcount n (omega (arith, l)) h.1.0.0) h.1.0.1),
-          good_t t (with_decl d s) n _ l
-              (subst (λ x. Have S (x ∷ s.types)) (sym e) (given d s.tcount s.types h.0 h.1, sm))
-              (fits_let d t s n cg h.0 pd f) (subst (λ x. KTypedWith P s.tcount (x ∷ s.types) t) (sym e) h.2),
-        )
-    good_t (KLet (KGet v) t) s n cg l sm f h =
-        let d = KGet v in
-        let pd = plain_d P d s.tcount s.types h.0 h.1 in
-        let e = d_type d s.tcount s.types h.0 pd in (
-          ctype s.tvar (kd_type s.types d),
-          subst (λ x. CHasWith Q n cg (close_v s v) (TCRef (ctype s.tvar x))) (sym e)
-              (has_v v s n cg (TKRef h.0) (omega (arith, l)) sm
-              (fewer _ _ _ _ s n cg (λ i. or_left (occurs_v i v) (occurs_t (suc i) t))
-              (λ j. or_left (tfree_v j v) (tfree_t j t)) f) h.1.1),
-          subst (λ x. Q n (ctype s.tvar x)) (sym e)
-              (kp.type n h.0 s.tvar (kp.more s.tcount n (omega (arith, l)) h.1.0.0) h.1.0.1),
-          good_t t (with_decl d s) n _ l
-              (subst (λ x. Have S (x ∷ s.types)) (sym e) (given d s.tcount s.types h.0 h.1, sm))
-              (fits_let d t s n cg h.0 pd f) (subst (λ x. KTypedWith P s.tcount (x ∷ s.types) t) (sym e) h.2),
-        )
-    good_t (KLet (KSet v w) t) s n cg l sm f h =
-        let d = KSet v w in
-        let pd = plain_d P d s.tcount s.types h.0 h.1 in
-        let e = d_type d s.tcount s.types h.0 pd in (
-          ctype s.tvar h.1.1,
-          has_v v s n cg (TKRef h.1.1) (omega (arith, l)) sm
-              (fewer _ _ _ _ s n cg
-              (λ i e. or_left (occurs_v i v || occurs_v i w) (occurs_t (suc i) t)
-              (or_left (occurs_v i v) (occurs_v i w) e))
-              (λ j e. or_left (tfree_v j v || tfree_v j w) (tfree_t j t) (or_left (tfree_v j v) (tfree_v j w) e)) f)
-              h.1.3,
-          has_v w s n cg h.1.1 (omega (arith, l)) sm
-              (fewer _ _ _ _ s n cg
-              (λ i e. or_left (occurs_v i v || occurs_v i w) (occurs_t (suc i) t)
-              (or_right (occurs_v i v) (occurs_v i w) e))
-              (λ j e. or_left (tfree_v j v || tfree_v j w) (tfree_t j t) (or_right (tfree_v j v) (tfree_v j w) e)) f)
-              h.1.4,
-          kp.type n (TKTuple NoKTys) s.tvar (kp.more s.tcount n (omega (arith, l)) h.1.0.0) (subst S h.1.2 h.1.0.1),
-          good_t t (with_decl d s) n _ l
-              (subst (λ x. Have S (x ∷ s.types)) (sym e) (given d s.tcount s.types h.0 h.1, sm))
-              (fits_let d t s n cg h.0 pd f) (subst (λ x. KTypedWith P s.tcount (x ∷ s.types) t) (sym e) h.2),
+        let r = (open_if (opens d) s).tvar in (
+          ctype r (kd_type s.types d),
+          subst (λ u. CGivesWith Q n cg (close_d s d) (ctype r u)) (sym e)
+              (gives_d d s n cg h.0 l sm
+              (fewer _ _ _ _ s n cg (λ i. or_left (occurs_d i d) (occurs_t (suc i) t))
+              (λ j. or_left (tfree_d j d) (tfree_t (after_one (opens d) j) t)) f) h.1),
+          subst (λ b. CTypedWith Q (after_one b n) (ctype r (kd_type s.types d) ∷ scope_more b cg)
+              (close_t (with_decl d s) t)) (opens_close s d)
+              (rest_of t (good_t t) (opens d) (kd_type s.types d) s n cg l sm
+              (subst S (sym e) (given d s.tcount s.types h.0 h.1)) (fits_let d t s n cg h.0 pd f)
+              (subst (λ x. KTypedWith P (after_one (opens d) s.tcount) (x ∷ scope_more (opens d) s.types) t) (sym e)
+              h.2)),
         )
     good_t (KCall g ts vs) s n cg l sm f h =
         let r = s.tvar in
@@ -639,22 +605,18 @@ module _ (L : ℕ → Type 0) (S : KTy → Type 0) (M : ℕ → Type 0) (Q : CPr
         let code_ok : Q (suc n) c1 =
         kp.called (suc n) (kcount ts) (lift (kcount ts) 0) (under (kcount ts) (λ i. suc (r i))) h.0 ln own.1 in (
           TCTuple fields,
-          has_v g s n cg (TKCode (kcount ts) h.0) (omega (arith, l)) sm
-              (fewer _ _ _ _ s n cg (λ i. or_left (occurs_v i g) (occurs_vs i vs))
-              (λ j. or_left (tfree_v j g) (tfrees j ts || tfree_vs j vs)) f) h.1,
-          pair_ok,
           (
-            fields,
+            pair_ok,
+            has_v g s n cg (TKCode (kcount ts) h.0) (omega (arith, l)) sm
+                (fewer _ _ _ _ s n cg (λ i. or_left (occurs_v i g) (occurs_vs i vs))
+                (λ j. or_left (tfree_v j g) (tfrees j ts || tfree_vs j vs)) f) h.1,
+          ),
+          (
             c1,
-            (pair_ok, refl),
-            refl,
-            code_ok,
+            (code_ok, fields, (pair_ok, refl), refl),
             (
-              fields,
               TCVar 0,
-              (pair_ok, refl),
-              refl,
-              kp.var (suc n) 0 ln,
+              (kp.var (suc n) 0 ln, fields, (pair_ok, refl), refl),
               (
                 us',
                 (subst (Q (suc n)) (sym cnt) code_ok, cnt),

@@ -32,7 +32,7 @@ of_four_is_spent : crun 0 of_four ≡ record { end = Spent; entered = [] }
 of_four_is_spent = refl
 
 of_four_typed : CTyped 0 [] of_four
-of_four_typed = (_, (refl, (tt, tt), (refl, refl, refl)), tt, (_, _, refl, refl, refl))
+of_four_typed = (_, (refl, (tt, tt), (_, (refl, refl, refl), refl)), tt, (_, _, refl, refl, refl))
 
 -- in its body a code sees its arguments and itself, 0 being its last argument, and nothing around it
 sees_nothing_around : CTyped 0 []
@@ -85,7 +85,7 @@ cell_halts : crun 0 cell ≡ record { end = Halted (pos 9); entered = [] }
 cell_halts = refl
 
 cell_typed : CTyped 0 [] cell
-cell_typed = (_, refl, (_, refl, refl, (_, refl, refl)))
+cell_typed = (_, (_, refl, refl), (_, (_, refl, refl, refl), (_, refl, refl)))
 
 -- an integer is no tuple
 stuck : crun 0 (CLet (CProj 1 (CInt (pos 3))) (CHalt (CVar 0))) ≡ record { end = Stuck; entered = [] }

@@ -12,3 +12,5 @@ pub mod Ends
 pub mod Opening
 pub mod Words
 pub mod WordLists
+pub mod TypedWith
+pub mod TypeOf

@@ -1,4 +1,5 @@
 pub mod Arena
+pub mod Calculus
 pub mod Roots
 pub mod Row
 pub mod Stack
@@ -13,3 +14,7 @@ pub mod TyLaws
 pub mod Types
 pub mod Walks
 pub mod Words
+pub mod Typing
+pub mod TypedWith
+pub mod Meaning
+pub mod TypeOf

@@ -64,14 +64,17 @@ mutual
   clean_vs n g NoCVals ts h = tt
   clean_vs n g (MoreCVals v vs) ts h = (clean_v n g v h.0 h.3, clean_vs n g vs h.1 h.4)
 
+  clean_d : (n : ℕ) (g : List CTy) (d : CDecl) (t : CTy) → CGives n g d t → Clean_d d
+  clean_d n g (CName v) t h = clean_v n g v _ h
+  clean_d n g (CProj i v) t h = clean_v n g v _ h.1
+  clean_d n g (CArith op v w) t h = (clean_v n g v _ h.1, clean_v n g w _ h.2)
+  clean_d n g (CUnpack v) t h = clean_v n g v _ h
+  clean_d n g (CCell v) t h = clean_v n g v _ h.2
+  clean_d n g (CGet v) t h = clean_v n g v _ h
+  clean_d n g (CSet v w) t h = (clean_v n g v _ h.2, clean_v n g w _ h.3)
+
   pub clean_t : (n : ℕ) (g : List CTy) (t : CTm) → CTyped n g t → Clean_t t
-  clean_t n g (CLet (CName v) t) h = (clean_v n g v _ h.1, clean_t n _ t h.2)
-  clean_t n g (CLet (CProj i v) t) h = (clean_v n g v _ h.2, clean_t n _ t h.4)
-  clean_t n g (CLet (CArith op v w) t) h = ((clean_v n g v _ h.0, clean_v n g w _ h.1), clean_t n _ t h.2)
-  clean_t n g (CLet (CUnpack v) t) h = (clean_v n g v _ h.1, clean_t (suc n) _ t h.2)
-  clean_t n g (CLet (CCell v) t) h = (clean_v n g v _ h.1, clean_t n _ t h.2)
-  clean_t n g (CLet (CGet v) t) h = (clean_v n g v _ h.1, clean_t n _ t h.2)
-  clean_t n g (CLet (CSet v w) t) h = ((clean_v n g v _ h.1, clean_v n g w _ h.2), clean_t n _ t h.3)
+  clean_t n g (CLet d t) h = (clean_d n g d _ h.1, clean_t _ _ t h.2)
   clean_t n g (CCall f ts vs) h = (clean_v n g f _ h.1, clean_vs n g vs _ h.3)
   clean_t n g (CIf v t u) h = (clean_v n g v _ h.0, clean_t n g t h.1, clean_t n g u h.2)
   clean_t n g (CHalt v) h = clean_v n g v _ h

@@ -169,8 +169,8 @@ mutual
 
 -- the block of a code
 abbrev IsBlock : HBlks → CNumbered → ℕ → Type 0
-IsBlock ks (CCodeAt b args body) l =
-    (l ≡ b) × (owes : ℕ) × (block_at ks b ≡ Some (block_of b owes args body)) × HoldsT ks (suc b) body
+IsBlock ks (CCodeAt b owes args body) l =
+    (l ≡ b) × (block_at ks b ≡ Some (block_of b owes args body)) × HoldsT ks (suc b) body
 
 -- an environment under d variables
 abbrev EnvOwn : HBlks → Own → CWords → Type 0
@@ -212,7 +212,7 @@ mutual
   stands_v (CVar i) ks own d b ws ys k h = var_stands ks own d i ws ys h
   stands_v (CInt n) ks own d b ws ys k h = refl
   stands_v (CTuple vs) ks own d b ws ys k h = (_, refl, stands_vs vs ks own d b ws ys k h)
-  stands_v (CCode owes args body) ks own d b ws ys k h = (b, refl, (refl, owes, k.0, k.1))
+  stands_v (CCode owes args body) ks own d b ws ys k h = (b, refl, (refl, k.0, k.1))
   stands_v (CApply v ts) ks own d b ws ys k h = stands_v v ks own d b ws ys k h
   stands_v (CPack hid v s) ks own d b ws ys k h = stands_v v ks own d b ws ys k h
 
@@ -248,7 +248,7 @@ HFollows ks ce he =
     block_at ks b ≡ Some (block_of b owes args body) → HoldsT ks (suc b) body → StandAll (IsBlock ks) vs ys →
     StandAll (IsBlock ks) st hst → size vs ≡ ccount args →
     he b (hoist_t (Code b) (ccount args) (suc b) body) (onto ys NoWords) hst
-    ≡ ce b body (onto vs (MoreWords (WCode (CCodeAt b args body) NoWords) NoWords)) st
+    ≡ ce b body (onto vs (MoreWords (WCode (CCodeAt b owes args body) NoWords) NoWords)) st
 
 call_stands : (ks : HBlks) (ce : CEnter) (he : HEnter) → HFollows ks ce he →
     (v : CWord) (y : HWord) (vs : CWords) (ys : HWords) (st : CWords) (hst : HWords) → Stands (IsBlock ks) v y →
@@ -256,14 +256,14 @@ call_stands : (ks : HBlks) (ce : CEnter) (he : HEnter) → HFollows ks ce he →
 call_stands ks ce he f (WInt n) y vs ys st hst r q w = ap (λ z. hopen ks he z ys hst) r
 call_stands ks ce he f (WTuple ws) y vs ys st hst r q w = ap (λ z. hopen ks he z ys hst) r.1
 call_stands ks ce he f (WCell p) y vs ys st hst r q w = ap (λ z. hopen ks he z ys hst) r
-call_stands ks ce he f (WCode (CCodeAt b args body) env) y vs ys st hst r q w =
+call_stands ks ce he f (WCode (CCodeAt b owes args body) env) y vs ys st hst r q w =
     ap (λ z. hopen ks he z ys hst) (r.1 ∙ ap (λ l. WCode l NoWords) r.2.0)
     ∙ ap (λ o. with_block o (λ k. if_fits (nat_eq (size ys) (ccount k.args)) (he b k.body (onto ys NoWords) hst)))
-    r.2.2
+    r.2.1
     ∙ ap (λ n. if_fits (nat_eq n (ccount args))
     (he b (hoist_t (Code b) (ccount args) (suc b) body) (onto ys NoWords) hst)) (all_size (IsBlock ks) vs ys q)
     ∙ fits_step (nat_eq (size vs) (ccount args)) _ _
-    (λ e. f b r.2.1 args body vs ys st hst r.2.2 r.2.3 q w (eqb-true (size vs) (ccount args) e))
+    (λ e. f b owes args body vs ys st hst r.2.1 r.2.2 q w (eqb-true (size vs) (ccount args) e))
 
 stands_t : (ks : HBlks) (ce : CEnter) (he : HEnter) → HFollows ks ce he →
     (t : CTm) (own : Own) (d b : ℕ) (ws : CWords) (ys : HWords) (st : CWords) (hst : HWords) → HoldsT ks b t →
@@ -297,10 +297,10 @@ hfollows ks (suc n) b owes args body vs ys st hst at holds r w e =
     (stands_t ks (center n) (henter ks n) (hfollows ks n) body (Code b) (ccount args) (suc b) (onto vs self)
     (onto ys NoWords) st hst holds
     (subst (λ k. EnvOk ks (Code b) k (onto vs self) (onto ys NoWords)) (lift_zero (size vs) ∙ e)
-    (env_onto ks (Code b) 0 vs self ys NoWords r ((b, refl, (refl, owes, at, holds)), refl))) w)
+    (env_onto ks (Code b) 0 vs self ys NoWords r ((b, refl, (refl, at, holds)), refl))) w)
   where
     self : CWords
-    self = MoreWords (WCode (CCodeAt b args body) NoWords) NoWords
+    self = MoreWords (WCode (CCodeAt b owes args body) NoWords) NoWords
 
 pub hoist_kept : (t : CTm) (n : ℕ) → hrun n (blocks_of t) (main_of t) ≡ crun n t
 hoist_kept t n =

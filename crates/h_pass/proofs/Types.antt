@@ -3,14 +3,14 @@ use Rattle.std.proofs.Common.{◌≡◌, ◌<◌, ℕ, zero, suc, List, [], ◌�
 use Rattle.calc_core.specs.Ends.{lift, under}
 use Rattle.calc_core.proofs.Lifts.{lift_suc, lift_zero}
 use Rattle.c_terms.specs.C.{CApply, CArith, CCall, CCell, CCode, CGet, CHalt, CIf, CInt, CLet, CName, CPack, CProj}
-use Rattle.c_terms.specs.C.{CSet, CTm, CTuple, CTy, CTys, CUnpack, CVal, CVals, CVar, MoreCTys, MoreCVals, NoCTys}
-use Rattle.c_terms.specs.C.{NoCVals, TCCode, TCInt, TCRef, TCExists, TCTuple, TCVar, ccount, ct_next, cv_next}
-use Rattle.c_terms.specs.Each.{CTypedWith, CHasWith, CHaveWith, CProp}
+use Rattle.c_terms.specs.C.{CSet, CTm, CTuple, CTy, CTys, CUnpack, CDecl, CVal, CVals, CVar, MoreCTys, MoreCVals, NoCTys}
+use Rattle.c_terms.specs.C.{NoCVals, TCCode, TCInt, TCRef, TCExists, TCTuple, TCVar, ccount, cd_next, ct_next, cv_next}
+use Rattle.c_terms.specs.Each.{CTypedWith, CGivesWith, CHasWith, CHaveWith, CProp}
 use Rattle.c_terms.specs.Typing.{CAt, CIn, CIns, cargs_onto, cren, crens, crens_scope}
 use Rattle.h_terms.specs.Each.{AllTypedWith, HTypedWith, HHasWith, HHaveWith, HProgramWith}
 use Rattle.h_terms.specs.H.{HBlk, HBlks, block_at}
-use Rattle.h_pass.proofs.Hoisting.{HoldsT, HoldsV, HoldsVs, has_all, holds_t}
-use Rattle.h_pass.specs.Hoist.{Code, Lost, Near, Nobody, Own, Self, Spot, block_of, blocks_of, blocks_t, blocks_v}
+use Rattle.h_pass.proofs.Hoisting.{HoldsD, HoldsT, HoldsV, HoldsVs, has_all, holds_t}
+use Rattle.h_pass.specs.Hoist.{Code, Lost, Near, Nobody, Own, Self, Spot, block_of, blocks_d, blocks_of, blocks_t, blocks_v}
 use Rattle.h_pass.specs.Hoist.{blocks_vs, deeper, hoist_t, hoist_v, hoist_vs, main_of, spot, spot_value}
 
 -- a renaming that leaves the first n alone changes nothing of a type that has no others
@@ -114,44 +114,43 @@ module _ (P : CProp) where
     hgood_t t ks own (suc d) (cv_next b v) n (h.0 ∷ cg) (h.0 ∷ hg) k.1 (refl, s) h.2,
   )
   hgood_t (CLet (CProj i v) t) ks own d b n cg hg k s h = (
+    h.1.1,
     h.0,
-    h.1,
-    hhas_v v ks own d b n cg hg _ k.0 s h.2,
-    h.3,
-    h.4,
-    hgood_t t ks own (suc d) (cv_next b v) n (h.1 ∷ cg) (h.1 ∷ hg) k.1 (refl, s) h.5,
+    hhas_v v ks own d b n cg hg _ k.0 s h.1.2,
+    h.1.3,
+    h.1.0,
+    hgood_t t ks own (suc d) (cv_next b v) n (h.0 ∷ cg) (h.0 ∷ hg) k.1 (refl, s) h.2,
   )
   hgood_t (CLet (CArith op v w) t) ks own d b n cg hg k s h = (
-    hhas_v v ks own d b n cg hg TCInt k.0.0 s h.0,
-    hhas_v w ks own d (cv_next b v) n cg hg TCInt k.0.1 s h.1,
-    hgood_t t ks own (suc d) (cv_next (cv_next b v) w) n (TCInt ∷ cg) (TCInt ∷ hg) k.1 (refl, s) h.2,
+    hhas_v v ks own d b n cg hg _ k.0.0 s h.1.2,
+    hhas_v w ks own d (cv_next b v) n cg hg _ k.0.1 s h.1.3,
+    hgood_t t ks own (suc d) (cv_next (cv_next b v) w) n (h.0 ∷ cg) (TCInt ∷ hg) k.1 (h.1.1, s) h.2,
   )
   hgood_t (CLet (CUnpack v) t) ks own d b n cg hg k s h = (
     h.0,
-    hhas_v v ks own d b n cg hg _ k.0 s h.1,
-    h.2,
+    hhas_v v ks own d b n cg hg _ k.0 s h.1.1,
+    h.1.0,
     hgood_t t ks own (suc d) (cv_next b v) (suc n) (h.0 ∷ crens_scope suc cg) (h.0 ∷ crens_scope suc hg) k.1
-        (refl, scope_ren ks own d cg hg s) h.3,
+        (refl, scope_ren ks own d cg hg s) h.2,
   )
   hgood_t (CLet (CCell v) t) ks own d b n cg hg k s h = (
-    h.0,
-    hhas_v v ks own d b n cg hg h.0 k.0 s h.1,
-    h.2,
-    hgood_t t ks own (suc d) (cv_next b v) n (TCRef h.0 ∷ cg) (TCRef h.0 ∷ hg) k.1 (refl, s) h.3,
+    h.1.1,
+    hhas_v v ks own d b n cg hg _ k.0 s h.1.3,
+    subst (P n) h.1.2 h.1.0,
+    hgood_t t ks own (suc d) (cv_next b v) n (h.0 ∷ cg) (TCRef h.1.1 ∷ hg) k.1 (h.1.2, s) h.2,
   )
   hgood_t (CLet (CGet v) t) ks own d b n cg hg k s h = (
     h.0,
-    hhas_v v ks own d b n cg hg _ k.0 s h.1,
-    h.2,
-    hgood_t t ks own (suc d) (cv_next b v) n (h.0 ∷ cg) (h.0 ∷ hg) k.1 (refl, s) h.3,
+    hhas_v v ks own d b n cg hg _ k.0 s h.1.1,
+    h.1.0,
+    hgood_t t ks own (suc d) (cv_next b v) n (h.0 ∷ cg) (h.0 ∷ hg) k.1 (refl, s) h.2,
   )
   hgood_t (CLet (CSet v w) t) ks own d b n cg hg k s h = (
-    h.0,
-    hhas_v v ks own d b n cg hg _ k.0.0 s h.1,
-    hhas_v w ks own d (cv_next b v) n cg hg h.0 k.0.1 s h.2,
-    h.3,
-    hgood_t t ks own (suc d) (cv_next (cv_next b v) w) n (TCTuple NoCTys ∷ cg) (TCTuple NoCTys ∷ hg) k.1
-        (refl, s) h.4,
+    h.1.1,
+    hhas_v v ks own d b n cg hg _ k.0.0 s h.1.3,
+    hhas_v w ks own d (cv_next b v) n cg hg _ k.0.1 s h.1.4,
+    subst (P n) h.1.2 h.1.0,
+    hgood_t t ks own (suc d) (cv_next (cv_next b v) w) n (h.0 ∷ cg) (TCTuple NoCTys ∷ hg) k.1 (h.1.2, s) h.2,
   )
   hgood_t (CCall f ts vs) ks own d b n cg hg k s h =
       (h.0, hhas_v f ks own d b n cg hg _ k.0 s h.1, h.2, h.3, hhave_vs vs ks own d (cv_next b f) n cg hg _ k.1 s h.4)
@@ -196,31 +195,22 @@ module _ (P : CProp) where
     good_vs (MoreCVals v vs) ks b n cg ts k h =
         all_append ks (blocks_v b v) _ (good_v v ks b n cg h.0 k.0 h.3) (good_vs vs ks (cv_next b v) n cg h.1 k.1 h.4)
 
+    good_d : (d : CDecl) (ks : HBlks) (b n : ℕ) (cg : List CTy) (t : CTy) → HoldsD ks b d → CGivesWith P n cg d t →
+        AllTypedWith P ks (blocks_d b d)
+    good_d (CName v) ks b n cg t k h = good_v v ks b n cg _ k h
+    good_d (CProj i v) ks b n cg t k h = good_v v ks b n cg _ k h.2
+    good_d (CArith op v w) ks b n cg t k h =
+        all_append ks (blocks_v b v) _ (good_v v ks b n cg _ k.0 h.2) (good_v w ks (cv_next b v) n cg _ k.1 h.3)
+    good_d (CUnpack v) ks b n cg t k h = good_v v ks b n cg _ k h.1
+    good_d (CCell v) ks b n cg t k h = good_v v ks b n cg _ k h.3
+    good_d (CGet v) ks b n cg t k h = good_v v ks b n cg _ k h.1
+    good_d (CSet v w) ks b n cg t k h =
+        all_append ks (blocks_v b v) _ (good_v v ks b n cg _ k.0 h.3) (good_v w ks (cv_next b v) n cg _ k.1 h.4)
+
     good_t : (t : CTm) (ks : HBlks) (b n : ℕ) (cg : List CTy) → HoldsT ks b t → CTypedWith P n cg t →
         AllTypedWith P ks (blocks_t b t)
-    good_t (CLet (CName v) t) ks b n cg k h =
-        all_append ks (blocks_v b v) _ (good_v v ks b n cg h.0 k.0 h.1)
-        (good_t t ks (cv_next b v) n (h.0 ∷ cg) k.1 h.2)
-    good_t (CLet (CProj i v) t) ks b n cg k h =
-        all_append ks (blocks_v b v) _ (good_v v ks b n cg _ k.0 h.2) (good_t t ks (cv_next b v) n (h.1 ∷ cg) k.1 h.5)
-    good_t (CLet (CArith op v w) t) ks b n cg k h =
-        all_append ks (blocks_v b v ++ blocks_v (cv_next b v) w) _
-        (all_append ks (blocks_v b v) _ (good_v v ks b n cg TCInt k.0.0 h.0)
-        (good_v w ks (cv_next b v) n cg TCInt k.0.1 h.1))
-        (good_t t ks (cv_next (cv_next b v) w) n (TCInt ∷ cg) k.1 h.2)
-    good_t (CLet (CUnpack v) t) ks b n cg k h =
-        all_append ks (blocks_v b v) _ (good_v v ks b n cg _ k.0 h.1)
-        (good_t t ks (cv_next b v) (suc n) (h.0 ∷ crens_scope suc cg) k.1 h.3)
-    good_t (CLet (CCell v) t) ks b n cg k h =
-        all_append ks (blocks_v b v) _ (good_v v ks b n cg _ k.0 h.1)
-        (good_t t ks (cv_next b v) n (TCRef h.0 ∷ cg) k.1 h.3)
-    good_t (CLet (CGet v) t) ks b n cg k h =
-        all_append ks (blocks_v b v) _ (good_v v ks b n cg _ k.0 h.1) (good_t t ks (cv_next b v) n (h.0 ∷ cg) k.1 h.3)
-    good_t (CLet (CSet v w) t) ks b n cg k h =
-        all_append ks (blocks_v b v ++ blocks_v (cv_next b v) w) _
-        (all_append ks (blocks_v b v) _ (good_v v ks b n cg _ k.0.0 h.1)
-        (good_v w ks (cv_next b v) n cg h.0 k.0.1 h.2))
-        (good_t t ks (cv_next (cv_next b v) w) n (TCTuple NoCTys ∷ cg) k.1 h.4)
+    good_t (CLet d t) ks b n cg k h =
+        all_append ks (blocks_d b d) _ (good_d d ks b n cg _ k.0 h.1) (good_t t ks (cd_next b d) _ _ k.1 h.2)
     good_t (CCall f ts vs) ks b n cg k h =
         all_append ks (blocks_v b f) _ (good_v f ks b n cg _ k.0 h.1) (good_vs vs ks (cv_next b f) n cg _ k.1 h.4)
     good_t (CIf v t u) ks b n cg k h =

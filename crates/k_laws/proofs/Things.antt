@@ -181,6 +181,7 @@ module _ (L : ℕ) (P : KProp) where
               o.rest.own d (omega (arith, low, le, lim)),
               refl,
               (o.type.scoped d (ext_le d big td g e), tt),
+              tt,
               subst (λ g. KTypedWith P d (t d ∷ g) h.0) (sym (scope_none (cont t d ∷ big)))
                   (good.ready N d (t d ∷ cont t d ∷ big) (named (suc (glength big))) h.0
                   (ext_more _ d _ td g (ext_more _ d big td g e)) (omega (arith, low, le)) (omega arith)

@@ -132,6 +132,7 @@ module _ (S : Ty → Type 0) (L : ℕ) (P : KProp) (pt : (d : ℕ) (r : ℕ → 
                   o.type.own d (omega (arith, low, lim)),
                   ap (kat d tl) ht.0,
                   (kat_in arg n tl d f' ht.1, ((kat_in res n tl d f' ht.2, tt), tt)),
+                  tt,
                   subst (λ g. KTypedWith P d (kcat d tl res ∷ kat d tl arg ∷ g) h.0) (sym (scope_none (fun ∷ big)))
                       (typed_cps body n tl (in_fix arg res ts) res N 0 d inner
                       (Level (suc (glength big)) ∷ Level (glength big) ∷ names) (Pass (suc (suc (glength big)))) h.0
@@ -163,6 +164,7 @@ module _ (S : Ty → Type 0) (L : ℕ) (P : KProp) (pt : (d : ℕ) (r : ℕ → 
                   o.type.own d (omega (arith, low, lim)),
                   ap (kat d tl) et ∙ ap (λ x. TKCode 1 (MoreKTys (taking x) NoKTys)) (opened s n tl d f' bs),
                   ((kat_in s (n + 1) (d ∷ tl) (suc d) f2 bs, tt), tt),
+                  tt,
                   typed_cps body (n + 1) (d ∷ tl) (raised ts) s N 0 (suc d) inner names (Pass (suc (glength big))) h.0
                       (subst (λ x. cps body (scope (n + 1) (d ∷ tl) (raised ts) names) s (suc d) (suc (suc x))
                       (Pass (suc (glength big))) h.0) (sym len) h.2)

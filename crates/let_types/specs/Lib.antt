@@ -1,4 +1,3 @@
-pub mod Closed
 pub mod Hoisted
 pub mod Known
 pub mod KnownRead

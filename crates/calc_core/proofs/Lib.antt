@@ -14,3 +14,4 @@ pub mod Words
 pub mod WordLists
 pub mod TypedWith
 pub mod TypeOf
+pub mod Declared

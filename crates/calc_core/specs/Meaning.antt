@@ -4,10 +4,21 @@ use Rattle.calc_core.specs.Ends.{if_fits, Spent, Stuck, Result, stops, enters}
 use Rattle.calc_core.specs.Types.{Tys, count}
 use Rattle.calc_core.specs.Words.{Word, WInt, WTuple, WCode, WCell, Words, NoWords, MoreWords, at, size, onto, project}
 use Rattle.calc_core.specs.Words.{operate, one_more, Made, Makes, given, get, set, with_value, at_zero, halt_with}
-use Rattle.calc_core.specs.Calculus.{Body, Open, Closed, Inside, Kinded, Val, Var, Int, Tuple, Code, Apply}
+use Rattle.calc_core.specs.Calculus.{Kind, Body, Open, Closed, Inside, Kinded, Val, Var, Int, Tuple, Code, Apply}
 use Rattle.calc_core.specs.Calculus.{Pack, Vals, NoVals, MoreVals}
 use Rattle.calc_core.specs.Calculus.{Decl, Name, Proj, Arith, Packs, Unpack, Cell, Get, Set, Tm, Let, Call, If, Halt}
 use Rattle.calc_core.specs.Calculus.{v_next, d_next, t_next}
+
+-- what a declaration names, and the store then, where x tells what its operand is, and y what one behind another is
+abbrev pub declared : {C : Type 0} {k : Kind} → (Val k → Word C) → (Val k → Val k → Word C) → Decl k → Words C → Made C
+declared x y (Name v) st = Makes (x v) st
+declared x y (Proj i v) st = given (project i (x v)) st
+declared x y (Arith op v w) st = given (operate op (x v) (y v w)) st
+declared x y (Packs h v s) st = Makes (x v) st
+declared x y (Unpack v) st = Makes (x v) st
+declared x y (Cell v) st = Makes (WCell (size st)) (one_more st (x v))
+declared x y (Get v) st = get (x v) st
+declared x y (Set v w) st = set (x v) (y v w) st
 
 -- a code, with its number
 pub data Numbered (c : Body) : Type 0 where
@@ -37,16 +48,9 @@ abbrev mutual
   vs_value b NoVals env = NoWords
   vs_value b (MoreVals v vs) env = MoreWords (v_value b v env) (vs_value (v_next b v) vs env)
 
--- what a declaration names, and the store then
-abbrev pub d_value : {c : Body} → ℕ → Decl (Kinded Inside c) → Words (Numbered c) → Words (Numbered c) → Made (Numbered c)
-d_value b (Name v) env st = Makes (v_value b v env) st
-d_value b (Proj i v) env st = given (project i (v_value b v env)) st
-d_value b (Arith op v w) env st = given (operate op (v_value b v env) (v_value (v_next b v) w env)) st
-d_value b (Packs h v s) env st = Makes (v_value b v env) st
-d_value b (Unpack v) env st = Makes (v_value b v env) st
-d_value b (Cell v) env st = Makes (WCell (size st)) (one_more st (v_value b v env))
-d_value b (Get v) env st = get (v_value b v env) st
-d_value b (Set v w) env st = set (v_value b v env) (v_value (v_next b v) w env) st
+abbrev pub d_value : {c : Body} → ℕ → Decl (Kinded Inside c) → Words (Numbered c) → Words (Numbered c) →
+    Made (Numbered c)
+d_value b d env st = declared (λ v. v_value b v env) (λ v w. v_value (v_next b v) w env) d st
 
 -- what the body of a code does: its number, the body, the values in scope, the store
 abbrev pub Enter : Body → Type 0

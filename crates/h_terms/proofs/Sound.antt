@@ -1,18 +1,20 @@
 -- A hoisted program that has a type is never stuck.
 use Rattle.std.proofs.Common.{◌≡◌, ℕ, zero, suc, nat_eq, List, [], ◌∷◌, Some, None, refl, sym, ap, ◌∙◌, subst, eq-eqb}
-use Rattle.calc_core.specs.Ends.{if_fits, lift}
+use Rattle.calc_core.specs.Ends.{if_fits, lift, after_one}
 use Rattle.calc_core.specs.Words.{WCell, NoWords, MoreWords, size, onto, project, operate, one_more}
 use Rattle.calc_core.specs.Words.{Makes, given, get, set}
 use Rattle.calc_core.proofs.Ends.{Fine, fits_fine}
 use Rattle.calc_core.proofs.Substituting.{named_sub, subs_count, subs_sub}
+use Rattle.calc_core.specs.Calculus.{opens, scope_more}
+use Rattle.calc_core.proofs.Declared.{sound_d}
 use Rattle.calc_core.proofs.Words as W
 use Rattle.calc_core.proofs.Words.{Has, Have, EnvHas, Stored}
 use Rattle.c_terms.specs.C.{CTy, CTys, NoCTys, TCCode, TCInt, TCRef, TCExists, TCTuple, TCVar, ccount}
 use Rattle.c_terms.specs.Typing.{cargs_onto, crens_scope, csub, csubs, cup, names, scons}
 use Rattle.h_terms.specs.H.{HApply, HArith, HBlk, HBlks, HCall, HCell, HGet, HHalt, HIf, HInt, HLabel, HLet, HName}
 use Rattle.h_terms.specs.H.{HPack, HProj, HSet, HTm, HTuple, HUnpack, HVal, HVals, HVar, MoreHVals, NoHVals, block_at}
-use Rattle.h_terms.specs.Meaning.{HEnter, HWord, HWords, henter, hopen, hrun, hterm, hv_value, hvs_value, with_block}
-use Rattle.h_terms.specs.Typing.{AllGood, HTyped, HHas, HHave}
+use Rattle.h_terms.specs.Meaning.{HEnter, HWord, HWords, hd_value, henter, hopen, hrun, hterm, hv_value, hvs_value, with_block}
+use Rattle.h_terms.specs.Typing.{BlockHas, AllGood, HTyped, HHas, HHave}
 
 module _ (ks : HBlks) where
   -- a label's type is its block's, under some types
@@ -99,43 +101,14 @@ module _ (ks : HBlks) where
     sound_t : (he : HEnter) → SafeEnter he →
         (t : HTm) (n : ℕ) (env st : HWords) (S : List CTy) (s : ℕ → CTy) (g : List CTy) → HTyped ks n g t →
         EnvHas IsLabel S env s g → Stored IsLabel S st S → Fine (hterm ks he t env st).end
-    sound_t he f (HLet (HName v) t) n env st S s g h e w =
-        sound_t he f t n (MoreWords (hv_value v env) env) st S s (h.0 ∷ g) h.2
-        (h.0, g, refl, sound_v v n env S s g h.0 h.1 e, e) w
-    sound_t he f (HLet (HProj i v) t) n env st S s g h e w =
-        W.value_fine IsLabel (given (project i (hv_value v env)) st) _ S (csub s h.1)
-        (W.given_has IsLabel _ st S _
-        (W.project_sound IsLabel i _ S s h.0 h.1 (sound_v v n env S s g (TCTuple h.0) h.2 e) h.3) w)
-        (λ y st2 Z m k w2. sound_t he f t n (MoreWords y env) st2 Z s (h.1 ∷ g) h.4
-        (h.1, g, refl, k, W.env_more IsLabel env S Z s g m e) w2)
-    sound_t he f (HLet (HArith op v u) t) n env st S s g h e w =
-        W.value_fine IsLabel (given (operate op (hv_value v env) (hv_value u env)) st) _ S TCInt
-        (W.given_has IsLabel _ st S TCInt
-        (W.compute_sound IsLabel op _ _ S (sound_v v n env S s g TCInt h.0 e) (sound_v u n env S s g TCInt h.1 e)) w)
-        (λ y st2 Z m k w2. sound_t he f t n (MoreWords y env) st2 Z s (TCInt ∷ g) h.2
-        (TCInt, g, refl, k, W.env_more IsLabel env S Z s g m e) w2)
-    sound_t he f (HLet (HUnpack v) t) n env st S s g h e w =
-        let o = W.unpack_sound IsLabel (hv_value v env) S s h.0 (sound_v v n env S s g (TCExists h.0) h.1 e) in
-        let s2 = scons o.0 s in
-        sound_t he f t (suc n) (MoreWords (hv_value v env) env) st S s2 (h.0 ∷ crens_scope suc g) h.2
-        (h.0, crens_scope suc g, refl, o.1, W.outer_has IsLabel env S s2 s 1 g (λ i. refl) e) w
-    sound_t he f (HLet (HCell v) t) n env st S s g h e w =
-        W.value_fine IsLabel (Makes (WCell (size st)) (one_more st (hv_value v env)))
-        (λ y st2. hterm ks he t (MoreWords y env) st2) S (TCRef (csub s h.0))
-        (W.cell_sound IsLabel (hv_value v env) st S (csub s h.0) (sound_v v n env S s g h.0 h.1 e) w)
-        (λ y st2 Z m k w2. sound_t he f t n (MoreWords y env) st2 Z s (TCRef h.0 ∷ g) h.2
-        (TCRef h.0, g, refl, k, W.env_more IsLabel env S Z s g m e) w2)
-    sound_t he f (HLet (HGet v) t) n env st S s g h e w =
-        W.value_fine IsLabel (get (hv_value v env) st) _ S (csub s h.0)
-        (W.get_sound IsLabel (hv_value v env) st S (csub s h.0) (sound_v v n env S s g (TCRef h.0) h.1 e) w)
-        (λ y st2 Z m k w2. sound_t he f t n (MoreWords y env) st2 Z s (h.0 ∷ g) h.2
-        (h.0, g, refl, k, W.env_more IsLabel env S Z s g m e) w2)
-    sound_t he f (HLet (HSet v u) t) n env st S s g h e w =
-        W.value_fine IsLabel (set (hv_value v env) (hv_value u env) st) _ S (TCTuple NoCTys)
-        (W.set_sound IsLabel (hv_value v env) (hv_value u env) st S (csub s h.0)
-        (sound_v v n env S s g (TCRef h.0) h.1 e) (sound_v u n env S s g h.0 h.2 e) w)
-        (λ y st2 Z m k w2. sound_t he f t n (MoreWords y env) st2 Z s (TCTuple NoCTys ∷ g) h.3
-        (TCTuple NoCTys, g, refl, k, W.env_more IsLabel env S Z s g m e) w2)
+    sound_t he f (HLet d t) n env st S s g h e w =
+        let r =
+        sound_d IsLabel (BlockHas ks) n S s g (λ v. hv_value v env) (λ v u. hv_value u env)
+        (λ v t q. sound_v v n env S s g t q e) (λ v u t q. sound_v u n env S s g t q e) d env st h.0 h.1 e w in
+        W.value_fine IsLabel (hd_value d env st) _ S (csub r.0 h.0) r.2
+        (λ y st2 Z m k w2. sound_t he f t (after_one (opens d) n) (MoreWords y env) st2 Z r.0
+        (h.0 ∷ scope_more (opens d) g) h.2
+        (h.0, scope_more (opens d) g, refl, k, W.env_more IsLabel env S Z r.0 (scope_more (opens d) g) m r.1) w2)
     sound_t he f (HCall c ts vs) n env st S s g h e w =
         call_sound he f (hv_value c env) (hvs_value vs env) st S s ts h.0 (sound_v c n env S s g _ h.1 e)
         (sound_vs vs n env S s g _ h.3 e) w

@@ -1,36 +1,23 @@
--- The trees of hoisted programs.
-use Rattle.std.specs.Prelude.{ℤ, ℕ, zero, suc, List, [], ◌∷◌, Option, Some, None}
-use Rattle.idx_core.specs.declared.arith.Op.{Op}
-use Rattle.c_terms.specs.C.{CTy, CTys}
+-- The trees of hoisted programs: codes stand apart, in blocks, and labels name them.
+use Rattle.std.specs.Prelude.{ℕ, zero, suc, List, [], ◌∷◌, Option, Some, None}
+use Rattle.c_terms.specs.C.{CTys}
+use Rattle.calc_core.specs.Calculus.{Hoisted, Val, Vals, Decl, Tm}
+pub use Rattle.calc_core.specs.Calculus.{Var as HVar, Int as HInt, Label as HLabel, Tuple as HTuple, Apply as HApply}
+pub use Rattle.calc_core.specs.Calculus.{Pack as HPack, NoVals as NoHVals, MoreVals as MoreHVals, Name as HName}
+pub use Rattle.calc_core.specs.Calculus.{Proj as HProj, Arith as HArith, Unpack as HUnpack, Cell as HCell, Get as HGet}
+pub use Rattle.calc_core.specs.Calculus.{Set as HSet, Let as HLet, Call as HCall, If as HIf, Halt as HHalt}
 
-mutual
-  pub data HVal : Type 0 where
-    HVar : ℕ → HVal
-    HInt : ℤ → HVal
-    HLabel : ℕ → HVal
-    HTuple : HVals → HVal
-    HApply : HVal → CTys → HVal
-    HPack : (hidden : CTy) → (inner : HVal) → (shape : CTy) → HVal
+abbrev pub HVal : Type 0
+HVal = Val Hoisted
 
-  pub data HVals : Type 0 where
-    NoHVals : HVals
-    MoreHVals : HVal → HVals → HVals
+abbrev pub HVals : Type 0
+HVals = Vals Hoisted
 
--- a declaration names one value; `HUnpack` names a type too
-pub data HDecl : Type 0 where
-  HName : HVal → HDecl
-  HProj : ℕ → HVal → HDecl
-  HArith : Op → HVal → HVal → HDecl
-  HUnpack : HVal → HDecl
-  HCell : HVal → HDecl
-  HGet : HVal → HDecl
-  HSet : HVal → HVal → HDecl
+abbrev pub HDecl : Type 0
+HDecl = Decl Hoisted
 
-pub data HTm : Type 0 where
-  HLet : HDecl → HTm → HTm
-  HCall : HVal → CTys → HVals → HTm
-  HIf : HVal → HTm → HTm → HTm
-  HHalt : HVal → HTm
+abbrev pub HTm : Type 0
+HTm = Tm Hoisted
 
 -- a block takes `owes` types and values of the types `args`
 pub record HBlk : Type 0 where

@@ -3,6 +3,7 @@ use Rattle.std.specs.Prelude.{ℕ, zero, suc, nat_eq, Option, Some, None}
 use Rattle.calc_core.specs.Ends.{Result, Spent, Stuck, enters, if_fits, stops}
 use Rattle.calc_core.specs.Words.{Word, WInt, WTuple, WCode, WCell, Words, NoWords, MoreWords, at, size, onto, project}
 use Rattle.calc_core.specs.Words.{operate, one_more, Made, Makes, given, get, set, with_value, at_zero, halt_with}
+use Rattle.calc_core.specs.Meaning.{declared}
 use Rattle.c_terms.specs.C.{ccount}
 use Rattle.h_terms.specs.H.{HApply, HArith, HBlk, HBlks, HCall, HCell, HDecl, HGet, HHalt, HIf, HInt, HLabel, HLet}
 use Rattle.h_terms.specs.H.{HName, HPack, HProj, HSet, HTm, HTuple, HUnpack, HVal, HVals, HVar, MoreHVals, NoHVals}
@@ -29,15 +30,9 @@ abbrev mutual
   hvs_value NoHVals env = NoWords
   hvs_value (MoreHVals v vs) env = MoreWords (hv_value v env) (hvs_value vs env)
 
--- what a declaration names
+-- what a declaration names, and the store then
 abbrev pub hd_value : HDecl → HWords → HWords → Made ℕ
-hd_value (HName v) env st = Makes (hv_value v env) st
-hd_value (HProj i v) env st = given (project i (hv_value v env)) st
-hd_value (HArith op v w) env st = given (operate op (hv_value v env) (hv_value w env)) st
-hd_value (HUnpack v) env st = Makes (hv_value v env) st
-hd_value (HCell v) env st = Makes (WCell (size st)) (one_more st (hv_value v env))
-hd_value (HGet v) env st = get (hv_value v env) st
-hd_value (HSet v w) env st = set (hv_value v env) (hv_value w env) st
+hd_value d env st = declared (λ v. hv_value v env) (λ v w. hv_value w env) d st
 
 -- how a body is entered
 abbrev pub HEnter : Type 0

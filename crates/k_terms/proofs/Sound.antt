@@ -12,6 +12,8 @@ use Rattle.k_terms.specs.Meaning.{kterm, kenter, krun}
 use Rattle.k_terms.specs.Typing.{KHas, KHave, KGives, KTyped, kscons, kup, ksub, ksubs, knames}
 use Rattle.calc_core.proofs.Ends.{Fine, fits_fine}
 use Rattle.calc_core.proofs.Substituting.{sub_ren, subs_count, subs_sub, named_sub, names_up, with_types_past}
+use Rattle.calc_core.specs.Typing.{NoLabels}
+use Rattle.calc_core.proofs.Declared.{sound_d}
 use Rattle.calc_core.proofs.Words as W
 use Rattle.calc_core.proofs.Words.{Has, Have, EnvHas, Stored, MadeHas, OptionHas}
 
@@ -50,56 +52,6 @@ mutual
     sound_v v b n env S s g h.0 h.3 e,
     sound_vs vs (kv_next b v) n env S s g h.1 h.4 e,
   )
-
--- what a declaration names, its type variable too
-abbrev DeclHas : List KTy → KDecl → KWords → Made KNumbered → List KTy → KTy → Type 0
-DeclHas S d env m g t = (s : ℕ → KTy) × EnvHas IsCode S env s (scope_more (opens d) g) × MadeHas IsCode S m (ksub s t)
-
-sound_d : (d : KDecl) (b n : ℕ) (env st : KWords) (S : List KTy) (s : ℕ → KTy) (g : List KTy) (t : KTy) →
-    KGives n g d t → EnvHas IsCode S env s g → Stored IsCode S st S → DeclHas S d env (kd_value b d env st) g t
-sound_d (KName v) b n env st S s g t h e k = (s, e, (S, (λ i u a. a), sound_v v b n env S s g t h e, k))
-sound_d (KProj i v) b n env st S s g t h e k =
-    let field = W.project_sound IsCode i _ S s h.0 t (sound_v v b n env S s g (TKTuple h.0) h.1 e) h.2 in
-    (s, e, W.given_has IsCode _ st S _ field k)
-sound_d (KArith op v w) b n env st S s g t h e k = (
-  s,
-  e,
-  W.given_has IsCode _ st S _
-      (subst (λ x. OptionHas IsCode S (operate op (kv_value b v env) (kv_value (kv_next b v) w env)) (ksub s x))
-      (sym h.0)
-      (W.compute_sound IsCode op _ _ S (sound_v v b n env S s g TKInt h.1 e)
-      (sound_v w (kv_next b v) n env S s g TKInt h.2 e))) k,
-)
-sound_d (KPack hid v shape) b n env st S s g t h e k = (
-  s,
-  e,
-  (
-    S,
-    (λ i q a. a),
-    subst (λ z. Has IsCode S (kv_value b v env) (ksub s z)) (sym (h.2 ∙ h.1))
-        (W.pack_sound IsCode (kv_value b v env) S s h.0 hid
-        (sound_v v b n env S s g (ksub (kscons hid TKVar) h.0) h.5 e)),
-    k,
-  ),
-)
-sound_d (KUnpack v) b n env st S s g t h e k =
-    let o = W.unpack_sound IsCode (kv_value b v env) S s t (sound_v v b n env S s g (TKExists t) h e) in
-    (kscons o.0 s, W.outer_has IsCode env S (kscons o.0 s) s 1 g (λ i. refl) e, (S, (λ i u a. a), o.1, k))
-sound_d (KCell v) b n env st S s g t h e k = (
-  s,
-  e,
-  subst (λ z. MadeHas IsCode S (Makes (WCell (size st)) (one_more st (kv_value b v env))) (ksub s z)) (sym h.1)
-      (W.cell_sound IsCode (kv_value b v env) st S (ksub s h.0) (sound_v v b n env S s g h.0 h.2 e) k),
-)
-sound_d (KGet v) b n env st S s g t h e k =
-    (s, e, W.get_sound IsCode (kv_value b v env) st S (ksub s t) (sound_v v b n env S s g (TKRef t) h e) k)
-sound_d (KSet v w) b n env st S s g t h e k = (
-  s,
-  e,
-  subst (λ z. MadeHas IsCode S (set (kv_value b v env) (kv_value (kv_next b v) w env) st) (ksub s z)) (sym h.1)
-      (W.set_sound IsCode (kv_value b v env) (kv_value (kv_next b v) w env) st S (ksub s h.0)
-      (sound_v v b n env S s g (TKRef h.0) h.2 e) (sound_v w (kv_next b v) n env S s g h.0 h.3 e) k),
-)
 
 abbrev SafeEnter : KEnter → Type 0
 SafeEnter ke = (b : ℕ) (body : KTm) (n : ℕ) (env st : KWords) (S : List KTy) (s : ℕ → KTy) (g : List KTy) →
@@ -155,7 +107,10 @@ sound_t : (ke : KEnter) → SafeEnter ke →
     (t : KTm) (b n : ℕ) (env st : KWords) (S : List KTy) (s : ℕ → KTy) (g : List KTy) → KTyped n g t →
     EnvHas IsCode S env s g → Stored IsCode S st S → Fine (kterm ke b t env st).end
 sound_t ke f (KLet d t) b n env st S s g h e w =
-    let r = sound_d d b n env st S s g h.0 h.1 e w in
+    let r =
+    sound_d IsCode NoLabels n S s g (λ v. kv_value b v env) (λ v u. kv_value (kv_next b v) u env)
+    (λ v t q. sound_v v b n env S s g t q e) (λ v u t q. sound_v u (kv_next b v) n env S s g t q e) d env st h.0
+    h.1 e w in
     W.value_fine IsCode (kd_value b d env st) _ S (ksub r.0 h.0) r.2
     (λ v st2 Z m k w2. sound_t ke f t (kd_next b d) (after_one (opens d) n) (MoreWords v env) st2 Z r.0
     (h.0 ∷ scope_more (opens d) g) h.2

@@ -3,7 +3,7 @@ use Rattle.std.proofs.Common.{ℕ, suc, List, subst}
 use Rattle.c_terms.specs.C.{CApply, CArith, CCall, CCell, CCode, CDecl, CGet, CHalt, CIf, CInt, CLet, CName, CPack}
 use Rattle.c_terms.specs.C.{CProj, CSet, CTm, CTuple, CTy, CTys, CUnpack, CVal, CVals, CVar, MoreCVals}
 use Rattle.c_terms.specs.C.{NoCVals, TCCode}
-use Rattle.c_terms.specs.Typing.{CTyped, CHas, CHave}
+use Rattle.c_terms.specs.Typing.{CTyped, CGives, CHas, CHave}
 
 abbrev NotNumber : CVal → Type 0
 NotNumber (CInt n) = ⊥

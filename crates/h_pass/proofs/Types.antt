@@ -1,17 +1,18 @@
 -- Hoisting keeps typing, with each property of types.
-use Rattle.std.proofs.Common.{◌≡◌, ◌<◌, ℕ, zero, suc, List, [], ◌∷◌, ◌++◌, Some, refl, sym, ap, ◌∙◌, subst, ap₂, arith}
-use Rattle.calc_core.specs.Ends.{lift, under}
+use Rattle.std.proofs.Common.{◌≡◌, ◌<◌, ℕ, zero, suc, Bool, true, false, List, [], ◌∷◌, ◌++◌, Some, refl, sym, ap, ◌∙◌, subst, ap₂, arith}
+use Rattle.calc_core.specs.Ends.{lift, under, after_one}
+use Rattle.calc_core.specs.Calculus.{opens, scope_more}
 use Rattle.calc_core.proofs.Lifts.{lift_suc, lift_zero}
 use Rattle.c_terms.specs.C.{CApply, CArith, CCall, CCell, CCode, CGet, CHalt, CIf, CInt, CLet, CName, CPack, CProj}
 use Rattle.c_terms.specs.C.{CSet, CTm, CTuple, CTy, CTys, CUnpack, CDecl, CVal, CVals, CVar, MoreCTys, MoreCVals, NoCTys}
 use Rattle.c_terms.specs.C.{NoCVals, TCCode, TCInt, TCRef, TCExists, TCTuple, TCVar, ccount, cd_next, ct_next, cv_next}
 use Rattle.c_terms.specs.Each.{CTypedWith, CGivesWith, CHasWith, CHaveWith, CProp}
 use Rattle.c_terms.specs.Typing.{CAt, CIn, CIns, cargs_onto, cren, crens, crens_scope}
-use Rattle.h_terms.specs.Each.{AllTypedWith, HTypedWith, HHasWith, HHaveWith, HProgramWith}
+use Rattle.h_terms.specs.Each.{AllTypedWith, HTypedWith, HGivesWith, HHasWith, HHaveWith, HProgramWith}
 use Rattle.h_terms.specs.H.{HBlk, HBlks, block_at}
 use Rattle.h_pass.proofs.Hoisting.{HoldsD, HoldsT, HoldsV, HoldsVs, has_all, holds_t}
 use Rattle.h_pass.specs.Hoist.{Code, Lost, Near, Nobody, Own, Self, Spot, block_of, blocks_d, blocks_of, blocks_t, blocks_v}
-use Rattle.h_pass.specs.Hoist.{blocks_vs, deeper, hoist_t, hoist_v, hoist_vs, main_of, spot, spot_value}
+use Rattle.h_pass.specs.Hoist.{blocks_vs, deeper, hoist_d, hoist_t, hoist_v, hoist_vs, main_of, spot, spot_value}
 
 -- a renaming that leaves the first n alone changes nothing of a type that has no others
 under_same : (m : ℕ) (r : ℕ → ℕ) (n : ℕ) → ((i : ℕ) → i < n → r i ≡ i) → (i : ℕ) → i < lift m n → under m r i ≡ i
@@ -58,6 +59,21 @@ scope_ren ks own (suc d) [] hg s = absurd s
 scope_ren ks own (suc d) (c ∷ cg) [] s = absurd s
 scope_ren ks own (suc d) (c ∷ cg) (h ∷ hg) s = (ap (cren suc) s.0, scope_ren ks own d cg hg s.1)
 
+scope_opened : (ks : HBlks) (own : Own) (d : ℕ) (cg hg : List CTy) → ScopeT ks own d cg hg → (o : Bool) →
+    ScopeT ks own d (scope_more o cg) (scope_more o hg)
+scope_opened ks own d cg hg s true = scope_ren ks own d cg hg s
+scope_opened ks own d cg hg s false = s
+
+-- a hoisted declaration names a type exactly where the closed one does
+hoist_opens : (own : Own) (d b : ℕ) (e : CDecl) → opens (hoist_d own d b e) ≡ opens e
+hoist_opens own d b (CName v) = refl
+hoist_opens own d b (CProj i v) = refl
+hoist_opens own d b (CArith op v w) = refl
+hoist_opens own d b (CUnpack v) = refl
+hoist_opens own d b (CCell v) = refl
+hoist_opens own d b (CGet v) = refl
+hoist_opens own d b (CSet v w) = refl
+
 pub scope_onto : (ks : HBlks) (own : Own) (d : ℕ) (ts : CTys) (cg hg : List CTy) → ScopeT ks own d cg hg →
     ScopeT ks own (lift (ccount ts) d) (cargs_onto ts cg) (cargs_onto ts hg)
 scope_onto ks own d NoCTys cg hg s = s
@@ -75,7 +91,7 @@ module _ (P : CProp) where
   var_has : (ks : HBlks) (own : Own) (d i n : ℕ) (cg hg : List CTy) (t : CTy) → ScopeT ks own d cg hg → P n t →
       CAt cg i t → HHasWith P ks n hg (spot_value (spot own d i)) t
   var_has ks Nobody zero i n cg hg t s q h = absurd (subst (λ g. CAt g i t) s h)
-  var_has ks (Code l) zero zero n cg hg t s q h = (q, s.0, s.1, subst (λ g. CAt g 0 t) s.3 h)
+  var_has ks (Code l) zero zero n cg hg t s q h = (q, (s.0, s.1, subst (λ g. CAt g 0 t) s.3 h))
   var_has ks (Code l) zero (suc i) n cg hg t s q h = absurd (subst (λ g. CAt g (suc i) t) s.3 h)
   var_has ks own (suc d) i n [] hg t s q h = absurd s
   var_has ks own (suc d) i n (c ∷ cg) [] t s q h = absurd s
@@ -89,7 +105,7 @@ module _ (P : CProp) where
     hhas_v (CVar i) ks own d b n cg hg t k s h = var_has ks own d i n cg hg t s h.0 h.1
     hhas_v (CInt m) ks own d b n cg hg t k s h = h
     hhas_v (CTuple vs) ks own d b n cg hg t k s h = (h.0, h.1, h.2, hhave_vs vs ks own d b n cg hg h.1 k s h.3)
-    hhas_v (CCode owes args body) ks own d b n cg hg t k s h = (h.0, _, k.0, h.1)
+    hhas_v (CCode owes args body) ks own d b n cg hg t k s h = (h.0, (_, k.0, h.1))
     hhas_v (CApply v ts) ks own d b n cg hg t k s h =
         (h.0, h.1, h.2, h.3, hhas_v v ks own d b n cg hg _ k s h.4, h.5, h.6)
     hhas_v (CPack hid v shape) ks own d b n cg hg t k s h =
@@ -106,51 +122,27 @@ module _ (P : CProp) where
       hhave_vs vs ks own d (cv_next b v) n cg hg h.1 k.1 s h.4,
     )
 
+  hgives_d : (e : CDecl) (ks : HBlks) (own : Own) (d b n : ℕ) (cg hg : List CTy) (t : CTy) → HoldsD ks b e →
+      ScopeT ks own d cg hg → CGivesWith P n cg e t → HGivesWith P ks n hg (hoist_d own d b e) t
+  hgives_d (CName v) ks own d b n cg hg t k s h = hhas_v v ks own d b n cg hg t k s h
+  hgives_d (CProj i v) ks own d b n cg hg t k s h = (h.0, h.1, hhas_v v ks own d b n cg hg _ k s h.2, h.3)
+  hgives_d (CArith op v w) ks own d b n cg hg t k s h =
+      (h.0, h.1, hhas_v v ks own d b n cg hg _ k.0 s h.2, hhas_v w ks own d (cv_next b v) n cg hg _ k.1 s h.3)
+  hgives_d (CUnpack v) ks own d b n cg hg t k s h = (h.0, hhas_v v ks own d b n cg hg _ k s h.1)
+  hgives_d (CCell v) ks own d b n cg hg t k s h = (h.0, h.1, h.2, hhas_v v ks own d b n cg hg _ k s h.3)
+  hgives_d (CGet v) ks own d b n cg hg t k s h = (h.0, hhas_v v ks own d b n cg hg _ k s h.1)
+  hgives_d (CSet v w) ks own d b n cg hg t k s h =
+      (h.0, h.1, h.2, hhas_v v ks own d b n cg hg _ k.0 s h.3, hhas_v w ks own d (cv_next b v) n cg hg _ k.1 s h.4)
+
   hgood_t : (t : CTm) (ks : HBlks) (own : Own) (d b n : ℕ) (cg hg : List CTy) → HoldsT ks b t → ScopeT ks own d cg hg →
       CTypedWith P n cg t → HTypedWith P ks n hg (hoist_t own d b t)
-  hgood_t (CLet (CName v) t) ks own d b n cg hg k s h = (
+  hgood_t (CLet e t) ks own d b n cg hg k s h = (
     h.0,
-    hhas_v v ks own d b n cg hg h.0 k.0 s h.1,
-    hgood_t t ks own (suc d) (cv_next b v) n (h.0 ∷ cg) (h.0 ∷ hg) k.1 (refl, s) h.2,
-  )
-  hgood_t (CLet (CProj i v) t) ks own d b n cg hg k s h = (
-    h.1.1,
-    h.0,
-    hhas_v v ks own d b n cg hg _ k.0 s h.1.2,
-    h.1.3,
-    h.1.0,
-    hgood_t t ks own (suc d) (cv_next b v) n (h.0 ∷ cg) (h.0 ∷ hg) k.1 (refl, s) h.2,
-  )
-  hgood_t (CLet (CArith op v w) t) ks own d b n cg hg k s h = (
-    hhas_v v ks own d b n cg hg _ k.0.0 s h.1.2,
-    hhas_v w ks own d (cv_next b v) n cg hg _ k.0.1 s h.1.3,
-    hgood_t t ks own (suc d) (cv_next (cv_next b v) w) n (h.0 ∷ cg) (TCInt ∷ hg) k.1 (h.1.1, s) h.2,
-  )
-  hgood_t (CLet (CUnpack v) t) ks own d b n cg hg k s h = (
-    h.0,
-    hhas_v v ks own d b n cg hg _ k.0 s h.1.1,
-    h.1.0,
-    hgood_t t ks own (suc d) (cv_next b v) (suc n) (h.0 ∷ crens_scope suc cg) (h.0 ∷ crens_scope suc hg) k.1
-        (refl, scope_ren ks own d cg hg s) h.2,
-  )
-  hgood_t (CLet (CCell v) t) ks own d b n cg hg k s h = (
-    h.1.1,
-    hhas_v v ks own d b n cg hg _ k.0 s h.1.3,
-    subst (P n) h.1.2 h.1.0,
-    hgood_t t ks own (suc d) (cv_next b v) n (h.0 ∷ cg) (TCRef h.1.1 ∷ hg) k.1 (h.1.2, s) h.2,
-  )
-  hgood_t (CLet (CGet v) t) ks own d b n cg hg k s h = (
-    h.0,
-    hhas_v v ks own d b n cg hg _ k.0 s h.1.1,
-    h.1.0,
-    hgood_t t ks own (suc d) (cv_next b v) n (h.0 ∷ cg) (h.0 ∷ hg) k.1 (refl, s) h.2,
-  )
-  hgood_t (CLet (CSet v w) t) ks own d b n cg hg k s h = (
-    h.1.1,
-    hhas_v v ks own d b n cg hg _ k.0.0 s h.1.3,
-    hhas_v w ks own d (cv_next b v) n cg hg _ k.0.1 s h.1.4,
-    subst (P n) h.1.2 h.1.0,
-    hgood_t t ks own (suc d) (cv_next (cv_next b v) w) n (h.0 ∷ cg) (TCTuple NoCTys ∷ hg) k.1 (h.1.2, s) h.2,
+    hgives_d e ks own d b n cg hg h.0 k.0 s h.1,
+    subst (λ o. HTypedWith P ks (after_one o n) (h.0 ∷ scope_more o hg) (hoist_t own (suc d) (cd_next b e) t))
+        (sym (hoist_opens own d b e))
+        (hgood_t t ks own (suc d) (cd_next b e) (after_one (opens e) n) (h.0 ∷ scope_more (opens e) cg)
+        (h.0 ∷ scope_more (opens e) hg) k.1 (refl, scope_opened ks own d cg hg s (opens e)) h.2),
   )
   hgood_t (CCall f ts vs) ks own d b n cg hg k s h =
       (h.0, hhas_v f ks own d b n cg hg _ k.0 s h.1, h.2, h.3, hhave_vs vs ks own d (cv_next b f) n cg hg _ k.1 s h.4)

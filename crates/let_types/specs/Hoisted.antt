@@ -1,63 +1,35 @@
 -- The types of hoisted values and of what hoisted declarations name, where g are those of the names in scope.
-use Rattle.std.specs.Prelude.{◌≡◌, ℕ, suc, Bool, true, false, List, [], ◌∷◌, Option, Some, None}
-use Rattle.c_terms.specs.C.{CTy, CTys, TCInt, TCTuple, TCCode, TCRef, NoCTys, MoreCTys}
-use Rattle.c_terms.specs.Read.{ctree}
-use Rattle.c_terms.specs.Typing.{crens_scope}
-use Rattle.calc_core.specs.declared.types.CoreType.{CoreType as CType}
-use Rattle.h_terms.specs.H.{HApply, HArith, HBlk, HBlks, HCell, HDecl, HGet, HInt, HLabel, HName, HPack, HProj, HSet}
-use Rattle.h_terms.specs.H.{HTuple, HUnpack, HVal, HVals, HVar, MoreHVals, NoHVals, block_at}
-use Rattle.h_terms.specs.Nodes.{no_value}
+use Rattle.std.specs.Prelude.{◌≡◌, ℕ, Bool, true, false, List, [], ◌∷◌, Option, Some, None}
 use Rattle.calc_core.specs.Row.{others, top}
+use Rattle.calc_core.specs.TypeOf as T
+use Rattle.calc_core.specs.declared.types.CoreType.{CoreType as CType}
+use Rattle.c_terms.specs.C.{CTy, CTys, TCInt, TCCode}
+use Rattle.c_terms.specs.Read.{ctree}
+use Rattle.h_terms.specs.H.{HArith, HBlk, HBlks, HCell, HDecl, HGet, HName, HProj, HSet, HUnpack, HVal, HVals, block_at}
+use Rattle.h_terms.specs.Nodes.{no_value}
 use Rattle.h_terms.specs.declared.node.HForm.{HForm}
 use Rattle.h_terms.specs.declared.node.HForm.TheVariants as H
-use Rattle.let_types.specs.Parts.{applied_type, field_type, held_type, opened_type, type_at}
+pub use Rattle.calc_core.specs.TypeOf.{types_behind}
 
 -- the type of the code at a label
 abbrev pub code_type : Option HBlk → CTy
 code_type None = TCInt
 code_type (Some k) = TCCode k.owes k.args
 
-abbrev mutual
-  pub value_type : HBlks → List CTy → HVal → CTy
-  value_type ks g (HVar i) = type_at g i
-  value_type ks g (HInt n) = TCInt
-  value_type ks g (HLabel l) = code_type (block_at ks l)
-  value_type ks g (HTuple vs) = TCTuple (value_types ks g vs)
-  value_type ks g (HApply v ts) = applied_type (value_type ks g v) ts
-  value_type ks g (HPack h v s) = s
+abbrev pub label_type : HBlks → ℕ → CTy
+label_type ks l = code_type (block_at ks l)
 
-  pub value_types : HBlks → List CTy → HVals → CTys
-  value_types ks g NoHVals = NoCTys
-  value_types ks g (MoreHVals v vs) = MoreCTys (value_type ks g v) (value_types ks g vs)
+abbrev pub value_type : HBlks → List CTy → HVal → CTy
+value_type ks = T.type_of (label_type ks)
 
--- the type of what a declaration names; that of an unpacked value stands under the new type variable
+abbrev pub value_types : HBlks → List CTy → HVals → CTys
+value_types ks = T.types_of (label_type ks)
+
 abbrev pub decl_type : HBlks → List CTy → HDecl → CTy
-decl_type ks g (HName v) = value_type ks g v
-decl_type ks g (HProj i v) = field_type i (value_type ks g v)
-decl_type ks g (HArith op v w) = TCInt
-decl_type ks g (HUnpack v) = opened_type (value_type ks g v)
-decl_type ks g (HCell v) = TCRef (value_type ks g v)
-decl_type ks g (HGet v) = held_type (value_type ks g v)
-decl_type ks g (HSet v w) = TCTuple NoCTys
+decl_type ks = T.decl_type (label_type ks)
 
--- the types of the names behind a declaration, and how many type variables there are then
 abbrev pub names_behind : HBlks → List CTy → HDecl → List CTy
-names_behind ks g (HName v) = decl_type ks g (HName v) ∷ g
-names_behind ks g (HProj i v) = decl_type ks g (HProj i v) ∷ g
-names_behind ks g (HArith op v w) = TCInt ∷ g
-names_behind ks g (HUnpack v) = decl_type ks g (HUnpack v) ∷ crens_scope suc g
-names_behind ks g (HCell v) = decl_type ks g (HCell v) ∷ g
-names_behind ks g (HGet v) = decl_type ks g (HGet v) ∷ g
-names_behind ks g (HSet v w) = TCTuple NoCTys ∷ g
-
-abbrev pub types_behind : ℕ → HDecl → ℕ
-types_behind n (HName v) = n
-types_behind n (HProj i v) = n
-types_behind n (HArith op v w) = n
-types_behind n (HUnpack v) = suc n
-types_behind n (HCell v) = n
-types_behind n (HGet v) = n
-types_behind n (HSet v w) = n
+names_behind ks = T.names_behind (label_type ks)
 
 -- these are the types of these values
 abbrev pub AreOf : HBlks → List CTy → List CType → List HVal → Type 0

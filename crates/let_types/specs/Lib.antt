@@ -1,3 +1,4 @@
+pub mod Closed
 pub mod Hoisted
 pub mod Known
 pub mod KnownRead

@@ -6,12 +6,12 @@ pub fn cps_types_law()
     ensures { CpsTypes }
 {}
 
-/// Behind a declaration of a typed closed term the names have the types that are computed for them.
+/// So it is of a closed term.
 pub fn closed_types_law()
     ensures { ClosedTypes }
 {}
 
-/// And so it is of a typed hoisted term.
+/// And of a hoisted term.
 pub fn hoisted_types_law()
     ensures { HoistedTypes }
 {}

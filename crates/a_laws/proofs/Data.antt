@@ -174,14 +174,14 @@ module _ (P : AProp) (Q : CProp) (law : CLaws) (p0 : (n : ℕ) (t : CTy) → Q n
             (let q : P 0 AInt = subst (λ x. P 0 (atype x)) h.1 (p0 n t h.0) in
             record { has = record { fine = tt; is = refl }; below = tt; flat = tt; own = q; each = q })
         const_has (HLabel l) t b wi h c =
-            let k = h.1 in
-            let is = same l k h.2 in
+            let k = h.1.0 in
+            let is = same l k h.1.1 in
             let zero : k.owes ≡ 0 + k.owes = omega arith in
-            let q : P 0 (ACode k.owes (atypes k.args)) = subst (λ x. P 0 (atype x)) h.3 (p0 n t h.0) in
-            subst (λ x. ConstHas P p (Lab l) (atype x)) (sym h.3)
+            let q : P 0 (ACode k.owes (atypes k.args)) = subst (λ x. P 0 (atype x)) h.1.2 (p0 n t h.0) in
+            subst (λ x. ConstHas P p (Lab l) (atype x)) (sym h.1.2)
             (record {
               has = record { fine = tt; is = is };
-              below = (tt, subst (λ m. ABelow-types m (atypes k.args)) zero (inside l k h.2));
+              below = (tt, subst (λ m. ABelow-types m (atypes k.args)) zero (inside l k h.1.1));
               flat = tt;
               own = q;
               each = subst (λ o. P 0 (or_int o)) (sym is) q;
@@ -340,46 +340,46 @@ module _ (P : AProp) (Q : CProp) (law : CLaws) (p0 : (n : ℕ) (t : CTy) → Q n
         (λ w w1. data_t_ok t n (h.0 ∷ cs) (known_of ls b d (HName v) ∷ ls) (n_v ls b v) (suc (v_next ls d v)) w1 h.2
         (one_ok n cs ls a v h.0 b w h.1, a))
     data_t_ok (HLet (HProj i v) t) n cs ls b d wi h a =
-        let f = field_full i h.0 h.1 h.3 in
-        let read : field_of i (Some (v_type ks (map atype cs) v)) ≡ atype h.1 =
-        ap (λ q. field_of i (Some q)) (type_read Q law ks n cs v (TCTuple h.0) h.2)
-        ∙ ap (λ k. field_of k (Some (ATuple (afull h.0)))) f.1 ∙ ap or_int f.2 in
-        turned (HProj i v) t cs ls b d (map atype (h.1 ∷ cs)) (ap (λ q. q ∷ map atype cs) read) wi
-        (λ w. data_v_ok n cs ls a v (TCTuple h.0) b w h.2)
-        (λ w w1. data_t_ok t n (h.1 ∷ cs) (known_of ls b d (HProj i v) ∷ ls) (n_v ls b v) (suc (v_next ls d v)) w1 h.5
+        let f = field_full i h.1.1 h.0 h.1.3 in
+        let read : field_of i (Some (v_type ks (map atype cs) v)) ≡ atype h.0 =
+        ap (λ q. field_of i (Some q)) (type_read Q law ks n cs v (TCTuple h.1.1) h.1.2)
+        ∙ ap (λ k. field_of k (Some (ATuple (afull h.1.1)))) f.1 ∙ ap or_int f.2 in
+        turned (HProj i v) t cs ls b d (map atype (h.0 ∷ cs)) (ap (λ q. q ∷ map atype cs) read) wi
+        (λ w. data_v_ok n cs ls a v (TCTuple h.1.1) b w h.1.2)
+        (λ w w1. data_t_ok t n (h.0 ∷ cs) (known_of ls b d (HProj i v) ∷ ls) (n_v ls b v) (suc (v_next ls d v)) w1 h.2
         (tt, a))
     data_t_ok (HLet (HArith op v w) t) n cs ls b d wi h a =
         turned (HArith op v w) t cs ls b d (map atype (TCInt ∷ cs)) refl wi
-        (λ q. two_ok n cs ls a v w TCInt TCInt b q h.0 h.1)
+        (λ q. two_ok n cs ls a v w TCInt TCInt b q h.1.2 h.1.3)
         (λ q w1. data_t_ok t n (TCInt ∷ cs) (known_of ls b d (HArith op v w) ∷ ls) (n_v ls (n_v ls b v) w)
-        (suc (v_next ls (v_next ls d v) w)) w1 h.2 (tt, a))
+        (suc (v_next ls (v_next ls d v) w)) w1 (subst (λ q. HTypedWith Q ks n (q ∷ cs) t) h.1.1 h.2) (tt, a))
     data_t_ok (HLet (HUnpack v) t) n cs ls b d wi h a =
         let gs = crens_scope suc cs in
         let read : body_of (Some (v_type ks (map atype cs) v)) ∷ map (ashift 1 0) (map atype cs)
         ≡ map atype (h.0 ∷ gs) =
-        ap₂ (λ q qs. q ∷ qs) (ap (λ q. body_of (Some q)) (type_read Q law ks n cs v (TCExists h.0) h.1))
+        ap₂ (λ q qs. q ∷ qs) (ap (λ q. body_of (Some q)) (type_read Q law ks n cs v (TCExists h.0) h.1.1))
         (scope_shifted law cs) in
         turned (HUnpack v) t cs ls b d (map atype (h.0 ∷ gs)) read wi
-        (λ w. data_v_ok n cs ls a v (TCExists h.0) b w h.1)
+        (λ w. data_v_ok n cs ls a v (TCExists h.0) b w h.1.1)
         (λ w w1. data_t_ok t (suc n) (h.0 ∷ gs) (known_of ls b d (HUnpack v) ∷ ls) (n_v ls b v)
-        (suc (v_next ls d v)) w1 h.3 (tt, agree_shift P p law ls cs a))
+        (suc (v_next ls d v)) w1 h.2 (tt, agree_shift P p law ls cs a))
     data_t_ok (HLet (HCell v) t) n cs ls b d wi h a =
-        turned (HCell v) t cs ls b d (map atype (TCRef h.0 ∷ cs))
-        (ap (λ q. ATuple (MoreAFields q true NoAFields) ∷ map atype cs) (type_read Q law ks n cs v h.0 h.1)) wi
-        (λ w. data_v_ok n cs ls a v h.0 b w h.1)
-        (λ w w1. data_t_ok t n (TCRef h.0 ∷ cs) (known_of ls b d (HCell v) ∷ ls) (n_v ls b v)
-        (suc (suc (v_next ls d v))) w1 h.3 (tt, a))
+        turned (HCell v) t cs ls b d (map atype (TCRef h.1.1 ∷ cs))
+        (ap (λ q. ATuple (MoreAFields q true NoAFields) ∷ map atype cs) (type_read Q law ks n cs v h.1.1 h.1.3)) wi
+        (λ w. data_v_ok n cs ls a v h.1.1 b w h.1.3)
+        (λ w w1. data_t_ok t n (TCRef h.1.1 ∷ cs) (known_of ls b d (HCell v) ∷ ls) (n_v ls b v)
+        (suc (suc (v_next ls d v))) w1 (subst (λ q. HTypedWith Q ks n (q ∷ cs) t) h.1.2 h.2) (tt, a))
     data_t_ok (HLet (HGet v) t) n cs ls b d wi h a =
         turned (HGet v) t cs ls b d (map atype (h.0 ∷ cs))
-        (ap (λ q. field_of 1 (Some q) ∷ map atype cs) (type_read Q law ks n cs v (TCRef h.0) h.1)) wi
-        (λ w. data_v_ok n cs ls a v (TCRef h.0) b w h.1)
-        (λ w w1. data_t_ok t n (h.0 ∷ cs) (known_of ls b d (HGet v) ∷ ls) (n_v ls b v) (suc (v_next ls d v)) w1 h.3
+        (ap (λ q. field_of 1 (Some q) ∷ map atype cs) (type_read Q law ks n cs v (TCRef h.0) h.1.1)) wi
+        (λ w. data_v_ok n cs ls a v (TCRef h.0) b w h.1.1)
+        (λ w w1. data_t_ok t n (h.0 ∷ cs) (known_of ls b d (HGet v) ∷ ls) (n_v ls b v) (suc (v_next ls d v)) w1 h.2
         (tt, a))
     data_t_ok (HLet (HSet v w) t) n cs ls b d wi h a =
         turned (HSet v w) t cs ls b d (map atype (TCTuple NoCTys ∷ cs)) refl wi
-        (λ q. two_ok n cs ls a v w (TCRef h.0) h.0 b q h.1 h.2)
+        (λ q. two_ok n cs ls a v w (TCRef h.1.1) h.1.1 b q h.1.3 h.1.4)
         (λ q w1. data_t_ok t n (TCTuple NoCTys ∷ cs) (known_of ls b d (HSet v w) ∷ ls) (n_v ls (n_v ls b v) w)
-        (suc (suc (v_next ls (v_next ls d v) w))) w1 h.4 (tt, a))
+        (suc (suc (v_next ls (v_next ls d v) w))) w1 (subst (λ q. HTypedWith Q ks n (q ∷ cs) t) h.1.2 h.2) (tt, a))
     data_t_ok (HCall f ts vs) n cs ls b d wi h a =
         let g = map atype cs in
         let b1 = n_v ls b f in

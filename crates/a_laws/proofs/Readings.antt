@@ -29,7 +29,7 @@ module _ (Q : CProp) (law : CLaws) (ks : HBlks) where
         v_type ks (map atype g) v ≡ atype t
     type_read n g (HVar i) t h = at_read g i t h.1
     type_read n g (HInt m) t h = ap atype (sym h.1)
-    type_read n g (HLabel l) t h = ap h_code h.2 ∙ ap atype (sym h.3)
+    type_read n g (HLabel l) t h = ap h_code h.1.1 ∙ ap atype (sym h.1.2)
     type_read n g (HTuple vs) t h =
         ap (λ x. ATuple (aset x)) (types_read n g vs h.1 h.3) ∙ ap ATuple (full_is h.1) ∙ ap atype (sym h.2)
     type_read n g (HApply v ts) t h =

@@ -1,12 +1,14 @@
 -- The variables of a typed hoisted term are in scope.
-use Rattle.std.proofs.Common.{◌≡◌, ◌<◌, ℕ, zero, suc, List, [], ◌∷◌, length, ap, ◌∙◌, arith}
+use Rattle.std.proofs.Common.{◌≡◌, ◌<◌, ℕ, zero, suc, Bool, true, false, List, [], ◌∷◌, length, refl, ap, ◌∙◌, arith}
+use Rattle.calc_core.specs.Calculus.{opens, scope_more}
+use Rattle.calc_core.specs.Ends.{after_one}
 use Rattle.a_laws.specs.Allocate.{atypes}
 use Rattle.a_laws.specs.Back.{arg_count}
 use Rattle.c_terms.specs.C.{CTy, CTys, MoreCTys, NoCTys, TCInt, TCRef, TCExists, TCTuple}
 use Rattle.c_terms.specs.Typing.{CAt, cargs_onto, crens_scope}
 use Rattle.h_terms.specs.H.{HApply, HArith, HBlks, HCall, HCell, HDecl, HGet, HHalt, HIf, HInt, HLabel, HLet, HName}
 use Rattle.h_terms.specs.H.{HPack, HProj, HSet, HTm, HTuple, HUnpack, HVal, HVals, HVar, MoreHVals, NoHVals}
-use Rattle.h_terms.specs.Typing.{HTyped, HHas, HHave}
+use Rattle.h_terms.specs.Typing.{HTyped, HGives, HHas, HHave}
 use Rattle.calc_core.proofs.Scopes.{scope_length}
 
 abbrev mutual
@@ -57,21 +59,23 @@ mutual
   in_vs ks n g k e NoHVals ts h = tt
   in_vs ks n g k e (MoreHVals v vs) ts h = (in_v ks n g k e v h.0 h.3, in_vs ks n g k e vs h.1 h.4)
 
+in_d : (ks : HBlks) (n : ℕ) (g : List CTy) (k : ℕ) → length g ≡ k → (d : HDecl) (t : CTy) → HGives ks n g d t → InD k d
+in_d ks n g k e (HName v) t h = in_v ks n g k e v t h
+in_d ks n g k e (HProj i v) t h = in_v ks n g k e v _ h.1
+in_d ks n g k e (HArith op v w) t h = (in_v ks n g k e v _ h.1, in_v ks n g k e w _ h.2)
+in_d ks n g k e (HUnpack v) t h = in_v ks n g k e v _ h
+in_d ks n g k e (HCell v) t h = in_v ks n g k e v _ h.2
+in_d ks n g k e (HGet v) t h = in_v ks n g k e v _ h
+in_d ks n g k e (HSet v w) t h = (in_v ks n g k e v _ h.2, in_v ks n g k e w _ h.3)
+
+more_long : (o : Bool) (g : List CTy) → length (scope_more o g) ≡ length g
+more_long true g = scope_length suc g
+more_long false g = refl
+
 pub in_t : (ks : HBlks) (n : ℕ) (g : List CTy) (k : ℕ) → length g ≡ k → (t : HTm) → HTyped ks n g t → InT k t
-in_t ks n g k e (HLet (HName v) t) h = (in_v ks n g k e v h.0 h.1, in_t ks n (h.0 ∷ g) (suc k) (ap suc e) t h.2)
-in_t ks n g k e (HLet (HProj i v) t) h =
-    (in_v ks n g k e v (TCTuple h.0) h.2, in_t ks n (h.1 ∷ g) (suc k) (ap suc e) t h.4)
-in_t ks n g k e (HLet (HArith op v w) t) h =
-    ((in_v ks n g k e v TCInt h.0, in_v ks n g k e w TCInt h.1), in_t ks n (TCInt ∷ g) (suc k) (ap suc e) t h.2)
-in_t ks n g k e (HLet (HUnpack v) t) h = (
-  in_v ks n g k e v (TCExists h.0) h.1,
-  in_t ks (suc n) (h.0 ∷ crens_scope suc g) (suc k) (ap suc (scope_length suc g ∙ e)) t h.2,
-)
-in_t ks n g k e (HLet (HCell v) t) h = (in_v ks n g k e v h.0 h.1, in_t ks n (TCRef h.0 ∷ g) (suc k) (ap suc e) t h.2)
-in_t ks n g k e (HLet (HGet v) t) h = (in_v ks n g k e v (TCRef h.0) h.1, in_t ks n (h.0 ∷ g) (suc k) (ap suc e) t h.2)
-in_t ks n g k e (HLet (HSet v w) t) h = (
-  (in_v ks n g k e v (TCRef h.0) h.1, in_v ks n g k e w h.0 h.2),
-  in_t ks n (TCTuple NoCTys ∷ g) (suc k) (ap suc e) t h.3,
+in_t ks n g k e (HLet d t) h = (
+  in_d ks n g k e d h.0 h.1,
+  in_t ks (after_one (opens d) n) (h.0 ∷ scope_more (opens d) g) (suc k) (ap suc (more_long (opens d) g ∙ e)) t h.2,
 )
 in_t ks n g k e (HCall f ts vs) h = (in_v ks n g k e f _ h.1, in_vs ks n g k e vs _ h.3)
 in_t ks n g k e (HIf v t u) h = (in_v ks n g k e v TCInt h.0, in_t ks n g k e t h.1, in_t ks n g k e u h.2)

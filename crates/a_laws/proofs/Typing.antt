@@ -77,22 +77,22 @@ module _ (P : AProp) (Q : CProp) (law : CLaws) (pa : (n : ℕ) (t : CTy) → Q n
         let x1 = data_t ks (d_types ks (map atype g) e) (kn ∷ ls) b1 (suc (d_next ls d e)) t in
         let w0 = front D b x0 x1 wi in
         let w2 = back D b b1 x0 x1 (len_d ks (map atype g) ls e b) wi in
-        let x = comes_v P Q law pa pm ks p same ok n g ls v (TCTuple h.0) b d ag w0 h.2 a bel in
+        let x = comes_v P Q law pa pm ks p same ok n g ls v (TCTuple h.1.1) b d ag w0 h.1.2 a bel in
         let d2 = v_next ls d v in
         let w = x.good d2 x.types (λ k u q. q) in
-        let u = h.1 in
-        let f = field_full i h.0 u h.3 in
+        let u = h.0 in
+        let f = field_full i h.1.1 u h.1.3 in
         let read : field_of i (Some (v_type ks (map atype g) v)) ≡ atype u =
-        ap (λ q. field_of i (Some q)) (type_read Q law ks n g v (TCTuple h.0) h.2)
-        ∙ ap (λ k. field_of k (Some (ATuple (afull h.0)))) f.1 ∙ ap or_int f.2 in
+        ap (λ q. field_of i (Some q)) (type_read Q law ks n g v (TCTuple h.1.1) h.1.2)
+        ∙ ap (λ k. field_of k (Some (ATuple (afull h.1.1)))) f.1 ∙ ap or_int f.2 in
         let dec : TypedDecl p n x.types (dcl ls b d e) =
-        (afull h.0, f.0, atype u, has_of P p n x.types _ _ w, f.1, f.2, f.3) in
+        (afull h.1.1, f.0, atype u, has_of P p n x.types _ _ w, f.1, f.2, f.3) in
         let got : field_of i (type_of p x.types (val ls b d d2 v)) ≡ atype u =
-        ap (field_of i) w.is ∙ ap (λ j. field_of j (Some (ATuple (afull h.0)))) f.1 ∙ ap or_int f.2 in
+        ap (field_of i) w.is ∙ ap (λ j. field_of j (Some (ATuple (afull h.1.1)))) f.1 ∙ ap or_int f.2 in
         let now : declared p x.types (dcl ls b d e) ≡ atype u ∷ x.types = ap (λ z. z ∷ x.types) got in
         let w1 = subst (λ q. Within D b1 (data_t ks (q ∷ map atype g) (kn ∷ ls) b1 (suc d2) t)) read w2 in
         let rest = alloc_t ks (map atype (u ∷ g)) (kn ∷ ls) b1 (suc d2) t in
-        let good = term_each t n (u ∷ g) (kn ∷ ls) b1 (suc d2) (atype u ∷ x.types) w1 h.5 (
+        let good = term_each t n (u ∷ g) (kn ∷ ls) b1 (suc d2) (atype u ∷ x.types) w1 h.2 (
           at_new d2 x.types (atype u),
           agree_later ls g d (suc d2) ag (atype u ∷ x.types)
               (λ k z q. at_more d2 x.types k z (atype u) (x.later k z q)) a,
@@ -100,7 +100,7 @@ module _ (P : AProp) (Q : CProp) (law : CLaws) (pa : (n : ℕ) (t : CTy) → Q n
         (subst (All-below n) now (declared_below p ok n x.types x.below (dcl ls b d e) dec)) in
         x.checks (Let (dcl ls b d e) (alloc_t ks (d_types ks (map atype g) e) (kn ∷ ls) b1 (suc d2) t))
         (both_let P p n x.types (dcl ls b d e) (alloc_t ks (d_types ks (map atype g) e) (kn ∷ ls) b1 (suc d2) t) dec
-        (w.each, subst (P n) (sym got) (pa n u h.4))
+        (w.each, subst (P n) (sym got) (pa n u h.1.0))
         (subst (λ q. Both P p n (declared p x.types (dcl ls b d e))
         (alloc_t ks (q ∷ map atype g) (kn ∷ ls) b1 (suc d2) t)) (sym read)
         (subst (λ q. Both P p n q rest) (sym now) good)))
@@ -114,11 +114,11 @@ module _ (P : AProp) (Q : CProp) (law : CLaws) (pa : (n : ℕ) (t : CTy) → Q n
         let w0 = front D b x0 x1 wi in
         let w2 = back D b b1 x0 x1 (len_d ks (map atype g) ls e b) wi in
         let x = comes_v P Q law pa pm ks p same ok n g ls v TCInt b d ag
-        (front D b (data_v ks (map atype g) ls b v) (data_v ks (map atype g) ls (n_v ls b v) w) w0) h.0 a bel in
+        (front D b (data_v ks (map atype g) ls b v) (data_v ks (map atype g) ls (n_v ls b v) w) w0) h.1.2 a bel in
         let d1 = v_next ls d v in
         let y = comes_v P Q law pa pm ks p same ok n g ls w TCInt (n_v ls b v) d1 x.types
         (back D b (n_v ls b v) (data_v ks (map atype g) ls b v) (data_v ks (map atype g) ls (n_v ls b v) w)
-        (len_v ks (map atype g) ls v b) w0) h.1 (agree_later ls g d d1 ag x.types x.later a) x.below in
+        (len_v ks (map atype g) ls v b) w0) h.1.3 (agree_later ls g d d1 ag x.types x.later a) x.below in
         let d2 = v_next ls d1 w in
         let xw = x.good d2 y.types y.later in
         let yw = y.good d2 y.types (λ k u q. q) in
@@ -128,7 +128,7 @@ module _ (P : AProp) (Q : CProp) (law : CLaws) (pa : (n : ℕ) (t : CTy) → Q n
         x.checks (pre_v ks (map atype g) ls (n_v ls b v) d1 w end)
         (y.checks end
         (both_let P p n y.types (dcl ls b d e) (alloc_t ks (map atype (TCInt ∷ g)) (kn ∷ ls) b1 (suc d2) t) dec de
-        (term_each t n (TCInt ∷ g) (kn ∷ ls) b1 (suc d2) (AInt ∷ y.types) w2 h.2 (
+        (term_each t n (TCInt ∷ g) (kn ∷ ls) b1 (suc d2) (AInt ∷ y.types) w2 (subst (λ q. HTypedWith Q ks n (q ∷ g) t) h.1.1 h.2) (
           at_new d2 y.types AInt,
           agree_later ls g d (suc d2) ag (AInt ∷ y.types)
               (λ k u q. at_more d2 y.types k u AInt (y.later k u (x.later k u q))) a,
@@ -142,21 +142,21 @@ module _ (P : AProp) (Q : CProp) (law : CLaws) (pa : (n : ℕ) (t : CTy) → Q n
         let x1 = data_t ks (d_types ks (map atype g) e) (kn ∷ ls) b1 (suc (d_next ls d e)) t in
         let w0 = front D b x0 x1 wi in
         let w2 = back D b b1 x0 x1 (len_d ks (map atype g) ls e b) wi in
-        let x = comes_v P Q law pa pm ks p same ok n g ls v (TCExists h.0) b d ag w0 h.1 a bel in
+        let x = comes_v P Q law pa pm ks p same ok n g ls v (TCExists h.0) b d ag w0 h.1.1 a bel in
         let d2 = v_next ls d v in
         let w = x.good d2 x.types (λ k u q. q) in
         let u = h.0 in
         let gs = crens_scope suc g in
         let ag2 = map (ashift 1 0) x.types in
         let read : body_of (Some (v_type ks (map atype g) v)) ∷ map (ashift 1 0) (map atype g) ≡ map atype (u ∷ gs) =
-        ap₂ (λ q qs. q ∷ qs) (ap (λ q. body_of (Some q)) (type_read Q law ks n g v (TCExists u) h.1))
+        ap₂ (λ q qs. q ∷ qs) (ap (λ q. body_of (Some q)) (type_read Q law ks n g v (TCExists u) h.1.1))
         (scope_shifted law g) in
         let dec : TypedDecl p n x.types (dcl ls b d e) = (atype u, has_of P p n x.types _ _ w) in
         let got : body_of (type_of p x.types (val ls b d d2 v)) ≡ atype u = ap body_of w.is in
         let now : declared p x.types (dcl ls b d e) ≡ atype u ∷ ag2 = ap (λ z. z ∷ ag2) got in
         let w1 = subst (λ q. Within D b1 (data_t ks q (kn ∷ ls) b1 (suc d2) t)) read w2 in
         let rest = alloc_t ks (map atype (u ∷ gs)) (kn ∷ ls) b1 (suc d2) t in
-        let good = term_each t (suc n) (u ∷ gs) (kn ∷ ls) b1 (suc d2) (atype u ∷ ag2) w1 h.3 (
+        let good = term_each t (suc n) (u ∷ gs) (kn ∷ ls) b1 (suc d2) (atype u ∷ ag2) w1 h.2 (
           at_new d2 ag2 (atype u),
           agree_later ls gs d2 (suc d2) ag2 (atype u ∷ ag2) (λ k z q. at_more d2 ag2 k z (atype u) q)
               (agree_shifted law ls g d2 x.types (agree_later ls g d d2 ag x.types x.later a)),
@@ -164,7 +164,7 @@ module _ (P : AProp) (Q : CProp) (law : CLaws) (pa : (n : ℕ) (t : CTy) → Q n
         (subst (All-below (suc n)) now (declared_below p ok n x.types x.below (dcl ls b d e) dec)) in
         x.checks (Let (dcl ls b d e) (alloc_t ks (d_types ks (map atype g) e) (kn ∷ ls) b1 (suc d2) t))
         (both_let P p n x.types (dcl ls b d e) (alloc_t ks (d_types ks (map atype g) e) (kn ∷ ls) b1 (suc d2) t) dec
-        (w.each, subst (P (suc n)) (sym got) (pa (suc n) u h.2))
+        (w.each, subst (P (suc n)) (sym got) (pa (suc n) u h.1.0))
         (subst (λ q. Both P p (suc n) (declared p x.types (dcl ls b d e)) (alloc_t ks q (kn ∷ ls) b1 (suc d2) t))
         (sym read) (subst (λ q. Both P p (suc n) q rest) (sym now) good)))
     term_each (HCall f ts vs) n g ls b d ag wi h a bel =
@@ -223,17 +223,17 @@ module _ (P : AProp) (Q : CProp) (law : CLaws) (pa : (n : ℕ) (t : CTy) → Q n
         let x1 = data_t ks (d_types ks (map atype g) e) (kn ∷ ls) b1 (suc (d_next ls d e)) t in
         let w0 = front D b x0 x1 wi in
         let w2 = back D b b1 x0 x1 (len_d ks (map atype g) ls e b) wi in
-        let u = h.0 in
-        let x = comes_v P Q law pa pm ks p same ok n g ls v u b d ag w0 h.1 a bel in
+        let u = h.1.1 in
+        let x = comes_v P Q law pa pm ks p same ok n g ls v u b d ag w0 h.1.3 a bel in
         let d1 = v_next ls d v in
-        let read : v_type ks (map atype g) v ≡ atype u = type_read Q law ks n g v u h.1 in
+        let read : v_type ks (map atype g) v ≡ atype u = type_read Q law ks n g v u h.1.3 in
         let old = ATuple (MoreAFields (atype u) false NoAFields) in
         let cell = ATuple (MoreAFields (atype u) true NoAFields) in
         let wv = x.good d1 x.types (λ k z q. q) in
         let dm : TypedDecl p n x.types (Malloc (atypes (MoreCTys u NoCTys))) =
         (type_below p ok n x.types x.below (val ls b d d1 v) (atype u) wv.fine wv.is, tt) in
         let em : DEach P p n x.types (Malloc (atypes (MoreCTys u NoCTys))) =
-        ((pa n u (own_of Q law ks n g v u h.1), tt), pc n u h.2) in
+        ((pa n u (own_of Q law ks n g v u h.1.3), tt), pc n u (subst (Q n) h.1.2 h.1.0)) in
         let bm : All-below n (old ∷ x.types) =
         declared_below p ok n x.types x.below (Malloc (atypes (MoreCTys u NoCTys))) dm in
         let on : Later d1 x.types (suc d1) (old ∷ x.types) = λ k z q. at_more d1 x.types k z old q in
@@ -247,13 +247,13 @@ module _ (P : AProp) (Q : CProp) (law : CLaws) (pa : (n : ℕ) (t : CTy) → Q n
           refl,
           refl,
         ) in
-        let de : DEach P p n (old ∷ x.types) (dcl ls b d e) = (pc n u h.2, w1.each, pa n (TCRef u) h.2) in
+        let de : DEach P p n (old ∷ x.types) (dcl ls b d e) = (pc n u (subst (Q n) h.1.2 h.1.0), w1.each, pa n (TCRef u) (subst (Q n) h.1.2 h.1.0)) in
         let b2 : All-below n (cell ∷ old ∷ x.types) = declared_below p ok n (old ∷ x.types) bm (dcl ls b d e) dec in
         let w4 = subst
         (λ q. Within D b1
         (data_t ks (ATuple (MoreAFields q true NoAFields) ∷ map atype g) (kn ∷ ls) b1 (suc (suc d1)) t)) read w2 in
         let rest = alloc_t ks (map atype (TCRef u ∷ g)) (kn ∷ ls) b1 (suc (suc d1)) t in
-        let good = term_each t n (TCRef u ∷ g) (kn ∷ ls) b1 (suc (suc d1)) (cell ∷ old ∷ x.types) w4 h.3 (
+        let good = term_each t n (TCRef u ∷ g) (kn ∷ ls) b1 (suc (suc d1)) (cell ∷ old ∷ x.types) w4 (subst (λ q. HTypedWith Q ks n (q ∷ g) t) h.1.2 h.2) (
           at_new (suc d1) (old ∷ x.types) cell,
           agree_later ls g d (suc (suc d1)) ag (cell ∷ old ∷ x.types)
               (λ k z q. at_more (suc d1) (old ∷ x.types) k z cell (on k z (x.later k z q))) a,
@@ -280,18 +280,18 @@ module _ (P : AProp) (Q : CProp) (law : CLaws) (pa : (n : ℕ) (t : CTy) → Q n
         let w0 = front D b x0 x1 wi in
         let w2 = back D b b1 x0 x1 (len_d ks (map atype g) ls e b) wi in
         let u = h.0 in
-        let x = comes_v P Q law pa pm ks p same ok n g ls v (TCRef u) b d ag w0 h.1 a bel in
+        let x = comes_v P Q law pa pm ks p same ok n g ls v (TCRef u) b d ag w0 h.1.1 a bel in
         let d2 = v_next ls d v in
         let w = x.good d2 x.types (λ k z q. q) in
         let read : field_of 1 (Some (v_type ks (map atype g) v)) ≡ atype u =
-        ap (λ q. field_of 1 (Some q)) (type_read Q law ks n g v (TCRef u) h.1) in
+        ap (λ q. field_of 1 (Some q)) (type_read Q law ks n g v (TCRef u) h.1.1) in
         let dec : TypedDecl p n x.types (dcl ls b d e) =
         (MoreAFields (atype u) true NoAFields, 0, atype u, has_of P p n x.types _ _ w, refl, refl, refl) in
         let got : field_of 1 (type_of p x.types (val ls b d d2 v)) ≡ atype u = ap (field_of 1) w.is in
         let now : declared p x.types (dcl ls b d e) ≡ atype u ∷ x.types = ap (λ z. z ∷ x.types) got in
         let w1 = subst (λ q. Within D b1 (data_t ks (q ∷ map atype g) (kn ∷ ls) b1 (suc d2) t)) read w2 in
         let rest = alloc_t ks (map atype (u ∷ g)) (kn ∷ ls) b1 (suc d2) t in
-        let good = term_each t n (u ∷ g) (kn ∷ ls) b1 (suc d2) (atype u ∷ x.types) w1 h.3 (
+        let good = term_each t n (u ∷ g) (kn ∷ ls) b1 (suc d2) (atype u ∷ x.types) w1 h.2 (
           at_new d2 x.types (atype u),
           agree_later ls g d (suc d2) ag (atype u ∷ x.types)
               (λ k z q. at_more d2 x.types k z (atype u) (x.later k z q)) a,
@@ -299,7 +299,7 @@ module _ (P : AProp) (Q : CProp) (law : CLaws) (pa : (n : ℕ) (t : CTy) → Q n
         (subst (All-below n) now (declared_below p ok n x.types x.below (dcl ls b d e) dec)) in
         x.checks (Let (dcl ls b d e) (alloc_t ks (d_types ks (map atype g) e) (kn ∷ ls) b1 (suc d2) t))
         (both_let P p n x.types (dcl ls b d e) (alloc_t ks (d_types ks (map atype g) e) (kn ∷ ls) b1 (suc d2) t) dec
-        (w.each, subst (P n) (sym got) (pa n u h.2))
+        (w.each, subst (P n) (sym got) (pa n u h.1.0))
         (subst (λ q. Both P p n (declared p x.types (dcl ls b d e))
         (alloc_t ks (q ∷ map atype g) (kn ∷ ls) b1 (suc d2) t)) (sym read)
         (subst (λ q. Both P p n q rest) (sym now) good)))
@@ -312,13 +312,13 @@ module _ (P : AProp) (Q : CProp) (law : CLaws) (pa : (n : ℕ) (t : CTy) → Q n
         let x1 = data_t ks (d_types ks (map atype g) e) (kn ∷ ls) b1 (suc (d_next ls d e)) t in
         let w0 = front D b x0 x1 wi in
         let w2 = back D b b1 x0 x1 (len_d ks (map atype g) ls e b) wi in
-        let u = h.0 in
+        let u = h.1.1 in
         let x = comes_v P Q law pa pm ks p same ok n g ls v (TCRef u) b d ag
-        (front D b (data_v ks (map atype g) ls b v) (data_v ks (map atype g) ls (n_v ls b v) w) w0) h.1 a bel in
+        (front D b (data_v ks (map atype g) ls b v) (data_v ks (map atype g) ls (n_v ls b v) w) w0) h.1.3 a bel in
         let d1 = v_next ls d v in
         let y = comes_v P Q law pa pm ks p same ok n g ls w u (n_v ls b v) d1 x.types
         (back D b (n_v ls b v) (data_v ks (map atype g) ls b v) (data_v ks (map atype g) ls (n_v ls b v) w)
-        (len_v ks (map atype g) ls v b) w0) h.2 (agree_later ls g d d1 ag x.types x.later a) x.below in
+        (len_v ks (map atype g) ls v b) w0) h.1.4 (agree_later ls g d d1 ag x.types x.later a) x.below in
         let d2 = v_next ls d1 w in
         let cell = ATuple (MoreAFields (atype u) true NoAFields) in
         let set = Init (val ls b d d2 v) 1 (val ls (n_v ls b v) d1 d2 w) in
@@ -336,19 +336,19 @@ module _ (P : AProp) (Q : CProp) (law : CLaws) (pa : (n : ℕ) (t : CTy) → Q n
         let got : filled_of 1 (type_of p y.types (val ls b d d2 v)) ≡ cell = ap (filled_of 1) c.is in
         let now : declared p y.types set ≡ cell ∷ y.types = ap (λ z. z ∷ y.types) got in
         let de : DEach P p n y.types set =
-        (c.each, yw.each, subst (P n) (sym got) (pa n (TCRef u) (own_of Q law ks n g v (TCRef u) h.1))) in
+        (c.each, yw.each, subst (P n) (sym got) (pa n (TCRef u) (own_of Q law ks n g v (TCRef u) h.1.3))) in
         let bm : All-below n (cell ∷ y.types) =
         subst (All-below n) now (declared_below p ok n y.types y.below set dec) in
         let none = ATuple NoAFields in
         let last = alloc_t ks (map atype (TCTuple NoCTys ∷ g)) (kn ∷ ls) b1 (suc (suc d2)) t in
         let rest = Let (Malloc NoATys) last in
-        let good = term_each t n (TCTuple NoCTys ∷ g) (kn ∷ ls) b1 (suc (suc d2)) (none ∷ cell ∷ y.types) w2 h.4 (
+        let good = term_each t n (TCTuple NoCTys ∷ g) (kn ∷ ls) b1 (suc (suc d2)) (none ∷ cell ∷ y.types) w2 (subst (λ q. HTypedWith Q ks n (q ∷ g) t) h.1.2 h.2) (
           at_new (suc d2) (cell ∷ y.types) none,
           agree_later ls g d (suc (suc d2)) ag (none ∷ cell ∷ y.types)
               (λ k z q. at_more (suc d2) (cell ∷ y.types) k z none
               (at_more d2 y.types k z cell (y.later k z (x.later k z q)))) a,
         ) (tt, bm) in
-        let named = both_let P p n (cell ∷ y.types) (Malloc NoATys) last tt (tt, pa n (TCTuple NoCTys) h.3) good in
+        let named = both_let P p n (cell ∷ y.types) (Malloc NoATys) last tt (tt, pa n (TCTuple NoCTys) (subst (Q n) h.1.2 h.1.0)) good in
         x.checks (pre_v ks (map atype g) ls (n_v ls b v) d1 w (Let set rest))
         (y.checks (Let set rest)
         (both_let P p n y.types set rest dec de (subst (λ q. Both P p n q rest) (sym now) named)))

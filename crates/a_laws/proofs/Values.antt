@@ -258,7 +258,7 @@ module _ (P : AProp) (Q : CProp) (law : CLaws) (pa : (n : ℕ) (t : CTy) → Q n
               later = λ k x q. q;
               below = bel;
               good = λ d3 ag3 k.
-                  (let e = label_typed l h.1 t ag h.2 h.3 in
+                  (let e = label_typed l h.1.0 t ag h.1.1 h.1.2 in
                   record { fine = tt; is = e; each = subst (λ o. P n (or_int o)) (sym e) (pa n t h.0) });
             }
         comes_v (HTuple vs) t b d ag wi h a bel =

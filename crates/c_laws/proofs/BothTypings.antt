@@ -5,6 +5,7 @@ use Rattle.k_terms.specs.Typing.{KTyped}
 use Rattle.k_terms.specs.Each.{KTypedWith}
 use Rattle.k_terms.specs.Reach.{KWithin}
 use Rattle.k_terms.proofs.Each.{Any, any_t}
+use Rattle.calc_core.specs.Typing.{NoLabels}
 use Rattle.calc_core.proofs.TypedWith.{weaker_t}
 use Rattle.c_terms.specs.Typing.{CTyped}
 use Rattle.c_terms.specs.Each.{CTypedWith}
@@ -39,10 +40,10 @@ pub types_kept : (t : KTm) → KTyped 0 [] t → CTyped 0 [] (close_of t)
 types_kept t h =
     plain_t (λ n u. Unit {0}) (close_of t) 0 []
     (kept_types_of (λ n. Unit {0}) (λ u. Unit {0}) (λ n. Unit {0}) (λ n u. Unit {0}) any_kept t
-    (weaker_t Any (λ n u. Unit {0} × Unit {0}) (λ n u x. (tt, tt)) t 0 [] (any_t t 0 [] h)))
+    (weaker_t Any (λ n u. Unit {0} × Unit {0}) (λ n u x. (tt, tt)) NoLabels t 0 [] (any_t t 0 [] h)))
 
 pub reach_kept : (N R B : ℕ) (t : KTm) → KTypedWith (KWithin N R B) 0 [] t →
     CTypedWith (CWithin (N + 1) (R + 4) (N + B + 1)) 0 [] (close_of t)
 reach_kept N R B t h =
     kept_types_of (λ n. n ≤ N) (Small R B) (λ n. n ≤ N + 1) (CWithin (N + 1) (R + 4) (N + B + 1)) (within_kept N R B) t
-    (weaker_t (KWithin N R B) (λ n u. (n ≤ N) × Small R B u) (λ n u x. (x.0, (x.1, x.2))) t 0 [] h)
+    (weaker_t (KWithin N R B) (λ n u. (n ≤ N) × Small R B u) (λ n u x. (x.0, (x.1, x.2))) NoLabels t 0 [] h)

@@ -1,5 +1,5 @@
 -- A new frame of all that is wanted, picked register by register.
-use Rattle.std.proofs.Common.{◌≡◌, ℕ, ◌+◌, ◌<◌, ◌≤◌, cond, Bool, true, List, [], ◌∷◌, sym, ap, ◌∙◌, drop, length}
+use Rattle.std.proofs.Common.{◌≡◌, ℕ, ◌+◌, ◌<◌, ◌≤◌, cond, Bool, true, List, [], ◌∷◌, sym, ap, ap₂, ◌∙◌, drop, length}
 use Rattle.std.proofs.Common.{get_or, Some}
 use Rattle.std.proofs.Math.Path.{fun_ext}
 use Rattle.std.proofs.lemmas.List.{drop_more, drop_all}
@@ -10,12 +10,11 @@ use Rattle.t_types.specs.Fits.{lookup}
 use Rattle.t_types.specs.Read.{file, types}
 use Rattle.t_terms.specs.Tree.{TSeq}
 use Rattle.t_terms.specs.declared.instr.Instr.{Instr}
-use Rattle.t_spill_rules.specs.Spill.{Held, homed, into, keep, among, numbers, high_part, gather, gathered}
+use Rattle.t_spill_rules.specs.Spill.{Held, homed, into, keep, among, numbers, high_part, before, gather, gathered}
 use Rattle.t_spill_code.specs.Homes.{home_in, has_in, Sets, Lists, text, with_slots}
-use Rattle.t_spill_code.specs.Onto.{onto, front, gathers}
+use Rattle.t_spill_code.specs.Onto.{onto, front}
 use Rattle.t_spill_code.specs.declared.homes.Homes.{Homes}
 use Rattle.t_spill_code.proofs.Made.{front_none}
-use Rattle.t_spill_code.proofs.Steps.{gather_is}
 use Rattle.t_spill.specs.Finishing.{Frames, Gathered}
 use Rattle.t_spill.specs.Picking.{wanted, picked_one, picked}
 use Rattle.t_spill.specs.declared.finish.Code.{Code}
@@ -43,8 +42,8 @@ pub frame_made : (old new : Code) (held : Homes) (rd : ℕ) (ws : List ℕ) (y x
     (qs : List ℕ)
     (tail : List (Instr × Span)) → Sets old.homes held rd (Held (into old.homes.split.low rd)) → Lists held qs →
     file to ≡ picked held.split.low ws y qs → Frames old.homes rd ws y x →
-    ((rest : TSeq) → onto tail rest ≡ onto old.body.tail.items (gathers held.split.low (home_in held)
-    (file to) rest)) →
+    ((rest : TSeq) → onto tail rest ≡ onto old.body.tail.items (before (gather held.split.low (home_in held)
+    (file to)) rest)) →
     length new.body.slots.items ≡ 0 →
     ((more : List Ty) (rest : TSeq) → text old.homes.split.low new.body more rest
     ≡ onto old.body.done.items (with_slots old.homes.split.low (types old.body.slots.items) [] (onto tail rest))) →
@@ -70,13 +69,9 @@ frame_made old new held rd ws y x to qs tail sets lists picks frames code none c
         picks ∙ ap (λ q. picked q ws y qs) sets.0
         ∙ picked_is old.homes.split.low ws y x qs held frames.0 frames.1 holds lists
 
-    same : (rest : TSeq) → gathers held.split.low (home_in held) (file to) rest
-        ≡ gather old.homes.split.low (homed (home_in old.homes) rd (Held (into old.homes.split.low rd)))
-        (keep ws x) rest
+    same : (rest : TSeq) → before (gather held.split.low (home_in held) (file to)) rest
+        ≡ before (gather old.homes.split.low (homed (home_in old.homes) rd (Held (into old.homes.split.low rd)))
+        (high_part old.homes.split.low (keep ws x))) rest
     same rest =
-        ap (λ q. gathers q (home_in held) (file to) rest) sets.0
-        ∙ ap (λ h. gathers old.homes.split.low h (file to) rest) (fun_ext sets.1)
-        ∙ ap (λ z. gathers old.homes.split.low
-        (homed (home_in old.homes) rd (Held (into old.homes.split.low rd))) z rest) high
-        ∙ sym (gather_is old.homes.split.low (homed (home_in old.homes) rd (Held (into old.homes.split.low rd)))
-        (keep ws x) rest)
+        ap (λ q. before (gather q (home_in held) (file to)) rest) sets.0
+        ∙ ap₂ (λ h z. before (gather old.homes.split.low h z) rest) (fun_ext sets.1) high

@@ -12,14 +12,14 @@ use Rattle.t_terms.specs.Tree.{Unpack, TEnd, Jmp, Halt, TSeq, Then, TProg}
 use Rattle.t_terms.specs.Whole.{WellFormedValue, WellFormedInstr}
 use Rattle.t_terms.specs.declared.instr.Instr.{Instr}
 use Rattle.t_spill_rules.specs.Spill.{or_int, field_type, filled_type, hidden_type, ins, live, numbers, target, reads}
-use Rattle.t_spill_rules.specs.Spill.{next, kept, among, slots, finish, after, way, defines, step, code, high_part}
-use Rattle.t_spill_rules.specs.Spill.{Layout}
+use Rattle.t_spill_rules.specs.Spill.{next, kept, among, slots, before, loads, does, finish, after, way, defines}
+use Rattle.t_spill_rules.specs.Spill.{step, code, high_part, Layout}
+use Rattle.t_spill_rules.proofs.Parts.{step_parts}
 use Rattle.t_spill_laws.proofs.Files.{lookup_ins, raised_lookup}
 use Rattle.t_spill_laws.proofs.Live.{Agree, among_left, among_right, among_first, value_same, next_alike, target_alike}
-use Rattle.t_spill_code.specs.Onto.{onto, computed, ValueFits, InstrFits, EndFits}
+use Rattle.t_spill_code.specs.Onto.{onto, ValueFits, InstrFits, EndFits}
 use Rattle.t_spill_code.specs.Homes.{home_in, has_in, with_slots}
 use Rattle.t_spill_code.specs.declared.homes.Homes.{Homes}
-use Rattle.t_spill_code.proofs.Steps.{step_is}
 use Rattle.t_spill.specs.Known.{given}
 use Rattle.t_spill.specs.Picking.{Homed}
 use Rattle.t_spill.specs.Ready.{ReadyInstr, ReadyEnd}
@@ -127,43 +127,33 @@ homed_next P m x i c hs h r t lt is e = go (nat_eq (defines i) r) refl
         let old = known_before P x i r t k e in
         h r old.0 lt (among_right r (reads i ++ numbers (target P x i)) (live P (next P x i) c) is) old.1
 
--- the code of an instruction, up to where its word is computed
-module _ (P : TProg) (x : TFile) (i : TInstr) (c : TSeq) where
-  -- what follows it, and that behind the code so far
-  abbrev follows : Homes → List TType → TSeq
-  follows hs ts =
-      let L : Layout = record { homes = home_in hs; used = length ts } in
-      finish hs.split.low L (defines i) (slots hs.split.low P (length ts) x (Then i c)) (kept P x i c)
+-- the code of an instruction, up to where its word is computed, and what follows it
+module _ (P : TProg) (x : TFile) (i : TInstr) (c : TSeq) (hs : Homes) (ts : List TType) where
+  abbrev lay : Layout
+  lay = record { homes = home_in hs; used = length ts }
+
+  abbrev behind : List (Instr × Span) → TSeq → TSeq
+  behind done s = onto done (with_slots hs.split.low (types ts) (slots hs.split.low P (length ts) x (Then i c)) s)
+
+  abbrev follows : TSeq
+  follows = code hs.split.low P (after hs.split.low lay i (kept P x i c)) (kept P x i c) c
+
+  abbrev ends_with : List TInstr
+  ends_with =
+      finish hs.split.low lay (defines i) (slots hs.split.low P (length ts) x (Then i c)) (kept P x i c)
       (way hs.split.low (length ts) i)
-      (code hs.split.low P (after hs.split.low L i (kept P x i c)) (kept P x i c) c)
 
-  abbrev behind : Homes → List TType → List (Instr × Span) → TSeq → TSeq
-  behind hs ts done s =
-      onto done (with_slots hs.split.low (types ts) (slots hs.split.low P (length ts) x (Then i c)) s)
-
-  pub text_computed : (hs hs2 : Homes) (ts ts2 : List TType) (done done2 tail tail2 : List (Instr × Span))
-      (high : TFile) →
-      hs2 ≡ hs → ts2 ≡ ts → done2 ≡ done → high ≡ high_part hs.split.low (target P x i) →
-      ((rest : TSeq) → onto tail2 rest ≡ onto tail (computed hs.split.low (home_in hs) high i rest)) →
-      behind hs2 ts2 done2 (onto tail2 (follows hs2 ts2))
-      ≡ behind hs ts done (onto tail (step hs.split.low P (record { homes = home_in hs; used = length ts }) x i
-      (slots hs.split.low P (length ts) x (Then i c)) (kept P x i c)
-      (code hs.split.low P (after hs.split.low (record { homes = home_in hs; used = length ts }) i (kept P x i c))
-      (kept P x i c) c)))
-  text_computed hs hs2 ts ts2 done done2 tail tail2 high eh et ed is h =
-      ap (behind hs2 ts2 done2) (h (follows hs2 ts2))
-      ∙ ap (λ (k : Homes). behind k ts2 done2
-      (onto tail (computed hs.split.low (home_in hs) high i (follows k ts2)))) eh
-      ∙ ap (λ (us : List TType). behind hs us done2
-      (onto tail (computed hs.split.low (home_in hs) high i (follows hs us)))) et
-      ∙ ap (λ (xs : List (Instr × Span)). behind hs ts xs
-      (onto tail (computed hs.split.low (home_in hs) high i (follows hs ts)))) ed
-      ∙ ap (λ z. behind hs ts done (onto tail (computed hs.split.low (home_in hs) z i (follows hs ts)))) is
-      ∙ ap (λ s. behind hs ts done (onto tail s))
-      (sym (step_is hs.split.low P (record { homes = home_in hs; used = length ts }) x i
-      (slots hs.split.low P (length ts) x (Then i c)) (kept P x i c)
-      (code hs.split.low P (after hs.split.low (record { homes = home_in hs; used = length ts }) i (kept P x i c))
-      (kept P x i c) c)))
+  pub text_computed : (done tail tail2 : List (Instr × Span)) (high : TFile) →
+      high ≡ high_part hs.split.low (target P x i) →
+      ((rest : TSeq) → onto tail2 rest ≡ onto tail (before (loads hs.split.low (home_in hs) high i)
+      (before (does hs.split.low (home_in hs) i) rest))) →
+      behind done (onto tail2 (before ends_with follows))
+      ≡ behind done (onto tail (before (step hs.split.low P lay x i c) follows))
+  text_computed done tail tail2 high is h =
+      ap (behind done) (h (before ends_with follows)
+      ∙ ap (λ z. onto tail (before (loads hs.split.low (home_in hs) z i)
+      (before (does hs.split.low (home_in hs) i) (before ends_with follows)))) is
+      ∙ ap (onto tail) (sym (step_parts hs.split.low P lay x i c follows)))
 
 -- what an instruction reads and enters, in front of what the rest wants
 pub wants_here : (P : TProg) (x y : TFile) (i : TInstr) (c : TSeq) (entered : List (ℕ × TType)) →

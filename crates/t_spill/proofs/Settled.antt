@@ -11,7 +11,7 @@ use Rattle.t_spill_rules.specs.Spill.{Held, Layout, Way, Stays, Fills, Gathers, 
 use Rattle.t_spill_rules.specs.Spill.{kept}
 use Rattle.t_spill_rules.specs.Spill.{keep, live, among, numbers, high_part, layout, gather, defines, way, way_of}
 use Rattle.t_spill_rules.specs.Spill.{after_way}
-use Rattle.t_spill_rules.specs.Spill.{slots_by, used_by, slots, finish, fill_slot, code, most_slots}
+use Rattle.t_spill_rules.specs.Spill.{slots_by, used_by, slots, before, finish, fill_slot, code, most_slots}
 use Rattle.t_spill_laws.proofs.Files.{lookup_ins, look_same}
 use Rattle.t_spill_laws.proofs.Live.{kept_wants, kept_agrees, kept_sub, kept_ascends}
 use Rattle.t_spill_laws.proofs.Computed.{ascends_next}
@@ -104,7 +104,7 @@ module _ (P : TProg) (x : TFile) (w : Walk) (i : TInstr) (c : TSeq) where
       let ts = slots_by v (sp (low w) (or_int (lookup (next P x i) (defines i))))
       (slots (low w) P (used_by v (used w.code)) (kept P x i c) c) in
       text (low w) w.code.body ts
-      (finish (low w) (layout_of w.code.homes w.code.body) (defines i) ts (kept P x i c) v
+      (before (finish (low w) (layout_of w.code.homes w.code.body) (defines i) ts (kept P x i c) v)
       (code (low w) P (after_way (low w) (layout_of w.code.homes w.code.body) (defines i) (kept P x i c) v)
       (kept P x i c) c))
 
@@ -171,14 +171,14 @@ settle_fills P n y x old new i c t b e k a same f =
           ∙ f.2 (slots m P (used new.code) (kept P x i c) c)
           (code m P (layout_of new.code.homes new.code.body) (kept P x i c) c)
           ∙ ap (λ z. text m old.code.body (z ∷ slots m P (used new.code) (kept P x i c) c)
-          (fill_slot m (used old.code) (z ∷ slots m P (used new.code) (kept P x i c) c)
+          (before (fill_slot m (used old.code) (z ∷ slots m P (used new.code) (kept P x i c) c))
           (code m P (layout_of new.code.homes new.code.body) (kept P x i c) c)))
           (same ∙ ap (sp m) (sym (fills_type P x m (used old.code) i e)))
           ∙ ap (λ z. text m old.code.body (T ∷ slots m P z (kept P x i c) c)
-          (fill_slot m (used old.code) (T ∷ slots m P z (kept P x i c) c)
+          (before (fill_slot m (used old.code) (T ∷ slots m P z (kept P x i c) c))
           (code m P (layout_of new.code.homes new.code.body) (kept P x i c) c))) f.1
           ∙ ap (λ L. text m old.code.body (T ∷ slots m P (suc (used old.code)) (kept P x i c) c)
-          (fill_slot m (used old.code) (T ∷ slots m P (suc (used old.code)) (kept P x i c) c)
+          (before (fill_slot m (used old.code) (T ∷ slots m P (suc (used old.code)) (kept P x i c) c))
           (code m P L (kept P x i c) c)))
           (same_layout (layout_of new.code.homes new.code.body)
           (after_way m (layout_of old.code.homes old.code.body) (defines i) (kept P x i c) Fills) f.0.1 f.1)
@@ -208,11 +208,11 @@ settle_gathers P n y x old new i c b e k a g =
           ∙ g.4 (slots m P (used new.code) (kept P x i c) c)
           (code m P (layout_of new.code.homes new.code.body) (kept P x i c) c)
           ∙ ap (λ f. text m old.code.body []
-          (gather m (homed (home_in old.code.homes) (defines i) (Held (into m (defines i)))) f
+          (before (gather m (homed (home_in old.code.homes) (defines i) (Held (into m (defines i)))) (high_part m f))
           (code m P (layout_of new.code.homes new.code.body) (kept P x i c) c))) (sym to)
           ∙ ap (λ L. text m old.code.body []
-          (gather m (homed (home_in old.code.homes) (defines i) (Held (into m (defines i))))
-          (kept P x i c) (code m P L (kept P x i c) c)))
+          (before (gather m (homed (home_in old.code.homes) (defines i) (Held (into m (defines i))))
+          (high_part m (kept P x i c))) (code m P L (kept P x i c) c)))
           (same_layout (layout_of new.code.homes new.code.body) (layout m (kept P x i c))
           (λ r. g.2 r ∙ ap (λ f. (layout m f).homes r) (sym to)) g.1)
           ∙ sym (finished_is P x old i c Gathers e),

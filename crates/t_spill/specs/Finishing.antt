@@ -3,8 +3,8 @@ use Rattle.std.specs.Prelude.{◌≡◌, ℕ, suc, ◌<◌, true, cond, nat_eq, 
 use Rattle.t_types.specs.Tree.{Ty, TFile}
 use Rattle.t_types.specs.Fits.{lookup}
 use Rattle.t_terms.specs.Tree.{TSeq}
-use Rattle.t_spill_rules.specs.Spill.{Held, InSlot, homed, into, keep, layout, gather, fill_slot, among, numbers}
-use Rattle.t_spill_rules.specs.Spill.{high_part}
+use Rattle.t_spill_rules.specs.Spill.{Held, InSlot, homed, into, keep, layout, before, gather, fill_slot}
+use Rattle.t_spill_rules.specs.Spill.{among, numbers, high_part}
 use Rattle.t_spill_laws.proofs.Files.{Ascends}
 use Rattle.t_spill_laws.proofs.Live.{Agree}
 use Rattle.t_spill_code.specs.Homes.{home_in, has_in, Sets, text}
@@ -19,7 +19,8 @@ abbrev pub Filled : Code → Code → ℕ → Ty → Type 0
 Filled old new rd t =
     Sets old.homes new.homes rd (InSlot (used old)) × (used new ≡ suc (used old))
     × ((more : List Ty) (rest : TSeq) → text old.homes.split.low new.body more rest
-    ≡ text old.homes.split.low old.body (t ∷ more) (fill_slot old.homes.split.low (used old) (t ∷ more) rest))
+    ≡ text old.homes.split.low old.body (t ∷ more)
+    (before (fill_slot old.homes.split.low (used old) (t ∷ more)) rest))
 
 -- the words of all registers of x that ws has are at hand, where the one of rd was just computed; y knows as much of
 -- them
@@ -36,5 +37,6 @@ Gathered old new rd ws x =
     × ((r : ℕ) → home_in new.homes r ≡ (layout old.homes.split.low (keep ws x)).homes r)
     × ((r : ℕ) → has_in new.homes r ≡ among r (numbers (high_part old.homes.split.low (keep ws x))))
     × ((more : List Ty) (rest : TSeq) → text old.homes.split.low new.body more rest
-    ≡ text old.homes.split.low old.body [] (gather old.homes.split.low
-    (homed (home_in old.homes) rd (Held (into old.homes.split.low rd))) (keep ws x) rest))
+    ≡ text old.homes.split.low old.body [] (before (gather old.homes.split.low
+    (homed (home_in old.homes) rd (Held (into old.homes.split.low rd)))
+    (high_part old.homes.split.low (keep ws x))) rest))

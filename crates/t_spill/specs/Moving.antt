@@ -3,7 +3,7 @@ use Rattle.std.specs.Prelude.{◌≡◌, ℕ, ◌<◌, true, cond, nat_eq, List,
 use Rattle.t_types.specs.Tree.{Ty, TFile}
 use Rattle.t_types.specs.Fits.{lookup}
 use Rattle.t_terms.specs.Tree.{TInstr, TSeq, Then, TProg, names_after}
-use Rattle.t_spill_rules.specs.Spill.{live, numbers, next, kept, defines, way, after, finish, slots, code, layout}
+use Rattle.t_spill_rules.specs.Spill.{live, numbers, next, kept, defines, way, after, before, finish, slots, code, layout}
 use Rattle.t_spill_rules.specs.Spill.{high_part, among}
 use Rattle.t_spill_laws.proofs.Files.{Ascends}
 use Rattle.t_spill_laws.proofs.Live.{Agree}
@@ -49,8 +49,8 @@ pub record Between (P : TProg) (n : ℕ) (y x : TFile) (w : Walk) (i : TInstr) (
 abbrev pub finished : TProg → TFile → Walk → TInstr → TSeq → TSeq
 finished P x w i c =
     text (low w) w.code.body (slots (low w) P (used w.code) x (Then i c))
-    (finish (low w) (layout_of w.code.homes w.code.body) (defines i) (slots (low w) P (used w.code) x (Then i c))
-    (kept P x i c) (way (low w) (used w.code) i)
+    (before (finish (low w) (layout_of w.code.homes w.code.body) (defines i)
+    (slots (low w) P (used w.code) x (Then i c)) (kept P x i c) (way (low w) (used w.code) i))
     (code (low w) P (after (low w) (layout_of w.code.homes w.code.body) i (kept P x i c)) (kept P x i c) c))
 
 -- from the first walk to the second the word of an instruction is computed

@@ -6,11 +6,11 @@ use Rattle.idx_core.specs.declared.span.Span.{Span}
 use Rattle.t_types.specs.declared.types.TType.{TType}
 use Rattle.t_types.specs.Tree.{Ty, TFile, NoRegs, MoreRegs, TFields, NoFields, MoreFields, TupleTy, flagged}
 use Rattle.t_types.specs.Read.{tree, file, flag, fields, types}
-use Rattle.t_terms.specs.Tree.{TSeq, Then, St}
+use Rattle.t_terms.specs.Tree.{TSeq, Then}
 use Rattle.t_terms.specs.declared.instr.Instr.{Instr}
 use Rattle.t_terms.specs.Read.{instr}
-use Rattle.t_spill_rules.specs.Spill.{Home, sp, sp_regs, sp_fields, sp_file, frame, cells, high_part, low_part, with_if}
-use Rattle.t_spill_rules.specs.Spill.{frame_reg, made_reg, second_reg, second_at, load, fill, numbers}
+use Rattle.t_spill_rules.specs.Spill.{sp, sp_regs, sp_fields, sp_file, frame, cells, high_part, low_part, with_if}
+use Rattle.t_spill_rules.specs.Spill.{frame_reg}
 use Rattle.t_spill_code.specs.Onto.{onto, front, fields_onto, field_if}
 
 -- lists of types, and of fields
@@ -140,12 +140,3 @@ pub high_none : (m : ℕ) (ys its : List (ℕ × TType)) (whole : TFile) → len
     front ys (high_part m (file its)) ≡ high_part m whole → file ys ≡ high_part m whole
 high_none m ys [] whole z e = sym (front_none ys) ∙ e
 high_none m ys (x ∷ its) whole z e = absurd (omega (arith, z))
-
--- a new frame's instructions, from field i on
-fill_suc : (m : ℕ) (h : ℕ → Home) (xs : List (ℕ × TType)) (i j : ℕ) (d : ℕ × TType) (rest : TSeq) → i < length xs →
-    fill m h (numbers (file (drop i xs))) j rest
-    ≡ load m (second_reg m) (h (get_or xs i d).0) (Then (St (made_reg m) j (second_at m h (get_or xs i d).0))
-    (fill m h (numbers (file (drop (suc i) xs))) (suc j) rest))
-fill_suc m h [] i j d rest lt = absurd (omega arith)
-fill_suc m h (x ∷ xs) zero j d rest lt = refl
-fill_suc m h (x ∷ xs) (suc i) j d rest lt = fill_suc m h xs i j d rest (omega arith)

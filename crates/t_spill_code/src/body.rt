@@ -3,7 +3,7 @@ ghost use Rattle.std.specs.Prelude.{◌≡◌, ◌<◌, ◌∷◌, [], ℕ, suc,
 ghost use Rattle.t_types.specs.Tree.{Ty};
 ghost use Rattle.t_types.specs.Read.{tree};
 ghost use Rattle.t_terms.specs.Tree.{TSeq};
-ghost use Rattle.t_spill_rules.specs.Spill.{fill_slot};
+ghost use Rattle.t_spill_rules.specs.Spill.{before, fill_slot};
 ghost use Rattle.t_spill_code.specs.Homes.{text};
 ghost use Rattle.t_spill_code.specs.Onto.{onto};
 
@@ -42,7 +42,7 @@ impl Body {
         requires { length self.old.slots.items ≡ 0 }
         ensures { OnOk result ((length self.new.slots.items ≡ 1) × ((more : List Ty) (rest : TSeq) →
             text split.low self.new more rest
-            ≡ text split.low self.old (tree ty ∷ more) (fill_slot split.low 0 (tree ty ∷ more) rest))) }
+            ≡ text split.low self.old (tree ty ∷ more) (before (fill_slot split.low 0 (tree ty ∷ more)) rest))) }
     {
         self.done.append(&mut self.tail)?;
         self.slots.push(ty)?;
@@ -59,7 +59,7 @@ impl Body {
         requires { 0 < length self.old.slots.items }
         ensures { OnOk result ((length self.new.slots.items ≡ suc (length self.old.slots.items))
             × ((more : List Ty) (rest : TSeq) → text split.low self.new more rest ≡ text split.low self.old
-            (tree ty ∷ more) (fill_slot split.low (length self.old.slots.items) (tree ty ∷ more) rest))) }
+            (tree ty ∷ more) (before (fill_slot split.low (length self.old.slots.items) (tree ty ∷ more)) rest))) }
     {
         let field = self.slots.len() as u64;
         self.slots.push(ty)?;
@@ -75,7 +75,7 @@ impl Body {
     pub fn fill(&mut self, split: Split, ty: TType) -> Result<(), OutOfMemory>
         ensures { OnOk result ((length self.new.slots.items ≡ suc (length self.old.slots.items))
             × ((more : List Ty) (rest : TSeq) → text split.low self.new more rest ≡ text split.low self.old
-            (tree ty ∷ more) (fill_slot split.low (length self.old.slots.items) (tree ty ∷ more) rest))) }
+            (tree ty ∷ more) (before (fill_slot split.low (length self.old.slots.items) (tree ty ∷ more)) rest))) }
     {
         if self.slots.len() == 0 {
             self.fill_first(split, ty)

@@ -3,9 +3,9 @@ ghost use Rattle.std.specs.Prelude.{◌≡◌, ◌<◌, ◌^◌, ℕ, OnOk, leng
 ghost use Rattle.t_types.specs.Read.{file};
 ghost use Rattle.t_terms.specs.Tree.{Mov, TSeq, Then};
 ghost use Rattle.t_terms.specs.Read.{instr as instr_tree, value as value_tree};
-ghost use Rattle.t_spill_rules.specs.Spill.{reg, numbers, load as loads, load_value as loads_value, fill as fills};
-ghost use Rattle.t_spill_rules.specs.Spill.{first_reg, second_reg};
-ghost use Rattle.t_spill_code.specs.Onto.{onto, built, gathers};
+ghost use Rattle.t_spill_rules.specs.Spill.{reg, numbers, before, load as loads, load_value as loads_value};
+ghost use Rattle.t_spill_rules.specs.Spill.{fill as fills, build as builds, gather as gathers, first_reg, second_reg};
+ghost use Rattle.t_spill_code.specs.Onto.{onto};
 ghost use Rattle.t_spill_code.specs.Homes.{home as the_home, home_in};
 
 use crate::homes::{Home, Homes};
@@ -54,7 +54,7 @@ pub fn put_move(
 // A word with this home is loaded into register t, where it stands in no register.
 fn load(code: &mut Vec<(Instr, Span)>, split: Split, t: u64, home: Home) -> Result<(), OutOfMemory>
     ensures { OnOk result ((rest : TSeq) →
-        onto code.new.items rest ≡ onto code.old.items (loads split.low t (the_home home) rest)) }
+        onto code.new.items rest ≡ onto code.old.items (before (loads split.low t (the_home home)) rest)) }
 {
     match home {
         Home::Register(_) => Ok(()),
@@ -80,7 +80,7 @@ fn load(code: &mut Vec<(Instr, Span)>, split: Split, t: u64, home: Home) -> Resu
 /// A first operand is loaded.
 pub fn load_first(code: &mut Vec<(Instr, Span)>, homes: &Homes, r: u64) -> Result<(), OutOfMemory>
     ensures { OnOk result ((rest : TSeq) → onto code.new.items rest ≡ onto code.old.items
-        (loads homes.now.split.low (first_reg homes.now.split.low) (home_in homes.now r) rest)) }
+        (before (loads homes.now.split.low (first_reg homes.now.split.low) (home_in homes.now r)) rest)) }
 {
     load(code, homes.split, homes.split.first(), homes.of(r))
 }
@@ -88,7 +88,7 @@ pub fn load_first(code: &mut Vec<(Instr, Span)>, homes: &Homes, r: u64) -> Resul
 /// A second operand is loaded.
 pub fn load_second(code: &mut Vec<(Instr, Span)>, homes: &Homes, r: u64) -> Result<(), OutOfMemory>
     ensures { OnOk result ((rest : TSeq) → onto code.new.items rest ≡ onto code.old.items
-        (loads homes.now.split.low (second_reg homes.now.split.low) (home_in homes.now r) rest)) }
+        (before (loads homes.now.split.low (second_reg homes.now.split.low) (home_in homes.now r)) rest)) }
 {
     load(code, homes.split, homes.split.second(), homes.of(r))
 }
@@ -101,7 +101,7 @@ pub fn load_value(
     v: &Value,
 ) -> Result<(), OutOfMemory>
     ensures { OnOk result ((rest : TSeq) → onto code.new.items rest ≡ onto code.old.items
-        (loads_value homes.now.split.low (home_in homes.now) (value_tree v.now) rest)) }
+        (before (loads_value homes.now.split.low (home_in homes.now) (value_tree v.now)) rest)) }
 {
     match v {
         Value::Plain { base, .. } => match base {
@@ -121,7 +121,7 @@ fn fill(
     to: &[(u64, TType)],
 ) -> Result<(), OutOfMemory>
     ensures { OnOk result ((rest : TSeq) → onto code.new.items rest ≡ onto code.old.items
-        (fills homes.now.split.low (home_in homes.now) (numbers (file to.now)) 0 rest)) }
+        (before (fills homes.now.split.low (home_in homes.now) (numbers (file to.now)) 0) rest)) }
 {
     for j in 0..to.len() {
         let r = to[j].0;
@@ -144,7 +144,7 @@ pub fn build(
     to: &[(u64, TType)],
 ) -> Result<(), OutOfMemory>
     ensures { OnOk result ((rest : TSeq) → onto code.new.items rest ≡ onto code.old.items
-        (built homes.now.split.low (home_in homes.now) (file to.now) rest)) }
+        (before (builds homes.now.split.low (home_in homes.now) (file to.now)) rest)) }
 {
     let types = cell_types(alloc, homes.split, to)?;
     let made = homes.split.made();
@@ -153,6 +153,7 @@ pub fn build(
 }
 
 /// And in the place of the old one.
+#[tactic(auto, using(t_spill_rules::proofs::Parts::before_both))]
 pub fn gather(
     alloc: Global,
     code: &mut Vec<(Instr, Span)>,
@@ -160,7 +161,7 @@ pub fn gather(
     to: &[(u64, TType)],
 ) -> Result<(), OutOfMemory>
     ensures { OnOk result ((rest : TSeq) → onto code.new.items rest ≡ onto code.old.items
-        (gathers homes.now.split.low (home_in homes.now) (file to.now) rest)) }
+        (before (gathers homes.now.split.low (home_in homes.now) (file to.now)) rest)) }
 {
     build(alloc, code, homes, to)?;
     put_move(alloc, code, homes.split.frame(), homes.split.made())

@@ -1,10 +1,11 @@
 // The code of an instruction, up to where its word is computed.
 ghost use Rattle.std.specs.Prelude.{◌≡◌, OnOk, IfOk};
 ghost use Rattle.t_types.specs.Read.{file};
-ghost use Rattle.t_types.specs.Tree.{TFile};
-ghost use Rattle.t_terms.specs.Tree.{Arith, Ld, St, TSeq, Ends};
+ghost use Rattle.t_terms.specs.Tree.{Arith, Bnz, Ld, St, TSeq, Ends};
 ghost use Rattle.t_terms.specs.Read.{value as value_tree, instr as instr_tree, end_of as end_tree};
-ghost use Rattle.t_spill_code.specs.Onto.{onto, branched, computed, ended, ValueFits, InstrFits, EndFits};
+ghost use Rattle.t_spill_rules.specs.Spill.{before, load, load_value as loads_value, loads, does, ended};
+ghost use Rattle.t_spill_rules.specs.Spill.{first_reg, second_reg};
+ghost use Rattle.t_spill_code.specs.Onto.{onto, ValueFits, InstrFits, EndFits};
 ghost use Rattle.t_spill_code.specs.Homes.{home_in};
 
 use crate::emit::{build, load_first, load_second, load_value, put, put_move};
@@ -25,8 +26,11 @@ fn emit_arith(
     v: &Value,
 ) -> Result<(), OutOfMemory>
     requires { ValueFits (value_tree v.now) }
-    ensures { OnOk result ((high : TFile) (rest : TSeq) → onto code.new.items rest ≡ onto code.old.items
-        (computed homes.now.split.low (home_in homes.now) high (Arith head.0 head.1 head.2 (value_tree v.now)) rest)) }
+    ensures { OnOk result ((rest : TSeq) → onto code.new.items rest ≡ onto code.old.items
+        (before (load homes.now.split.low (first_reg homes.now.split.low) (home_in homes.now head.2))
+        (before (loads_value homes.now.split.low (home_in homes.now) (value_tree v.now))
+        (before (does homes.now.split.low (home_in homes.now) (Arith head.0 head.1 head.2 (value_tree v.now)))
+        rest)))) }
 {
     let (op, rd, rs) = head;
     let value = operand(alloc, homes, v)?;
@@ -51,7 +55,9 @@ fn emit_branch(
 ) -> Result<(), OutOfMemory>
     requires { ValueFits (value_tree v.now) }
     ensures { OnOk result ((rest : TSeq) → onto code.new.items rest ≡ onto code.old.items
-        (branched homes.now.split.low (home_in homes.now) r (value_tree v.now) rest)) }
+        (before (load homes.now.split.low (first_reg homes.now.split.low) (home_in homes.now r))
+        (before (loads_value homes.now.split.low (home_in homes.now) (value_tree v.now))
+        (before (does homes.now.split.low (home_in homes.now) (Bnz r (value_tree v.now))) rest)))) }
 {
     let split = homes.split;
     let value = operand(alloc, homes, v)?;
@@ -78,8 +84,9 @@ fn emit_load(
     rs: u64,
     field: u64,
 ) -> Result<(), OutOfMemory>
-    ensures { OnOk result ((high : TFile) (rest : TSeq) → onto code.new.items rest ≡ onto code.old.items
-        (computed homes.now.split.low (home_in homes.now) high (Ld rd rs field) rest)) }
+    ensures { OnOk result ((rest : TSeq) → onto code.new.items rest ≡ onto code.old.items
+        (before (load homes.now.split.low (first_reg homes.now.split.low) (home_in homes.now rs))
+        (before (does homes.now.split.low (home_in homes.now) (Ld rd rs field)) rest))) }
 {
     load_first(code, homes, rs)?;
     let made = Instr::Ld {
@@ -98,8 +105,10 @@ fn emit_store(
     field: u64,
     rs: u64,
 ) -> Result<(), OutOfMemory>
-    ensures { OnOk result ((high : TFile) (rest : TSeq) → onto code.new.items rest ≡ onto code.old.items
-        (computed homes.now.split.low (home_in homes.now) high (St rd field rs) rest)) }
+    ensures { OnOk result ((rest : TSeq) → onto code.new.items rest ≡ onto code.old.items
+        (before (load homes.now.split.low (first_reg homes.now.split.low) (home_in homes.now rd))
+        (before (load homes.now.split.low (second_reg homes.now.split.low) (home_in homes.now rs))
+        (before (does homes.now.split.low (home_in homes.now) (St rd field rs)) rest)))) }
 {
     load_first(code, homes, rd)?;
     load_second(code, homes, rs)?;
@@ -112,6 +121,7 @@ fn emit_store(
 }
 
 /// An instruction, where these registers of its target are above the split.
+#[tactic(auto, using(t_spill_rules::proofs::Parts::loads_are))]
 pub fn emit_step(
     alloc: Global,
     code: &mut Vec<(Instr, Span)>,
@@ -121,7 +131,8 @@ pub fn emit_step(
 ) -> Result<(), OutOfMemory>
     requires { InstrFits (instr_tree i.now) }
     ensures { OnOk result ((rest : TSeq) → onto code.new.items rest ≡ onto code.old.items
-        (computed homes.now.split.low (home_in homes.now) (file target.now) (instr_tree i.now) rest)) }
+        (before (loads homes.now.split.low (home_in homes.now) (file target.now) (instr_tree i.now))
+        (before (does homes.now.split.low (home_in homes.now) (instr_tree i.now)) rest))) }
 {
     let split = homes.split;
     match i {

@@ -28,13 +28,13 @@ use Rattle.t_spill_rules.specs.Spill.{filled_type, hidden_type, target_file, nex
 use Rattle.t_spill_rules.specs.Spill.{value_reads}
 use Rattle.t_spill_rules.specs.Spill.{reads, end_reads, live, keep, kept, Home, Held, InFrame, InSlot, Layout, homed}
 use Rattle.t_spill_rules.specs.Spill.{gathered}
-use Rattle.t_spill_rules.specs.Spill.{at_home, load, load_value, second_at, fill, build, defines, into}
-use Rattle.t_spill_rules.specs.Spill.{Way, Stays, Fills, Gathers, way_of, way, after_way, after, slots_by, used_by}
+use Rattle.t_spill_rules.specs.Spill.{before, at_home, load, load_value, second_at, fill, build, defines, into}
+use Rattle.t_spill_rules.specs.Spill.{Way, Stays, Fills, Gathers, way, after_way, after, slots_by, used_by}
 use Rattle.t_spill_rules.specs.Spill.{slots}
-use Rattle.t_spill_rules.specs.Spill.{fill_slot, finish, step, code, thens, step_size, sizes}
+use Rattle.t_spill_rules.specs.Spill.{fill_slot, finish, does, step, code, sizes}
 use Rattle.t_spill_laws.proofs.TypeLaws.{high_over}
 use Rattle.t_spill_laws.proofs.Files.{numbers_regs}
-use Rattle.t_spill_rules.proofs.HighParts.{high_regs}
+use Rattle.t_spill_rules.proofs.Parts.{before_both, loading, step_is}
 use Rattle.t_spill_laws.proofs.Computed.{value_is, next_is}
 use Rattle.t_spill_laws.proofs.Live.{keep_over, kept_accepted}
 use Rattle.t_rules.proofs.Erasing.{value_over as erase_over}
@@ -141,13 +141,13 @@ types_length : (m : ℕ) (ts : List Ty) → length (map (sp m) ts) ≡ length ts
 types_length m [] = refl
 types_length m (t ∷ ts) = ap suc (types_length m ts)
 
-erase_load : (m t : ℕ) (x : Home) (rest : TSeq) → erase_seq (load m t x rest) ≡ eload m t x (erase_seq rest)
+erase_load : (m t : ℕ) (x : Home) (rest : TSeq) → erase_seq (before (load m t x) rest) ≡ eload m t x (erase_seq rest)
 erase_load m t (Held q) rest = refl
 erase_load m t (InFrame i) rest = refl
 erase_load m t (InSlot i) rest = refl
 
 erase_load_value : (m : ℕ) (homes : ℕ → Home) (v : TValue) (rest : TSeq) →
-    erase_seq (load_value m homes v rest) ≡ ebase m homes (erase_value v) (erase_seq rest)
+    erase_seq (before (load_value m homes v) rest) ≡ ebase m homes (erase_value v) (erase_seq rest)
 erase_load_value m homes (Plain (Reg r) ts) rest = erase_load m (second_reg m) (homes r) rest
 erase_load_value m homes (Plain (Int i) ts) rest = refl
 erase_load_value m homes (Plain (Label l) ts) rest = refl
@@ -155,90 +155,87 @@ erase_load_value m homes (Plain (Data d) ts) rest = refl
 erase_load_value m homes (Pack t v s) rest = erase_load_value m homes v rest
 
 erase_fill : (m : ℕ) (homes : ℕ → Home) (qs : List ℕ) (j : ℕ) (rest : TSeq) →
-    erase_seq (fill m homes qs j rest) ≡ efill m homes qs j (erase_seq rest)
+    erase_seq (before (fill m homes qs j) rest) ≡ efill m homes qs j (erase_seq rest)
 erase_fill m homes [] j rest = refl
 erase_fill m homes (q ∷ qs) j rest =
-    erase_load m (second_reg m) (homes q) _
+    ap erase_seq (before_both (load m (second_reg m) (homes q)) _ rest)
+    ∙ erase_load m (second_reg m) (homes q) _
     ∙ ap (λ k. eload m (second_reg m) (homes q) (EThen (ESt (made_reg m) j (second_at m homes q)) k))
     (erase_fill m homes qs (suc j) rest)
 
-cells_highs : (m : ℕ) (to : TFile) → length (cells (high_part m (sp_regs m to))) ≡ length (highs m to)
-cells_highs m to =
-    cells_length (high_part m (sp_regs m to)) ∙ ap (λ x. length (numbers x)) (high_regs m m to)
-    ∙ ap (λ (qs : List ℕ). length qs) (numbers_regs m (high_part m to))
-
-erase_build : (m : ℕ) (homes : ℕ → Home) (to : TFile) (rest : TSeq) →
-    erase_seq (build m homes to rest) ≡ ebuild m homes (highs m to) (erase_seq rest)
-erase_build m homes to rest =
-    ap₂ (λ n k. EThen (EMalloc (made_reg m) n) k) (cells_highs m to) (erase_fill m homes (highs m to) 0 rest)
+erase_build : (m : ℕ) (homes : ℕ → Home) (high : TFile) (rest : TSeq) →
+    erase_seq (before (build m homes high) rest) ≡ ebuild m homes (numbers high) (erase_seq rest)
+erase_build m homes high rest =
+    ap₂ (λ n k. EThen (EMalloc (made_reg m) n) k)
+    (cells_length (sp_regs m high) ∙ ap (λ (qs : List ℕ). length qs) (numbers_regs m high))
+    (erase_fill m homes (numbers high) 0 rest)
 
 erase_finish : (m : ℕ) (L : Layout) (rd : ℕ) (ts : List Ty) (to : TFile) (w : Way) (rest : TSeq) →
-    erase_seq (finish m L rd ts to w rest) ≡ efinish m L rd (length ts) (highs m to) w (erase_seq rest)
+    erase_seq (before (finish m L rd ts to w) rest) ≡ efinish m L rd (length ts) (highs m to) w (erase_seq rest)
 erase_finish m L rd ts to Stays rest = refl
 erase_finish m L rd ts to Fills rest = go L.used
   where
-    go : (j : ℕ) → erase_seq (fill_slot m j ts rest) ≡ eslot m j (length ts) (erase_seq rest)
+    go : (j : ℕ) → erase_seq (before (fill_slot m j ts) rest) ≡ eslot m j (length ts) (erase_seq rest)
     go zero = refl
     go (suc j) = refl
 erase_finish m L rd ts to Gathers rest =
-    erase_build m (homed L.homes rd (Held (into m rd))) to (Then (Mov (frame_reg m) (reg (made_reg m))) rest)
+    let homes = homed L.homes rd (Held (into m rd)) in
+    ap erase_seq (before_both (build m homes (high_part m to)) _ rest)
+    ∙ erase_build m homes (high_part m to) (Then (Mov (frame_reg m) (reg (made_reg m))) rest)
 
 -- the parts put together
-pub erase_step : (m : ℕ) (P : TProg) (L : Layout) (x : TFile) (i : TInstr) (ts : List Ty) (to : TFile) (rest : TSeq) →
-    erase_seq (step m P L x i ts to rest)
-    ≡ ecode m L (length ts) (highs m to) (highs m (target P x i)) i (erase_seq rest)
-erase_step m P L x (Arith op rd rs v) ts to rest =
+erase_head : (m : ℕ) (L : Layout) (high : TFile) (i : TInstr) (rest : TSeq) →
+    erase_seq (loading m L.homes high i (before (does m L.homes i) rest)) ≡ ehead m L (numbers high) i (erase_seq rest)
+erase_head m L high (Arith op rd rs v) rest =
     erase_load m (first_reg m) (L.homes rs) _
     ∙ ap (eload m (first_reg m) (L.homes rs)) (erase_load_value m L.homes v _
-    ∙ ap (ebase m L.homes (erase_value v))
-    (ap₂ (λ b k. EThen (EArith op (into m rd) (at_home (first_reg m) (L.homes rs)) b) k)
-    (erase_sp m (second_at m L.homes) v) (erase_finish m L rd ts to (way_of m L.used rd) rest)))
-erase_step m P L x (Bnz r v) ts to rest =
-    erase_build m L.homes (target P x (Bnz r v)) _
-    ∙ ap (ebuild m L.homes (highs m (target P x (Bnz r v)))) (erase_load m (first_reg m) (L.homes r) _
+    ∙ ap (λ b. ebase m L.homes (erase_value v)
+    (EThen (EArith op (into m rd) (at_home (first_reg m) (L.homes rs)) b) (erase_seq rest)))
+    (erase_sp m (second_at m L.homes) v))
+erase_head m L high (Bnz r v) rest =
+    erase_build m L.homes high _
+    ∙ ap (ebuild m L.homes (numbers high)) (erase_load m (first_reg m) (L.homes r) _
     ∙ ap (eload m (first_reg m) (L.homes r)) (erase_load_value m L.homes v _
     ∙ ap (λ b. ebase m L.homes (erase_value v)
     (EThen (EMov (saved_reg m) (Reg (frame_reg m))) (EThen (EMov (frame_reg m) (Reg (made_reg m)))
     (EThen (EBnz (at_home (first_reg m) (L.homes r)) b)
     (EThen (EMov (frame_reg m) (Reg (saved_reg m))) (erase_seq rest)))))) (erase_sp m (second_at m L.homes) v)))
-erase_step m P L x (Ld rd rs i) ts to rest =
-    erase_load m (first_reg m) (L.homes rs) _
-    ∙ ap (λ k. eload m (first_reg m) (L.homes rs) (EThen (ELd (into m rd) (at_home (first_reg m) (L.homes rs)) i) k))
-    (erase_finish m L rd ts to (way_of m L.used rd) rest)
-erase_step m P L x (Malloc rd us) ts to rest =
-    ap₂ (λ n k. EThen (EMalloc (into m rd) n) k) (types_length m us)
-    (erase_finish m L rd ts to (way_of m L.used rd) rest)
-erase_step m P L x (Mov rd v) ts to rest =
+erase_head m L high (Ld rd rs i) rest = erase_load m (first_reg m) (L.homes rs) _
+erase_head m L high (Malloc rd ts) rest = ap (λ n. EThen (EMalloc (into m rd) n) (erase_seq rest)) (types_length m ts)
+erase_head m L high (Mov rd v) rest =
     erase_load_value m L.homes v _
-    ∙ ap (ebase m L.homes (erase_value v))
-    (ap₂ (λ b k. EThen (EMov (into m rd) b) k) (erase_sp m (second_at m L.homes) v)
-    (erase_finish m L rd ts to (way_of m L.used rd) rest))
-erase_step m P L x (St rd i rs) ts to rest =
+    ∙ ap (λ b. ebase m L.homes (erase_value v) (EThen (EMov (into m rd) b) (erase_seq rest)))
+    (erase_sp m (second_at m L.homes) v)
+erase_head m L high (St rd i rs) rest =
     erase_load m (first_reg m) (L.homes rd) _
-    ∙ ap (eload m (first_reg m) (L.homes rd)) (erase_load m (second_reg m) (L.homes rs) _
-    ∙ ap (λ k. eload m (second_reg m) (L.homes rs) (EThen (ESt (into m rd) i (second_at m L.homes rs)) k))
-    (erase_finish m L rd ts to (way_of m L.used rd) rest))
-erase_step m P L x (Unpack rd v) ts to rest =
+    ∙ ap (eload m (first_reg m) (L.homes rd)) (erase_load m (second_reg m) (L.homes rs) _)
+erase_head m L high (Unpack rd v) rest =
     erase_load_value m L.homes v _
-    ∙ ap (ebase m L.homes (erase_value v))
-    (ap₂ (λ b k. EThen (EMov (into m rd) b) k) (erase_sp m (second_at m L.homes) v)
-    (erase_finish m L rd ts to Gathers rest))
+    ∙ ap (λ b. ebase m L.homes (erase_value v) (EThen (EMov (into m rd) b) (erase_seq rest)))
+    (erase_sp m (second_at m L.homes) v)
+
+erase_step : (m : ℕ) (P : TProg) (L : Layout) (x : TFile) (i : TInstr) (c rest : TSeq) →
+    erase_seq (before (step m P L x i c) rest)
+    ≡ ecode m L (slots_left m L.used (Then i c)) (highs m (kept P x i c)) (highs m (target P x i)) i (erase_seq rest)
+erase_step m P L x i c rest =
+    ap erase_seq (step_is m P L x i c rest)
+    ∙ erase_head m L (high_part m (target P x i)) i _
+    ∙ ap (ehead m L (highs m (target P x i)) i)
+    (erase_finish m L (defines i) (slots m P L.used x (Then i c)) (kept P x i c) (way m L.used i) rest
+    ∙ ap (λ n. efinish m L (defines i) n (highs m (kept P x i c)) (way m L.used i) (erase_seq rest))
+    (slots_length m P (Then i c) L.used x))
 
 -- an instruction in front of its rest
 pub erase_then : (m : ℕ) (P : TProg) (L : Layout) (x : TFile) (i : TInstr) (c : TSeq) →
     erase_seq (code m P L x (Then i c))
     ≡ ecode m L (slots_left m L.used (Then i c)) (highs m (kept P x i c)) (highs m (target P x i)) i
     (erase_seq (code m P (after m L i (kept P x i c)) (kept P x i c) c))
-erase_then m P L x i c =
-    erase_step m P L x i (slots m P L.used x (Then i c)) (kept P x i c)
-    (code m P (after m L i (kept P x i c)) (kept P x i c) c)
-    ∙ ap (λ n. ecode m L n (highs m (kept P x i c)) (highs m (target P x i)) i
-    (erase_seq (code m P (after m L i (kept P x i c)) (kept P x i c) c))) (slots_length m P (Then i c) L.used x)
+erase_then m P L x i c = erase_step m P L x i c (code m P (after m L i (kept P x i c)) (kept P x i c) c)
 
 pub erase_end_code : (m : ℕ) (P : TProg) (L : Layout) (x : TFile) (e : TEnd) →
     erase_seq (code m P L x (Ends e)) ≡ eend m L (highs m (end_target P x e)) e
 erase_end_code m P L x (Jmp v) =
-    erase_build m L.homes (target_file (type_of P x v)) _
+    erase_build m L.homes (high_part m (target_file (type_of P x v))) _
     ∙ ap (ebuild m L.homes (highs m (target_file (type_of P x v)))) (erase_load_value m L.homes v _
     ∙ ap (λ b. ebase m L.homes (erase_value v) (EThen (EMov (frame_reg m) (Reg (made_reg m))) (EJmp b)))
     (erase_sp m (second_at m L.homes) v))
@@ -250,79 +247,15 @@ esize (EThen i k) = suc (esize k)
 esize (EJmp b) = 0
 esize EHalt = 0
 
-thens_is : (c : TSeq) → thens c ≡ esize (erase_seq c)
-thens_is (Then i c) = ap suc (thens_is c)
-thens_is (Ends (Jmp v)) = refl
-thens_is (Ends Halt) = refl
+size_before : (xs : List TInstr) (rest : TSeq) → esize (erase_seq (before xs rest)) ≡ length xs + esize (erase_seq rest)
+size_before [] rest = omega arith
+size_before (i ∷ xs) rest = let e = size_before xs rest in omega (arith, e)
 
-pub step_size_is : (m : ℕ) (P : TProg) (L : Layout) (x : TFile) (i : TInstr) (to : TFile) →
-    step_size m P L x i to ≡ esize (ecode m L 0 (highs m to) (highs m (target P x i)) i EHalt)
-step_size_is m P L x i to = thens_is (step m P L x i [] to (Ends Halt))
-    ∙ ap esize (erase_step m P L x i [] to (Ends Halt))
-
-size_load : (m t : ℕ) (x : Home) (k l : ESeq) (a b : ℕ) → esize k + a ≡ esize l + b →
-    esize (eload m t x k) + a ≡ esize (eload m t x l) + b
-size_load m t (Held q) k l a b e = e
-size_load m t (InFrame i) k l a b e = omega (arith, e)
-size_load m t (InSlot i) k l a b e = omega (arith, e)
-
-size_base : (m : ℕ) (homes : ℕ → Home) (v : TBase) (k l : ESeq) (a b : ℕ) → esize k + a ≡ esize l + b →
-    esize (ebase m homes v k) + a ≡ esize (ebase m homes v l) + b
-size_base m homes (Reg r) k l a b e = size_load m (second_reg m) (homes r) k l a b e
-size_base m homes (Int i) k l a b e = e
-size_base m homes (Label i) k l a b e = e
-size_base m homes (Data d) k l a b e = e
-
-size_fill : (m : ℕ) (homes : ℕ → Home) (qs : List ℕ) (j : ℕ) (k l : ESeq) (a b : ℕ) → esize k + a ≡ esize l + b →
-    esize (efill m homes qs j k) + a ≡ esize (efill m homes qs j l) + b
-size_fill m homes [] j k l a b e = e
-size_fill m homes (q ∷ qs) j k l a b e =
-    let x = size_fill m homes qs (suc j) k l a b e in
-    size_load m (second_reg m) (homes q)
-    (EThen (ESt (made_reg m) j (second_at m homes q)) (efill m homes qs (suc j) k))
-    (EThen (ESt (made_reg m) j (second_at m homes q)) (efill m homes qs (suc j) l)) a b (omega (arith, x))
-
-size_build : (m : ℕ) (homes : ℕ → Home) (qs : List ℕ) (k l : ESeq) (a b : ℕ) → esize k + a ≡ esize l + b →
-    esize (ebuild m homes qs k) + a ≡ esize (ebuild m homes qs l) + b
-size_build m homes qs k l a b e = let x = size_fill m homes qs 0 k l a b e in omega (arith, x)
-
-size_slot : (m j n1 n2 : ℕ) (k l : ESeq) (a b : ℕ) → esize k + a ≡ esize l + b →
-    esize (eslot m j n1 k) + a ≡ esize (eslot m j n2 l) + b
-size_slot m zero n1 n2 k l a b e = omega (arith, e)
-size_slot m (suc j) n1 n2 k l a b e = omega (arith, e)
-
-size_finish : (m : ℕ) (L : Layout) (rd n1 n2 : ℕ) (nx : List ℕ) (w : Way) (k l : ESeq) (a b : ℕ) →
-    esize k + a ≡ esize l + b → esize (efinish m L rd n1 nx w k) + a ≡ esize (efinish m L rd n2 nx w l) + b
-size_finish m L rd n1 n2 nx Stays k l a b e = e
-size_finish m L rd n1 n2 nx Fills k l a b e = size_slot m L.used n1 n2 k l a b e
-size_finish m L rd n1 n2 nx Gathers k l a b e =
-    size_build m (homed L.homes rd (Held (into m rd))) nx (EThen (EMov (frame_reg m) (Reg (made_reg m))) k)
-    (EThen (EMov (frame_reg m) (Reg (made_reg m))) l) a b (omega (arith, e))
-
-size_head : (m : ℕ) (L : Layout) (tg : List ℕ) (i : TInstr) (k l : ESeq) (a b : ℕ) → esize k + a ≡ esize l + b →
-    esize (ehead m L tg i k) + a ≡ esize (ehead m L tg i l) + b
-size_head m L tg (Arith op rd rs v) k l a b e =
-    size_load m (first_reg m) (L.homes rs) _ _ a b (size_base m L.homes (erase_value v) _ _ a b (omega (arith, e)))
-size_head m L tg (Bnz r v) k l a b e =
-    size_build m L.homes tg _ _ a b
-    (size_load m (first_reg m) (L.homes r) _ _ a b
-    (size_base m L.homes (erase_value v) _ _ a b (omega (arith, e))))
-size_head m L tg (Ld rd rs i) k l a b e = size_load m (first_reg m) (L.homes rs) _ _ a b (omega (arith, e))
-size_head m L tg (Malloc rd ts) k l a b e = omega (arith, e)
-size_head m L tg (Mov rd v) k l a b e = size_base m L.homes (erase_value v) _ _ a b (omega (arith, e))
-size_head m L tg (St rd i rs) k l a b e =
-    size_load m (first_reg m) (L.homes rd) _ _ a b (size_load m (second_reg m) (L.homes rs) _ _ a b (omega (arith, e)))
-size_head m L tg (Unpack rd v) k l a b e = size_base m L.homes (erase_value v) _ _ a b (omega (arith, e))
-
--- an instruction's code in front of a rest
-pub step_then : (m : ℕ) (P : TProg) (L : Layout) (x : TFile) (i : TInstr) (to : TFile) (n : ℕ) (k : ESeq) →
-    esize (ecode m L n (highs m to) (highs m (target P x i)) i k) ≡ step_size m P L x i to + esize k
-step_then m P L x i to n k =
-    let f = size_finish m L (defines i) n 0 (highs m to) (way m L.used i) k EHalt 0 (esize k) (omega arith) in
-    let y = size_head m L (highs m (target P x i)) i (efinish m L (defines i) n (highs m to) (way m L.used i) k)
-    (efinish m L (defines i) 0 (highs m to) (way m L.used i) EHalt) 0 (esize k) f in
-    let z = step_size_is m P L x i to in
-    omega (arith, y, z)
+pub then_size : (m : ℕ) (P : TProg) (L : Layout) (x : TFile) (i : TInstr) (c : TSeq) →
+    esize (erase_seq (code m P L x (Then i c)))
+    ≡ length (step m P L x i c) + esize (erase_seq (code m P (after m L i (kept P x i c)) (kept P x i c) c))
+then_size m P L x i c =
+    size_before (step m P L x i c) (code m P (after m L i (kept P x i c)) (kept P x i c) c)
 
 -- walks don't change what is erased
 way_over : (f : At Ty) (d m used : ℕ) (i : TInstr) → way m used (over_instr f d i) ≡ way m used i
@@ -612,38 +545,57 @@ module _ (c : ℕ) (s : Ty) (P : TProg) (closed : ClosedLabels P) (tuples : Clos
   kept_put (St rd i rs) d x rest le k = keep_put (St rd i rs) d x rest le k
   kept_put (Unpack rd v) d x rest le k = keep_put (Unpack rd v) d x rest le k
 
+  kept_highs : (m : ℕ) (i : TInstr) (d : ℕ) (x : TFile) (rest : TSeq) → c ≤ d →
+      SeqAccepted P (d + 1) (lookup x) (Then i rest) →
+      highs m (kept P (put_file_from c s d x) (over_instr (putted VarTy over c s) d i)
+      (over_seq (putted VarTy over c s) (names_after i d) rest))
+      ≡ highs m (kept P x i rest)
+  kept_highs m i d x rest le k =
+      ap (highs m) (kept_put i d x rest le k)
+      ∙ highs_over (putted VarTy over c s) (names_after i d) m (kept P x i rest)
+
   kept_rest : (i : TInstr) (d : ℕ) (x : TFile) (rest : TSeq) → SeqAccepted P (d + 1) (lookup x) (Then i rest) →
       SeqAccepted P (names_after i d + 1) (lookup (kept P x i rest)) rest
   kept_rest i d x rest k = kept_accepted P i (names_after i d + 1) x rest (rest_accepted i d x rest k)
 
   -- what is spilled, erased, stays the same under a put
+  step_put : (m : ℕ) (i : TInstr) (rest : TSeq) (L : Layout) (d : ℕ) (x : TFile) → c ≤ d →
+      SeqAccepted P (d + 1) (lookup x) (Then i rest) → (t u : TSeq) → erase_seq t ≡ erase_seq u →
+      erase_seq (before (step m P L (put_file_from c s d x) (over_instr (putted VarTy over c s) d i)
+      (over_seq (putted VarTy over c s) (names_after i d) rest)) t)
+      ≡ erase_seq (before (step m P L x i rest) u)
+  step_put m i rest L d x le k t u e =
+      let f = putted VarTy over c s in
+      let y = put_file_from c s d x in
+      let j = over_instr (putted VarTy over c s) d i in
+      let r2 = over_seq (putted VarTy over c s) (names_after i d) rest in
+      erase_step m P L y j r2 t
+      ∙ ap₂ (λ n z. ecode m L n (highs m (kept P y j r2)) (highs m (target P y j)) j z)
+      (left_over f m (Then i rest) L.used d) e
+      ∙ ap₂ (λ nx tg. ecode m L (slots_left m L.used (Then i rest)) nx tg j (erase_seq u))
+      (kept_highs m i d x rest le k) (high_same i m d x k.0 le k.1)
+      ∙ ecode_over f d m L (slots_left m L.used (Then i rest)) (highs m (kept P x i rest)) (highs m (target P x i)) i
+      (erase_seq u)
+      ∙ sym (erase_step m P L x i rest u)
+
+  after_put : (m : ℕ) (i : TInstr) (rest : TSeq) (L : Layout) (d : ℕ) (x : TFile) → c ≤ d →
+      SeqAccepted P (d + 1) (lookup x) (Then i rest) →
+      after m L (over_instr (putted VarTy over c s) d i) (kept P (put_file_from c s d x)
+      (over_instr (putted VarTy over c s) d i) (over_seq (putted VarTy over c s) (names_after i d) rest))
+      ≡ after m L i (kept P x i rest)
+  after_put m i rest L d x le k =
+      after_over (putted VarTy over c s) d m L i _ (kept P x i rest) (kept_highs m i d x rest le k)
+
   pub erased_put : (m : ℕ) (code0 : TSeq) (L : Layout) (d : ℕ) (x : TFile) → c ≤ d →
       SeqAccepted P (d + 1) (lookup x) code0 →
       erase_seq (code m P L (put_file_from c s d x) (over_seq (putted VarTy over c s) d code0))
       ≡ erase_seq (code m P L x code0)
   erased_put m (Then i rest) L d x le k =
-      let f = putted VarTy over c s in
-      let y = put_file_from c s d x in
-      let j = over_instr (putted VarTy over c s) d i in
       let r2 = over_seq (putted VarTy over c s) (names_after i d) rest in
       let to = kept P x i rest in
-      let nx = kept_put i d x rest le k in
-      let same : highs m (kept P y j r2) ≡ highs m to = ap (highs m) nx ∙ highs_over f (names_after i d) m to in
-      let lay : after m L j (kept P y j r2) ≡ after m L i to = after_over f d m L i (kept P y j r2) to same in
-      let tail : erase_seq (code m P (after m L j (kept P y j r2)) (kept P y j r2) r2)
-      ≡ erase_seq (code m P (after m L i to) to rest) =
-      ap₂ (λ z l. erase_seq (code m P l z r2)) nx lay
-      ∙ erased_put m rest (after m L i to) (names_after i d) to (larger i d le) (kept_rest i d x rest k) in
-      erase_then m P L y j r2
-      ∙ ap (λ n. ecode m L n (highs m (kept P y j r2)) (highs m (target P y j)) j
-      (erase_seq (code m P (after m L j (kept P y j r2)) (kept P y j r2) r2)))
-      (left_over f m (Then i rest) L.used d)
-      ∙ ap₂ (λ nx tg. ecode m L (slots_left m L.used (Then i rest)) nx tg j
-      (erase_seq (code m P (after m L j (kept P y j r2)) (kept P y j r2) r2))) same (high_same i m d x k.0 le k.1)
-      ∙ ap (ecode m L (slots_left m L.used (Then i rest)) (highs m to) (highs m (target P x i)) j) tail
-      ∙ ecode_over f d m L (slots_left m L.used (Then i rest)) (highs m to) (highs m (target P x i)) i
-      (erase_seq (code m P (after m L i to) to rest))
-      ∙ sym (erase_then m P L x i rest)
+      step_put m i rest L d x le k _ (code m P (after m L i to) to rest)
+      (ap₂ (λ z l. erase_seq (code m P l z r2)) (kept_put i d x rest le k) (after_put m i rest L d x le k)
+      ∙ erased_put m rest (after m L i to) (names_after i d) to (larger i d le) (kept_rest i d x rest k))
   erased_put m (Ends e) L d x le k =
       let f = putted VarTy over c s in
       let y = put_file_from c s d x in
@@ -656,23 +608,17 @@ module _ (c : ℕ) (s : Ty) (P : TProg) (closed : ClosedLabels P) (tuples : Clos
       SeqAccepted P (d + 1) (lookup x) code0 →
       sizes m P L (put_file_from c s d x) (over_seq (putted VarTy over c s) d code0) ≡ sizes m P L x code0
   sizes_put m (Then i rest) L d x le k =
-      let f = putted VarTy over c s in
       let y = put_file_from c s d x in
       let j = over_instr (putted VarTy over c s) d i in
       let r2 = over_seq (putted VarTy over c s) (names_after i d) rest in
       let to = kept P x i rest in
-      let nx = kept_put i d x rest le k in
-      let same : highs m (kept P y j r2) ≡ highs m to = ap (highs m) nx ∙ highs_over f (names_after i d) m to in
-      let lay : after m L j (kept P y j r2) ≡ after m L i to = after_over f d m L i (kept P y j r2) to same in
-      let tail : sizes m P (after m L j (kept P y j r2)) (kept P y j r2) r2 ≡ sizes m P (after m L i to) to rest =
-      ap₂ (λ z l. sizes m P l z r2) nx lay
-      ∙ sizes_put m rest (after m L i to) (names_after i d) to (larger i d le) (kept_rest i d x rest k) in
-      let here : step_size m P L y j (kept P y j r2) ≡ step_size m P L x i to =
-      step_size_is m P L y j (kept P y j r2)
-      ∙ ap₂ (λ nx tg. esize (ecode m L 0 nx tg j EHalt)) same (high_same i m d x k.0 le k.1)
-      ∙ ap esize (ecode_over f d m L 0 (highs m to) (highs m (target P x i)) i EHalt)
-      ∙ sym (step_size_is m P L x i to) in
-      ap₂ (λ (n : ℕ) (ns : List ℕ). n ∷ ns) here tail
+      let same = ap esize (step_put m i rest L d x le k (Ends Halt) (Ends Halt) refl) in
+      let a = size_before (step m P L y j r2) (Ends Halt) in
+      let b = size_before (step m P L x i rest) (Ends Halt) in
+      let here : length (step m P L y j r2) ≡ length (step m P L x i rest) = omega (arith, same, a, b) in
+      ap₂ (λ (n : ℕ) (ns : List ℕ). n ∷ ns) here
+      (ap₂ (λ z l. sizes m P l z r2) (kept_put i d x rest le k) (after_put m i rest L d x le k)
+      ∙ sizes_put m rest (after m L i to) (names_after i d) to (larger i d le) (kept_rest i d x rest k))
   sizes_put m (Ends e) L d x le k = refl
 
 -- and where a block is entered with its types

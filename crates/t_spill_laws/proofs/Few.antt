@@ -1,6 +1,6 @@
 -- No register of what is spilled is above the bound.
 use Rattle.std.proofs.Common.{◌≡◌, ℕ, zero, suc, ◌+◌, ◌<◌, ◌≤◌, nat_lt, Bool, true, false, List, [], ◌∷◌, map, refl}
-use Rattle.std.proofs.Common.{sym}
+use Rattle.std.proofs.Common.{sym, subst}
 use Rattle.std.proofs.Common.{◌∙◌, arith, inl, inr, ◌⊎◌}
 use Rattle.std.proofs.lemmas.Bool.{cases_lt, lt-ltb}
 use Rattle.t_types.specs.Tree.{Ty, IntTy, VarTy, CodeTy, ExistsTy, TupleTy, TFile, NoRegs, MoreRegs, TFields, NoFields}
@@ -17,9 +17,10 @@ use Rattle.t_spill_rules.specs.Spill.{homed}
 use Rattle.t_spill_rules.specs.Spill.{layout}
 use Rattle.t_spill_rules.specs.Spill.{at_home, load, load_value, second_at, fill, build, defines, into, Way, Stays}
 use Rattle.t_spill_rules.specs.Spill.{Fills}
-use Rattle.t_spill_rules.specs.Spill.{Gathers, way_of, way, after, slots_by, used_by, slots, fill_slot, finish, step}
-use Rattle.t_spill_rules.specs.Spill.{code}
+use Rattle.t_spill_rules.specs.Spill.{Gathers, way_of, way, after, slots_by, used_by, slots, fill_slot, finish}
+use Rattle.t_spill_rules.specs.Spill.{target, before, code}
 use Rattle.t_spill_rules.specs.Spill.{sp_blocks, sp_data, spilled_above}
+use Rattle.t_spill_rules.proofs.Parts.{joined, stepped, step_is}
 use Rattle.t_spill_laws.specs.Bound.{InType, InFile, InFields, InTypes, InValue, InSeq, InBlocks, InData, InHeap}
 use Rattle.t_spill_laws.specs.Bound.{RegistersUpTo}
 use Rattle.t_spill_laws.proofs.Homes.{Regular, UpTo, sound_up, homed_up, into_most, gathered_regular, way_sound}
@@ -97,12 +98,13 @@ module _ (k m : ℕ) (most : m + 6 ≤ k) where
   at_most t (InFrame i) le h = omega (arith, most, le)
   at_most t (InSlot i) le h = omega (arith, most, le)
 
-  in_load : (t : ℕ) (x : Home) (rest : TSeq) → t ≤ m + 6 → InSeq k rest → InSeq k (load m t x rest)
+  in_load : (t : ℕ) (x : Home) (rest : TSeq) → t ≤ m + 6 → InSeq k rest → InSeq k (before (load m t x) rest)
   in_load t (Held q) rest le h = h
   in_load t (InFrame i) rest le h = ((omega (arith, most, le), omega (arith, most)), h)
   in_load t (InSlot i) rest le h = ((omega (arith, most, le), omega (arith, most)), h)
 
-  in_load_value : (homes : ℕ → Home) (v : TValue) (rest : TSeq) → InSeq k rest → InSeq k (load_value m homes v rest)
+  in_load_value : (homes : ℕ → Home) (v : TValue) (rest : TSeq) → InSeq k rest →
+      InSeq k (before (load_value m homes v) rest)
   in_load_value homes (Plain (Reg r) ts) rest h = in_load (second_reg m) (homes r) rest (omega arith) h
   in_load_value homes (Plain (Int i) ts) rest h = h
   in_load_value homes (Plain (Label l) ts) rest h = h
@@ -110,32 +112,33 @@ module _ (k m : ℕ) (most : m + 6 ≤ k) where
   in_load_value homes (Pack t v s) rest h = in_load_value homes v rest h
 
   in_fill : (homes : ℕ → Home) (qs : List ℕ) (j : ℕ) (rest : TSeq) → ((r : ℕ) → UpTo (m + 3) (homes r)) →
-      InSeq k rest → InSeq k (fill m homes qs j rest)
+      InSeq k rest → InSeq k (before (fill m homes qs j) rest)
   in_fill homes [] j rest up h = h
   in_fill homes (q ∷ qs) j rest up h =
-      in_load (second_reg m) (homes q) _ (omega arith) (
+      joined (InSeq k) (load m (second_reg m) (homes q)) _ rest (in_load (second_reg m) (homes q) _ (omega arith) (
         (omega (arith, most), at_most (second_reg m) (homes q) (omega arith) (up q)),
         in_fill homes qs (suc j) rest up h,
-      )
+      ))
 
-  in_build : (homes : ℕ → Home) (to : TFile) (rest : TSeq) → ((r : ℕ) → UpTo (m + 3) (homes r)) → InSeq k rest →
-      InSeq k (build m homes to rest)
-  in_build homes to rest up h = (
-    (omega (arith, most), in_cells (high_part m (sp_regs m to)) (each_high (sp_regs m to) (in_regs to))),
-    in_fill homes (numbers (high_part m to)) 0 rest up h,
-  )
+  in_build : (homes : ℕ → Home) (high : TFile) (rest : TSeq) → ((r : ℕ) → UpTo (m + 3) (homes r)) → InSeq k rest →
+      InSeq k (before (build m homes high) rest)
+  in_build homes high rest up h =
+      ((omega (arith, most), in_cells (sp_regs m high) (in_regs high)), in_fill homes (numbers high) 0 rest up h)
 
-  in_slot : (used : ℕ) (ts : List Ty) (rest : TSeq) → InTypes k ts → InSeq k rest → InSeq k (fill_slot m used ts rest)
+  in_slot : (used : ℕ) (ts : List Ty) (rest : TSeq) → InTypes k ts → InSeq k rest →
+      InSeq k (before (fill_slot m used ts) rest)
   in_slot zero ts rest ht h = ((omega (arith, most), ht), ((omega (arith, most), omega (arith, most)), h))
   in_slot (suc j) ts rest ht h = ((omega (arith, most), omega (arith, most)), h)
 
   in_finish : (L : Layout) (rd : ℕ) (ts : List Ty) (to : TFile) (w : Way) (rest : TSeq) → Regular m L → InTypes k ts →
-      InSeq k rest → InSeq k (finish m L rd ts to w rest)
+      InSeq k rest → InSeq k (before (finish m L rd ts to w) rest)
   in_finish L rd ts to Stays rest reg ht h = h
   in_finish L rd ts to Fills rest reg ht h = in_slot L.used ts rest ht h
   in_finish L rd ts to Gathers rest reg ht h =
-      in_build (homed L.homes rd (Held (into m rd))) to _ (λ r. homed_up m L rd r reg)
-      ((omega (arith, most), (omega (arith, most), tt)), h)
+      let homes = homed L.homes rd (Held (into m rd)) in
+      joined (InSeq k) (build m homes (high_part m to)) _ rest
+      (in_build homes (high_part m to) _ (λ r. homed_up m L rd r reg)
+      ((omega (arith, most), (omega (arith, most), tt)), h))
 
   by_in : (w : Way) (t : Ty) (ts : List Ty) → InType k t → InTypes k ts → InTypes k (slots_by w t ts)
   by_in Stays t ts h l = l
@@ -148,7 +151,7 @@ module _ (k m : ℕ) (most : m + 6 ≤ k) where
       (in_slots P c (used_by (way m used i) used) (kept P x i c))
   in_slots P (Ends e) used x = tt
 
-  module _ (P : TProg) (L : Layout) (reg : Regular m L) where
+  module _ (L : Layout) (reg : Regular m L) where
     up : (r : ℕ) → UpTo (m + 3) (L.homes r)
     up r = sound_up m L.used r (m + 3) (L.homes r) (omega arith) (reg r)
 
@@ -161,15 +164,15 @@ module _ (k m : ℕ) (most : m + 6 ≤ k) where
     here : (rd : ℕ) → into m rd ≤ k
     here rd = let a = into_most m rd in omega (arith, a, most)
 
-    in_step : (i : TInstr) (x : TFile) (ts : List Ty) (to : TFile) (rest : TSeq) → InTypes k ts → InSeq k rest →
-        InSeq k (step m P L x i ts to rest)
-    in_step (Arith op rd rs v) x ts to rest ht h =
+    in_step : (i : TInstr) (high : TFile) (ts : List Ty) (to : TFile) (rest : TSeq) → InTypes k ts → InSeq k rest →
+        InSeq k (stepped m L high i ts to rest)
+    in_step (Arith op rd rs v) high ts to rest ht h =
         in_load (first_reg m) (L.homes rs) _ (omega arith) (in_load_value L.homes v _ (
           (here rd, first rs, in_value (second_at m L.homes) v second),
           in_finish L rd ts to (way_of m L.used rd) rest reg ht h,
         ))
-    in_step (Bnz r v) x ts to rest ht h =
-        in_build L.homes (target_file (type_of P x v)) _ up
+    in_step (Bnz r v) high ts to rest ht h =
+        in_build L.homes high _ up
         (in_load (first_reg m) (L.homes r) _ (omega arith) (in_load_value L.homes v _ (
           (omega (arith, most), (omega (arith, most), tt)),
           (
@@ -180,20 +183,20 @@ module _ (k m : ℕ) (most : m + 6 ≤ k) where
             ),
           ),
         )))
-    in_step (Ld rd rs i) x ts to rest ht h =
+    in_step (Ld rd rs i) high ts to rest ht h =
         in_load (first_reg m) (L.homes rs) _ (omega arith)
         ((here rd, first rs), in_finish L rd ts to (way_of m L.used rd) rest reg ht h)
-    in_step (Malloc rd us) x ts to rest ht h =
+    in_step (Malloc rd us) high ts to rest ht h =
         ((here rd, in_types us), in_finish L rd ts to (way_of m L.used rd) rest reg ht h)
-    in_step (Mov rd v) x ts to rest ht h =
+    in_step (Mov rd v) high ts to rest ht h =
         in_load_value L.homes v _ (
           (here rd, in_value (second_at m L.homes) v second),
           in_finish L rd ts to (way_of m L.used rd) rest reg ht h,
         )
-    in_step (St rd i rs) x ts to rest ht h =
+    in_step (St rd i rs) high ts to rest ht h =
         in_load (first_reg m) (L.homes rd) _ (omega arith) (in_load (second_reg m) (L.homes rs) _ (omega arith)
         ((here rd, second rs), in_finish L rd ts to (way_of m L.used rd) rest reg ht h))
-    in_step (Unpack rd v) x ts to rest ht h =
+    in_step (Unpack rd v) high ts to rest ht h =
         in_load_value L.homes v _ (
           (here rd, in_value (second_at m L.homes) v second),
           in_finish L rd ts to Gathers rest reg ht h,
@@ -201,11 +204,13 @@ module _ (k m : ℕ) (most : m + 6 ≤ k) where
 
   in_code : (P : TProg) (c : TSeq) (L : Layout) (x : TFile) → Regular m L → InSeq k (code m P L x c)
   in_code P (Then i c) L x reg =
-      in_step P L reg i x (slots m P L.used x (Then i c)) (kept P x i c) _ (in_slots P (Then i c) L.used x)
-      (in_code P c (after m L i (kept P x i c)) (kept P x i c) (way_sound m L i (kept P x i c) reg))
+      subst (InSeq k) (sym (step_is m P L x i c _))
+      (in_step L reg i (high_part m (target P x i)) (slots m P L.used x (Then i c)) (kept P x i c) _
+      (in_slots P (Then i c) L.used x)
+      (in_code P c (after m L i (kept P x i c)) (kept P x i c) (way_sound m L i (kept P x i c) reg)))
   in_code P (Ends (Jmp v)) L x reg =
-      in_build L.homes (target_file (type_of P x v)) _ (up P L reg) (in_load_value L.homes v _
-      ((omega (arith, most), (omega (arith, most), tt)), in_value (second_at m L.homes) v (second P L reg)))
+      in_build L.homes (high_part m (target_file (type_of P x v))) _ (up L reg) (in_load_value L.homes v _
+      ((omega (arith, most), (omega (arith, most), tt)), in_value (second_at m L.homes) v (second L reg)))
   in_code P (Ends Halt) L x reg = tt
 
   in_blocks : (P : TProg) (bs : List TBlock) → InBlocks k (sp_blocks m P bs)

@@ -9,13 +9,13 @@ use Rattle.t_types.specs.Tree.{MoreFields, put, BelowFile, BelowTypes}
 use Rattle.t_types.specs.Fields.{AField, field, filled, empty_fields}
 use Rattle.t_types.specs.Fits.{Fits, FitsFile, RegTypes, lookup}
 use Rattle.t_types.proofs.FitsLaws.{filled_field}
-use Rattle.t_terms.specs.Tree.{TBase, Reg, Int, Label, Data, TValue, Plain, Pack, Malloc, Mov}
+use Rattle.t_terms.specs.Tree.{TBase, Reg, Int, Label, Data, TValue, Plain, Pack, Mov}
 use Rattle.t_terms.specs.Tree.{TSeq, Then, TBlock, TData, TProg}
 use Rattle.t_terms.specs.Registers.{with_reg}
 use Rattle.t_rules.specs.Rules.{BaseHas, Has, SeqAccepted}
 use Rattle.t_spill_rules.specs.Spill.{high_part, frame, cells, frame_reg, slot_reg, first_reg, second_reg, made_reg}
 use Rattle.t_spill_rules.specs.Spill.{sp, sp_regs, sp_file, sp_base, sp_value}
-use Rattle.t_spill_rules.specs.Spill.{reg, numbers}
+use Rattle.t_spill_rules.specs.Spill.{reg, numbers, before}
 use Rattle.t_spill_rules.specs.Spill.{Home, Held, InFrame, InSlot, Layout, homed, layout, at_home, load, load_value}
 use Rattle.t_spill_rules.specs.Spill.{second_at, fill, build, gather, into, Way, Stays, Fills, Gathers}
 use Rattle.t_spill_rules.specs.Spill.{after_way, slots_by, used_by, fill_slot, finish, sp_block}
@@ -25,6 +25,7 @@ use Rattle.t_spill_laws.proofs.TypeLaws.{below_cells, below_sp, below_regs, belo
 use Rattle.t_spill_laws.proofs.Files.{look_same, look_other}
 use Rattle.t_spill_laws.proofs.Files.{fits_high, prefix, prefix_more, field_prefix}
 use Rattle.t_spill_rules.proofs.HighParts.{high_regs}
+use Rattle.t_spill_rules.proofs.Parts.{joined}
 use Rattle.t_spill_laws.proofs.Files.{filled_prefix}
 use Rattle.t_spill_laws.proofs.Homes.{Sound, Regular, UpTo, sound_held, into_high, into_low}
 use Rattle.t_spill_laws.proofs.Homes.{homed_up, WayFits}
@@ -77,7 +78,7 @@ module _ (m : ℕ) (P Q : TProg) (labels : Labels m P Q) (tuples : Tuples m P Q)
   -- an operand is read
   pub load_ok : (n t : ℕ) (g : RegTypes) (x : Home) (u : Ty) (rest : TSeq) → HomeHas m g x u →
       ((h : RegTypes) → h (at_home t x) ≡ Some u → ((q : ℕ) → q ≢ t → h q ≡ g q) → SeqAccepted Q n h rest) →
-      SeqAccepted Q n g (load m t x rest)
+      SeqAccepted Q n g (before (load m t x) rest)
   load_ok n t g (Held q) u rest e go = go g e (λ p ne. refl)
   load_ok n t g (InFrame i) u rest e go =
       (with_reg g t u, (e.0, u, e.1, e.2, refl), go (with_reg g t u) (look_same g t u) (λ q ne. look_other g t q u ne))
@@ -88,7 +89,7 @@ module _ (m : ℕ) (P Q : TProg) (labels : Labels m P Q) (tuples : Tuples m P Q)
       Has P n (lookup file) v t → Located m homes (lookup file) g →
       ((h : RegTypes) → Loaded m file h (second_at m homes) v → ((q : ℕ) → q ≢ second_reg m → h q ≡ g q) →
       SeqAccepted Q n h rest) →
-      SeqAccepted Q n g (load_value m homes v rest)
+      SeqAccepted Q n g (before (load_value m homes v) rest)
   load_value_ok file homes g (Plain (Reg r) []) t n rest h l go =
       load_ok n (second_reg m) g (homes r) (sp m t) rest (l r t h)
       (λ k e o. go k (λ u x. let s : Some t ≡ Some u = sym h ∙ x in e ∙ ap (option_map (sp m)) s) o)
@@ -108,11 +109,12 @@ module _ (m : ℕ) (P Q : TProg) (labels : Labels m P Q) (tuples : Tuples m P Q)
       g (made_reg m) ≡ Some (TupleTy (prefix done (empty_fields (cells (sp_regs m to))))) →
       ((h : RegTypes) → h (made_reg m) ≡ Some (TupleTy (prefix done (frame (sp_regs m to)))) →
       ((q : ℕ) → q ≢ second_reg m → q ≢ made_reg m → h q ≡ g q) → SeqAccepted Q n h rest) →
-      SeqAccepted Q n g (fill m homes (numbers to) j rest)
+      SeqAccepted Q n g (before (fill m homes (numbers to) j) rest)
   fill_ok homes k NoRegs g done j n rest up l fits len five go = go g five (λ q a b. refl)
   fill_ok homes k (MoreRegs q u to) g done j n rest up l fits len five go =
       let w = fits.0.0 in
-      load_ok n (second_reg m) g (homes q) (sp m fits.0.0) _ (l q fits.0.0 fits.0.1) (λ g1 at o.
+      joined (SeqAccepted Q n g) (load m (second_reg m) (homes q)) _ rest
+      (load_ok n (second_reg m) g (homes q) (sp m fits.0.0) _ (l q fits.0.0 fits.0.1) (λ g1 at o.
       let fs = prefix done (MoreFields (sp m u) false (empty_fields (cells (sp_regs m to)))) in
       let fs2 = prefix (done ++ (sp m u ∷ [])) (empty_fields (cells (sp_regs m to))) in
       let g2 : RegTypes = with_reg g1 (made_reg m)
@@ -145,42 +147,28 @@ module _ (m : ℕ) (P Q : TProg) (labels : Labels m P Q) (tuples : Tuples m P Q)
             (look_same g1 (made_reg m) (TupleTy fs2))
             (λ h x z. go h (x ∙ ap (λ y. Some (TupleTy y)) (prefix_more done (sp m u) (frame (sp_regs m to))))
             (λ p a b. z p a b ∙ same p a b)),
-      ))
+      )))
 
   -- and made
-  pub made_ok : (homes : ℕ → Home) (k : RegTypes) (to z : TFile) (g : RegTypes) (n : ℕ) (rest : TSeq) →
-      sp_regs m to ≡ z →
-      ((r : ℕ) → UpTo (m + 3) (homes r)) → Located m homes k g → FitsFile k to → BelowFile n (sp_regs m to) →
-      ((h : RegTypes) → h (made_reg m) ≡ Some (TupleTy (frame z)) →
-      ((q : ℕ) → q ≢ second_reg m → q ≢ made_reg m → h q ≡ g q) → SeqAccepted Q n h rest) →
-      SeqAccepted Q n g (Then (Malloc (made_reg m) (cells z)) (fill m homes (numbers to) 0 rest))
-  made_ok homes k to z g n rest e up l fits small go =
-      subst
-      (λ y. ((h : RegTypes) → h (made_reg m) ≡ Some (TupleTy (frame y)) →
-      ((q : ℕ) → q ≢ second_reg m → q ≢ made_reg m → h q ≡ g q) → SeqAccepted Q n h rest) →
-      SeqAccepted Q n g (Then (Malloc (made_reg m) (cells y)) (fill m homes (numbers to) 0 rest))) e
-      (λ go2.
-      let t = TupleTy (empty_fields (cells (sp_regs m to))) in
-      let g1 : RegTypes = with_reg g (made_reg m) (TupleTy (empty_fields (cells (sp_regs m to)))) in
-      let same : (p : ℕ) → p ≢ made_reg m → g1 p ≡ g p = λ p a. look_other g (made_reg m) p t a in (
-        g1,
-        (refl, below_cells n (sp_regs m to) small),
-        fill_ok homes k to g1 [] 0 n rest up
-            (located_same m (m + 3) homes k g g1 (omega arith) up (λ p le. same p (λ x. absurd (omega arith))) l) fits
-            refl
-            (look_same g (made_reg m) t) (λ h x o. go2 h x (λ p a b. o p a b ∙ same p b)),
-      )) go
-
   pub build_ok : (homes : ℕ → Home) (k : RegTypes) (to : TFile) (g : RegTypes) (n : ℕ) (rest : TSeq) →
       ((r : ℕ) → UpTo (m + 3) (homes r)) →
       Located m homes k g → FitsFile k to → BelowFile n to →
       ((h : RegTypes) → h (made_reg m) ≡ Some (TupleTy (frame (high_part m (sp_regs m to)))) →
       ((q : ℕ) → q ≢ second_reg m → q ≢ made_reg m → h q ≡ g q) → SeqAccepted Q n h rest) →
-      SeqAccepted Q n g (build m homes to rest)
+      SeqAccepted Q n g (before (build m homes (high_part m to)) rest)
   build_ok homes k to g n rest up l fits small go =
-      made_ok homes k (high_part m to) (high_part m (sp_regs m to)) g n rest (sym (high_regs m m to)) up l
-      (fits_high k m to fits)
-      (below_regs m n (high_part m to) (below_high n m to small)) go
+      let high = high_part m to in
+      let t = TupleTy (empty_fields (cells (sp_regs m (high_part m to)))) in
+      let g1 : RegTypes = with_reg g (made_reg m) (TupleTy (empty_fields (cells (sp_regs m (high_part m to))))) in
+      let same : (p : ℕ) → p ≢ made_reg m → g1 p ≡ g p = λ p a. look_other g (made_reg m) p t a in (
+        g1,
+        (refl, below_cells n (sp_regs m high) (below_regs m n high (below_high n m to small))),
+        fill_ok homes k high g1 [] 0 n rest up
+            (located_same m (m + 3) homes k g g1 (omega arith) up (λ p le. same p (λ x. absurd (omega arith))) l)
+            (fits_high k m to fits) refl (look_same g (made_reg m) t)
+            (λ h x o. go h (x ∙ ap (λ y. Some (TupleTy (frame y))) (sym (high_regs m m to)))
+            (λ p a b. o p a b ∙ same p b)),
+      )
 
   -- a frame in the place of the old one
   pub gather_ok : (homes : ℕ → Home) (k : RegTypes) (to : TFile) (g : RegTypes) (n : ℕ) (rest : TSeq) →
@@ -190,9 +178,10 @@ module _ (m : ℕ) (P Q : TProg) (labels : Labels m P Q) (tuples : Tuples m P Q)
       ((r : ℕ) (t : Ty) → lookup to r ≡ Some t → k r ≡ Some t) →
       ((h : RegTypes) → Located m (layout m to).homes (lookup to) h → (t : Ty) × (h (frame_reg m) ≡ Some t) →
       SeqAccepted Q n h rest) →
-      SeqAccepted Q n g (gather m homes to rest)
+      SeqAccepted Q n g (before (gather m homes (high_part m to)) rest)
   gather_ok homes k to g n rest up low l fits small sub go =
-      build_ok homes k to g n (Then (Mov (frame_reg m) (reg (made_reg m))) rest) up l fits small (λ h e o.
+      joined (SeqAccepted Q n g) (build m homes (high_part m to)) _ rest
+      (build_ok homes k to g n (Then (Mov (frame_reg m) (reg (made_reg m))) rest) up l fits small (λ h e o.
       let t = TupleTy (frame (high_part m (sp_regs m to))) in
       let h2 : RegTypes = with_reg h (frame_reg m) t in
       let one : h2 (frame_reg m) ≡ Some t = look_same h (frame_reg m) t in (
@@ -202,7 +191,7 @@ module _ (m : ℕ) (P Q : TProg) (labels : Labels m P Q) (tuples : Tuples m P Q)
             (entered_at m to k h2 sub (λ r u le z. look_other h (frame_reg m) r t (λ x. absurd (omega arith))
             ∙ o r (λ x. absurd (omega arith)) (λ x. absurd (omega arith)) ∙ low r u le z) one)
             (t, one),
-      ))
+      )))
 
   -- a word goes into the next slot
   pub slot_home : (used rd r : ℕ) (g : RegTypes) (fs : TFields) (x : Home) (t : Ty) → Sound m (suc used) r x →
@@ -238,7 +227,7 @@ module _ (m : ℕ) (P Q : TProg) (labels : Labels m P Q) (tuples : Tuples m P Q)
       ((r : ℕ) (t : Ty) → r ≢ rd → k r ≡ Some t → HomeHas m g (homes r) (sp m t)) → k2 ≡ with_reg k rd u →
       Room m used g (sp m u ∷ ts) → BelowTypes n (sp m u ∷ ts) →
       (t : Ty) × (g (frame_reg m) ≡ Some t) → Goes n (record { homes = homes; used = used }) rd k2 ts rest →
-      SeqAccepted Q n g (fill_slot m used (sp m u ∷ ts) rest)
+      SeqAccepted Q n g (before (fill_slot m used (sp m u ∷ ts)) rest)
   slot_ok homes zero rd u k k2 ts g n rest reg t1 old same room small fr go =
       let fs = MoreFields (sp m u) false (empty_fields ts) in
       let w = TupleTy (MoreFields (sp m u) false (empty_fields ts)) in
@@ -300,7 +289,7 @@ module _ (m : ℕ) (P Q : TProg) (labels : Labels m P Q) (tuples : Tuples m P Q)
       × (g (frame_reg m) ≡ Some t) →
       ((h : RegTypes) → Located m (after_way m L rd to w).homes (lookup to) h → Room m (used_by w L.used) h ts →
       (t : Ty) × (h (frame_reg m) ≡ Some t) → SeqAccepted Q n h rest) →
-      SeqAccepted Q n g (finish m L rd (slots_by w v ts) to w rest)
+      SeqAccepted Q n g (before (finish m L rd (slots_by w v ts) to w) rest)
   finish_ok L rd u v k k2 ts to Stays g n rest reg wf def same e fits sub small room below fr go =
       go g (λ r t z. stays r t (sub r t z)) room fr
     where
@@ -317,7 +306,7 @@ module _ (m : ℕ) (P Q : TProg) (labels : Labels m P Q) (tuples : Tuples m P Q)
           (cases_eq r rd)
   finish_ok L rd u v k k2 ts to Fills g n rest reg wf def same e fits sub small room below fr go =
       subst (λ y. Room m L.used g (y ∷ ts) → BelowTypes n (y ∷ ts) →
-      SeqAccepted Q n g (fill_slot m L.used (y ∷ ts) rest)) (sym e)
+      SeqAccepted Q n g (before (fill_slot m L.used (y ∷ ts)) rest)) (sym e)
       (λ room2 below2. slot_ok L.homes L.used rd u k k2 ts g n rest reg (ap g (sym (into_high m rd wf.0))
       ∙ def.0) def.1 same room2 below2 fr
       (λ h l r f. go h (λ q t z. l q t (sub q t z)) r f)) room below

@@ -1,7 +1,7 @@
 -- The text of what is spilled has at most three constructs more open than the program's types reach.
 use Rattle.std.proofs.Common.{ℕ, zero, suc, ◌+◌, ◌≤◌, nat_eq, nat_lt, cond, Bool, true, false, List, [], ◌∷◌, length}
 use Rattle.std.proofs.Common.{map}
-use Rattle.std.proofs.Common.{Some, arith}
+use Rattle.std.proofs.Common.{Some, arith, sym, ap, subst}
 use Rattle.std.specs.Prelude.{max}
 use Rattle.t_types.specs.Tree.{Ty, IntTy, VarTy, CodeTy, ExistsTy, TupleTy, TFile, NoRegs, MoreRegs, TFields, NoFields}
 use Rattle.t_types.specs.Tree.{MoreFields}
@@ -19,8 +19,10 @@ use Rattle.t_spill_rules.specs.Spill.{target_file, next, numbers, kept, or_int, 
 use Rattle.t_spill_rules.specs.Spill.{homed}
 use Rattle.t_spill_rules.specs.Spill.{layout, load, load_value, second_at, fill, build, defines, into, Way, Stays}
 use Rattle.t_spill_rules.specs.Spill.{Fills, Gathers, way_of, way, after, slots_by, used_by, slots, fill_slot, finish}
-use Rattle.t_spill_rules.specs.Spill.{step}
+use Rattle.t_spill_rules.specs.Spill.{target, before}
 use Rattle.t_spill_rules.specs.Spill.{code, sp_blocks, sp_data, spilled_above}
+use Rattle.t_spill_rules.proofs.HighParts.{high_regs}
+use Rattle.t_spill_rules.proofs.Parts.{joined, stepped, step_is}
 use Rattle.t_terms.specs.Flat.{FlatValue, FlatInstr, FlatSeq, FlatBlocks, FlatData, FlatHeap, Flat}
 use Rattle.t_terms.specs.Reach.{type_reach, regs_reach, fields_reach, types_reach}
 use Rattle.t_spill_laws.specs.Reach.{value_reach, instr_reach, seq_reach, blocks_reach, data_reach, heap_reach, reach}
@@ -82,10 +84,13 @@ types_most : (m : ℕ) (ts : List Ty) → types_nesting (map (sp m) ts) ≤ type
 types_most m [] = omega arith
 types_most m (t ∷ ts) = let a = type_most m t in let b = types_most m ts in omega (arith, a, b)
 
-high_cells : (m : ℕ) (x : TFile) → types_nesting (cells (high_part m (sp_regs m x))) ≤ regs_reach x
+high_cells : (m : ℕ) (x : TFile) → types_nesting (cells (sp_regs m (high_part m x))) ≤ regs_reach x
 high_cells m x =
-    let a = cells_most (high_part m (sp_regs m x)) in let b = high_most m (sp_regs m x) in let c = regs_most m x in
-    omega (arith, a, b, c)
+    let a = cells_most (sp_regs m (high_part m x)) in
+    let b = high_most m (sp_regs m x) in
+    let c = regs_most m x in
+    let e = ap regs_nesting (high_regs m m x) in
+    omega (arith, a, b, c, e)
 
 plain_most : (m : ℕ) (at : ℕ → ℕ) (b : TBase) (ts : List Ty) →
     value_nesting (sp_value m at (Plain b ts)) ≤ 1 + types_reach ts
@@ -132,13 +137,13 @@ slots_most m k P (Then i c) used x h =
 slots_most m k P (Ends e) used x h = omega arith
 
 module _ (n : ℕ) (some : 2 ≤ n) (m : ℕ) where
-  load_most : (t : ℕ) (x : Home) (rest : TSeq) → seq_nesting rest ≤ n → seq_nesting (load m t x rest) ≤ n
+  load_most : (t : ℕ) (x : Home) (rest : TSeq) → seq_nesting rest ≤ n → seq_nesting (before (load m t x) rest) ≤ n
   load_most t (Held q) rest h = h
   load_most t (InFrame i) rest h = omega (arith, h, some)
   load_most t (InSlot i) rest h = omega (arith, h, some)
 
   load_value_most : (homes : ℕ → Home) (v : TValue) (rest : TSeq) → seq_nesting rest ≤ n →
-      seq_nesting (load_value m homes v rest) ≤ n
+      seq_nesting (before (load_value m homes v) rest) ≤ n
   load_value_most homes (Plain (Reg r) ts) rest h = load_most (second_reg m) (homes r) rest h
   load_value_most homes (Plain (Int i) ts) rest h = h
   load_value_most homes (Plain (Label l) ts) rest h = h
@@ -146,31 +151,35 @@ module _ (n : ℕ) (some : 2 ≤ n) (m : ℕ) where
   load_value_most homes (Pack t v s) rest h = load_value_most homes v rest h
 
   fill_most : (homes : ℕ → Home) (qs : List ℕ) (j : ℕ) (rest : TSeq) → seq_nesting rest ≤ n →
-      seq_nesting (fill m homes qs j rest) ≤ n
+      seq_nesting (before (fill m homes qs j) rest) ≤ n
   fill_most homes [] j rest h = h
   fill_most homes (q ∷ qs) j rest h =
-      let b = fill_most homes qs (suc j) rest h in load_most (second_reg m) (homes q) _ (omega (arith, b, some))
+      let b = fill_most homes qs (suc j) rest h in
+      joined (λ c. seq_nesting c ≤ n) (load m (second_reg m) (homes q)) _ rest
+      (load_most (second_reg m) (homes q) _ (omega (arith, b, some)))
 
   build_most : (homes : ℕ → Home) (to : TFile) (rest : TSeq) → regs_reach to + 1 ≤ n → seq_nesting rest ≤ n →
-      seq_nesting (build m homes to rest) ≤ n
+      seq_nesting (before (build m homes (high_part m to)) rest) ≤ n
   build_most homes to rest le h =
       let a = high_cells m to in let b = fill_most homes (numbers (high_part m to)) 0 rest h in omega (arith, a, b, le)
 
   slot_most : (used : ℕ) (ts : List Ty) (rest : TSeq) → types_nesting ts + 1 ≤ n → seq_nesting rest ≤ n →
-      seq_nesting (fill_slot m used ts rest) ≤ n
+      seq_nesting (before (fill_slot m used ts) rest) ≤ n
   slot_most zero ts rest le h = omega (arith, le, h, some)
   slot_most (suc j) ts rest le h = omega (arith, h, some)
 
   finish_most : (L : Layout) (rd : ℕ) (ts : List Ty) (to : TFile) (w : Way) (rest : TSeq) → types_nesting ts + 1 ≤ n →
-      regs_reach to + 1 ≤ n → seq_nesting rest ≤ n → seq_nesting (finish m L rd ts to w rest) ≤ n
+      regs_reach to + 1 ≤ n → seq_nesting rest ≤ n → seq_nesting (before (finish m L rd ts to w) rest) ≤ n
   finish_most L rd ts to Stays rest ht nx h = h
   finish_most L rd ts to Fills rest ht nx h = slot_most L.used ts rest ht h
   finish_most L rd ts to Gathers rest ht nx h =
-      build_most (homed L.homes rd (Held (into m rd))) to _ nx (omega (arith, h))
+      let homes = homed L.homes rd (Held (into m rd)) in
+      joined (λ c. seq_nesting c ≤ n) (build m homes (high_part m to)) _ rest
+      (build_most homes to _ nx (omega (arith, h)))
 
   step_most : (P : TProg) (L : Layout) (x : TFile) (i : TInstr) (ts : List Ty) (to : TFile) (rest : TSeq) →
       FlatInstr i → instr_reach P x i + 2 ≤ n → types_nesting ts + 1 ≤ n → regs_reach to + 2 ≤ n →
-      seq_nesting rest ≤ n → seq_nesting (step m P L x i ts to rest) ≤ n
+      seq_nesting rest ≤ n → seq_nesting (stepped m L (high_part m (target P x i)) i ts to rest) ≤ n
   step_most P L x (Arith op rd rs v) ts to rest f le ht nx h =
       let a = value_most m (second_at m L.homes) v f in
       let b = finish_most L rd ts to (way_of m L.used rd) rest ht (omega (arith, nx)) h in
@@ -203,9 +212,10 @@ module _ (n : ℕ) (some : 2 ≤ n) (m : ℕ) where
       seq_nesting (code m P L x c) ≤ n
   code_most P k (Then i c) L x le f h =
       let s = slots_most m k P (Then i c) L.used x h in
-      step_most P L x i (slots m P L.used x (Then i c)) (kept P x i c) _ f.0 (omega (arith, h.0, le))
+      subst (λ d. seq_nesting d ≤ n) (sym (step_is m P L x i c _))
+      (step_most P L x i (slots m P L.used x (Then i c)) (kept P x i c) _ f.0 (omega (arith, h.0, le))
       (omega (arith, s, le)) (omega (arith, h.1, le))
-      (code_most P k c (after m L i (kept P x i c)) (kept P x i c) le f.1 h.3)
+      (code_most P k c (after m L i (kept P x i c)) (kept P x i c) le f.1 h.3))
   code_most P k (Ends (Jmp v)) L x le f h =
       let a = value_most m (second_at m L.homes) v f in
       let t = target_most (type_of P x v) in

@@ -16,12 +16,13 @@ use Rattle.t_terms.specs.Registers.{with_reg, raised, no_types}
 use Rattle.t_rules.specs.Rules.{Has, Enters, Typed, SeqAccepted, BlocksAccepted, DataAccepted, HeapAccepted}
 use Rattle.t_rules.specs.Rules.{FirstTakesNothing, Accepted}
 use Rattle.t_spill_rules.specs.Spill.{high_part, frame, frame_reg, slot_reg, first_reg, second_reg, made_reg}
-use Rattle.t_spill_rules.specs.Spill.{saved_reg, sp, sp_regs, sp_fields, sp_file, sp_value, ins, or_int, type_of}
+use Rattle.t_spill_rules.specs.Spill.{saved_reg, sp, sp_regs, sp_fields, sp_file, ins, or_int, type_of}
 use Rattle.t_spill_rules.specs.Spill.{type_in, field_type, filled_type, hidden_type, target_file, next, reg, kept}
-use Rattle.t_spill_rules.specs.Spill.{Layout, layout, at_home, load, load_value}
-use Rattle.t_spill_rules.specs.Spill.{second_at, build, defines, into, Way, Stays, Fills, Gathers, way_of, way}
-use Rattle.t_spill_rules.specs.Spill.{after_way, after, slots_by, used_by, slots, finish, step, code, sp_block}
+use Rattle.t_spill_rules.specs.Spill.{Layout, layout, at_home}
+use Rattle.t_spill_rules.specs.Spill.{second_at, target, before, defines, into, Way, Stays, Fills, Gathers, way_of, way}
+use Rattle.t_spill_rules.specs.Spill.{after_way, after, slots_by, used_by, slots, finish, ended, code, sp_block}
 use Rattle.t_spill_rules.specs.Spill.{sp_blocks, sp_data, entry, spilled_above}
+use Rattle.t_spill_rules.proofs.Parts.{stepped, step_is}
 use Rattle.t_spill_laws.proofs.TypeLaws.{fits_sp, field_sp, filled_sp, empty_sp}
 use Rattle.t_spill_laws.proofs.TypeLaws.{below_sp, below_regs, below_types, below_split}
 use Rattle.t_spill_laws.proofs.Files.{look_same, look_other, Ascends, lookup_ins, raised_lookup, fits_self, look_sp}
@@ -119,7 +120,7 @@ module _ (m : ℕ) (P Q : TProg) (labels : Labels m P Q) (tuples : Tuples m P Q)
       × (g (frame_reg m) ≡ Some t) →
       After n L rd to w ts rest →
       SeqAccepted Q n (with_reg g1 (into m rd) (sp m u))
-      (finish m L rd (slots_by w (sp m (or_int (lookup (ins rd u file) rd))) ts) to w rest)
+      (before (finish m L rd (slots_by w (sp m (or_int (lookup (ins rd u file) rd))) ts) to w) rest)
   put_ok file L rd u ts to w g g1 n rest reg wf l s fits sub small room below fr go =
       let g2 : RegTypes = with_reg g1 (into m rd) (sp m u) in
       let far : (x : ℕ) → m < x → x ≤ m + 2 →
@@ -148,7 +149,7 @@ module _ (m : ℕ) (P Q : TProg) (labels : Labels m P Q) (tuples : Tuples m P Q)
         BelowFile (names_after i n) to → Typed P n (lookup file) i h →
         Room m L.used g (Types i ts) → BelowTypes n (Types i ts) →
         After (names_after i n) L (defines i) to (way m L.used i) ts rest →
-        SeqAccepted Q n g (step m P L file i (Types i ts) to rest)
+        SeqAccepted Q n g (stepped m L (high_part m (target P file i)) i (Types i ts) to rest)
 
     up_m : (r : ℕ) → UpTo m (L.homes r)
     up_m = regular_up m m L (omega arith) reg
@@ -274,15 +275,11 @@ module _ (m : ℕ) (P Q : TProg) (labels : Labels m P Q) (tuples : Tuples m P Q)
         (h : RegTypes) (ts : List Ty) (rest : TSeq) → Typed P n (lookup file) (Bnz r v) h → Room m L.used g ts →
         ((h : RegTypes) → Located m L.homes (lookup file) h → Room m L.used h ts → (t : Ty)
         × (h (frame_reg m) ≡ Some t) → SeqAccepted Q n h rest) →
-        SeqAccepted Q n g (step m P L file (Bnz r v) ts file rest)
+        SeqAccepted Q n g (stepped m L (high_part m (target P file (Bnz r v))) (Bnz r v) ts file rest)
     bnz_ok r v tg h ts rest a room go =
         let dest = a.1.0 in
         subst
-        (λ z. SeqAccepted Q n g (build m L.homes z (load m (first_reg m) (L.homes r) (load_value m L.homes v
-        (Then (Mov (saved_reg m) (Plain (Reg (frame_reg m)) []))
-        (Then (Mov (frame_reg m) (Plain (Reg (made_reg m)) []))
-        (Then (Bnz (at_home (first_reg m) (L.homes r)) (sp_value m (second_at m L.homes) v))
-        (Then (Mov (frame_reg m) (Plain (Reg (saved_reg m)) [])) rest)))))))) (sym (target_is file v n a.1))
+        (λ z. SeqAccepted Q n g (stepped m L (high_part m z) (Bnz r v) ts file rest)) (sym (target_is file v n a.1))
         (build_ok m P Q labels tuples L.homes (lookup file) a.1.0 g n _ (regular_up m (m + 3) L (omega arith) reg) l
         a.1.2 (subst (BelowFile n) (target_is file v n a.1) tg) (λ g1 five o1.
         load_ok m P Q labels tuples n (first_reg m) g1 (L.homes r) IntTy _
@@ -361,10 +358,7 @@ module _ (m : ℕ) (P Q : TProg) (labels : Labels m P Q) (tuples : Tuples m P Q)
         SeqAccepted Q n g (code m P L file (Ends (Jmp v)))
     jmp_ok v tg a =
         subst
-        (λ z. SeqAccepted Q n g
-        (build m L.homes z (load_value m L.homes v
-        (Then (Mov (frame_reg m) (Plain (Reg (made_reg m)) []))
-        (Ends (Jmp (sp_value m (second_at m L.homes) v))))))) (sym (target_is file v n a))
+        (λ z. SeqAccepted Q n g (ended m L.homes (high_part m z) (Jmp v))) (sym (target_is file v n a))
         (build_ok m P Q labels tuples L.homes (lookup file) a.0 g n _ (regular_up m (m + 3) L (omega arith) reg) l a.2
         (subst (BelowFile n) (target_is file v n a) tg) (λ g1 five o1.
         load_value_ok m P Q labels tuples file L.homes g1 v (CodeTy 0 a.0) n _ a.1
@@ -417,22 +411,24 @@ module _ (m : ℕ) (P Q : TProg) (labels : Labels m P Q) (tuples : Tuples m P Q)
         let after2 = scoped_kept P p q files fields i (names_after i n) file c
         (scoped_next P p q files fields i n file k.0 h w.0 k.1) in
         let same = used_is m L (defines i) (kept P file i c) (way m L.used i) in
-        st k.0 (kept P file i c) (slots m P (used_by (way m L.used i) L.used) (kept P file i c) c) _
+        subst (SeqAccepted Q n g) (sym (step_is m P L file i c _))
+        (st k.0 (kept P file i c) (slots m P (used_by (way m L.used i) L.used) (kept P file i c) c) _
         (left i file c (scoped_ascends n file h)) (below_file 0 (names_after i n) (kept P file i c) after2) k.1
         room
         (slots_below p q files fields (Then i c) file L.used n h w k)
         (λ g2 x r f. go (after m L i (kept P file i c)) (names_after i n) g2 (way_sound m L i (kept P file i c) reg)
         after2 w.2 (kept_accepted P i (names_after i n) file c acc) x
-        (subst (λ u. Room m u g2 (slots m P u (kept P file i c) c)) (sym same) r) f)
+        (subst (λ u. Room m u g2 (slots m P u (kept P file i c) c)) (sym same) r) f))
 
     pub code_ok : (c : TSeq) (L : Layout) (file : TFile) (n : ℕ) (g : RegTypes) → Regular m L → ScopedRegs 0 n file →
         WellFormedSeq p q n c → SeqAccepted P n (lookup file) c →
         Located m L.homes (lookup file) g → Room m L.used g (slots m P L.used file c) → (t : Ty)
         × (g (frame_reg m) ≡ Some t) → SeqAccepted Q n g (code m P L file c)
     code_ok (Then (Bnz r v) c) L file n g reg h w k l room fr =
-        bnz_ok file L g n reg l fr r v (below_target p q files fields n file v h w.0.1 k.1.1) k.0
+        subst (SeqAccepted Q n g) (sym (step_is m P L file (Bnz r v) c _))
+        (bnz_ok file L g n reg l fr r v (below_target p q files fields n file v h w.0.1 k.1.1) k.0
         (slots m P L.used file c) _ k.1 room
-        (λ g2 x y f. code_ok c L file n g2 reg h w.2 (subst (λ z. SeqAccepted P n z c) k.1.2 k.2) x y f)
+        (λ g2 x y f. code_ok c L file n g2 reg h w.2 (subst (λ z. SeqAccepted P n z c) k.1.2 k.2) x y f))
     code_ok (Then (Arith op rd rs v) c) L file n g reg h w k l room fr =
         on (Arith op rd rs v) c L file n g reg h w k l room fr (arith_ok file L g n reg l fr op rd rs v)
         (λ L2 n2 g2 a b d e x y f. code_ok c L2 _ n2 g2 a b d e x y f)

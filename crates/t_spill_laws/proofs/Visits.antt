@@ -22,11 +22,11 @@ use Rattle.idx_core.specs.Arith.{is_zero}
 use Rattle.t_terms.specs.Registers.{with_reg}
 use Rattle.t_rules.proofs.OneStep.{step_one, halted_no_step}
 use Rattle.t_rules.proofs.Runs.{runs_on}
-use Rattle.t_spill_rules.specs.Spill.{Layout, layout, after as laid, kept, step_size, sizes, thens, code, entry}
+use Rattle.t_spill_rules.specs.Spill.{Layout, layout, after as laid, kept, step, sizes, code, entry}
 use Rattle.t_spill_rules.specs.Spill.{spilled_above, sp_block}
-use Rattle.t_spill_laws.specs.Correct.{origin_in, sizes_of, origin_above, IsPlaceOf, times_in, CountsKept}
+use Rattle.t_spill_laws.specs.Correct.{thens, origin_in, sizes_of, origin_above, IsPlaceOf, times_in, CountsKept}
 use Rattle.t_spill_laws.proofs.Typed.{kept_types}
-use Rattle.t_spill_laws.proofs.Erased.{esize, step_then, erase_then, slots_left}
+use Rattle.t_spill_laws.proofs.Erased.{esize, then_size}
 use Rattle.t_spill_laws.proofs.Walks.{walk, on_next, enter_step}
 use Rattle.t_spill_laws.proofs.Matching.{Matches, Seg, Sized, Ending, tail_sizes, tail_left}
 use Rattle.t_spill_laws.proofs.Meaning.{plus, plus_is, PState, On, went, so, after, after_on, ahead, trace, walk_runs}
@@ -243,11 +243,7 @@ walk_part B (suc j) (suc x) e g le h = go (estep B e) h (λ s k. walk_part B j x
 head_size : (top : ℕ) (P : TProg) (L : Layout) (x : TFile) (c : TSeq) (z : ℕ) → tail_left top P L x c ≡ suc z →
     (n : ℕ) × (sizes top P L x c ≡ n ∷ tail_sizes top P L x c) × (esize (erase_seq (code top P L x c)) ≡ n + z)
 head_size top P L x (Then i c) z e =
-    let to = kept P x i c in
-    let a = ap esize (erase_then top P L x i c) in
-    let b = step_then top P L x i to (slots_left top L.used (Then i c))
-    (erase_seq (code top P (laid top L i to) to c)) in
-    (step_size top P L x i (kept P x i c), refl, omega (arith, a, b, e))
+    let a = then_size top P L x i c in (length (step top P L x i c), refl, omega (arith, a, e))
 head_size top P L x (Ends t) z e = cc
 
 -- with j steps, of which the last may lead away, an instruction's code isn't left behind
@@ -256,10 +252,8 @@ within : (top : ℕ) (P : TProg) (L : Layout) (x : TFile) (c : TSeq) (j left k :
     tail_left top P L x c ≤ left → k ≤ j → origin_in (sizes top P L x c) k ≡ 0
 within top P L x (Then i c) j left k e low le =
     let to = kept P x i c in
-    let a = ap esize (erase_then top P L x i c) in
-    let b = step_then top P L x i to (slots_left top L.used (Then i c))
-    (erase_seq (code top P (laid top L i to) to c)) in
-    origin_first (step_size top P L x i to) (sizes top P (laid top L i to) to c) k (omega (arith, a, b, e, low, le))
+    let a = then_size top P L x i c in
+    origin_first (length (step top P L x i c)) (sizes top P (laid top L i to) to c) k (omega (arith, a, e, low, le))
 within top P L x (Ends t) j left k e low le = refl
 
 module _ (top : ℕ) (some : 1 ≤ top) (P : TProg) (whole : Whole P) (acc : Accepted P) where

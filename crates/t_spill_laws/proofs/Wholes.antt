@@ -18,11 +18,12 @@ use Rattle.t_spill_rules.specs.Spill.{frame_reg, first_reg, second_reg, made_reg
 use Rattle.t_spill_rules.specs.Spill.{high_part, low_part, frame, cells, split, sp, sp_regs, sp_fields, sp_value}
 use Rattle.t_spill_rules.specs.Spill.{type_of}
 use Rattle.t_spill_rules.specs.Spill.{target_file, or_int, next, numbers, kept, Home, Held, InFrame, InSlot, Layout}
-use Rattle.t_spill_rules.specs.Spill.{homed}
+use Rattle.t_spill_rules.specs.Spill.{homed, target, before}
+use Rattle.t_spill_rules.proofs.Parts.{joined, stepped, step_is}
 use Rattle.t_spill_rules.specs.Spill.{position, gathered, layout, at_home, load, load_value, second_at, fill, build}
 use Rattle.t_spill_rules.specs.Spill.{defines, into, Way, Stays, Fills, Gathers, most_slots, way_of, way, after_way}
 use Rattle.t_spill_rules.specs.Spill.{after}
-use Rattle.t_spill_rules.specs.Spill.{slots_by, used_by, slots, fill_slot, finish, step, code, sp_block, sp_blocks}
+use Rattle.t_spill_rules.specs.Spill.{slots_by, used_by, slots, fill_slot, finish, code, sp_block, sp_blocks}
 use Rattle.t_spill_rules.specs.Spill.{sp_data}
 use Rattle.t_spill_rules.specs.Spill.{entry, spilled_above, FewNames, values_of, ValuesFew, BlocksFew, TypesFew}
 use Rattle.t_spill_laws.proofs.Computed.{value_is, next_is}
@@ -204,13 +205,13 @@ module _ (m : ℕ) (fit : m + 6 ≤ max_number) where
 
     module _ (n : ℕ) (few : n ≤ max_names) where
       load_well : (t : ℕ) (x : Home) (rest : TSeq) → IsRegister t → Near x → WellFormedSeq p2 q n rest →
-          WellFormedSeq p2 q n (load m t x rest)
+          WellFormedSeq p2 q n (before (load m t x) rest)
       load_well t (Held r) rest h l k = k
       load_well t (InFrame i) rest h l k = ((h, one_own, l), few, k)
       load_well t (InSlot i) rest h l k = ((h, own 2 (omega arith) (omega arith), l), few, k)
 
       load_value_well : (homes : ℕ → Home) (v : TValue) (rest : TSeq) → ((r : ℕ) → Near (homes r)) →
-          WellFormedSeq p2 q n rest → WellFormedSeq p2 q n (load_value m homes v rest)
+          WellFormedSeq p2 q n rest → WellFormedSeq p2 q n (before (load_value m homes v) rest)
       load_value_well homes (Plain (Reg r) ts) rest l k =
           load_well (second_reg m) (homes r) rest (own 4 (omega arith) (omega arith)) (l r) k
       load_value_well homes (Plain (Int i) ts) rest l k = k
@@ -225,31 +226,34 @@ module _ (m : ℕ) (fit : m + 6 ≤ max_number) where
       fill_well : (homes : ℕ → Home) (low : ℕ) (to : TFile) (j : ℕ) (rest : TSeq) → ((r : ℕ) → Near (homes r)) →
           ((r : ℕ) → IsRegister r → IsRegister (second_at m homes r)) →
           RegsAbove low n to → j + length (numbers to) ≤ max_number → WellFormedSeq p2 q n rest →
-          WellFormedSeq p2 q n (fill m homes (numbers to) j rest)
+          WellFormedSeq p2 q n (before (fill m homes (numbers to) j) rest)
       fill_well homes low NoRegs j rest l ok h le k = k
       fill_well homes low (MoreRegs r t to) j rest l ok h le k =
           let lt = h.0 in
-          load_well (second_reg m) (homes r) _ (own 4 (omega arith) (omega arith)) (l r) (
+          joined (WellFormedSeq p2 q n) (load m (second_reg m) (homes r)) _ rest
+          (load_well (second_reg m) (homes r) _ (own 4 (omega arith) (omega arith)) (l r) (
             (own 5 (omega arith) (omega arith), omega (arith, le), ok r (omega (arith, lt), h.1)),
             few,
             fill_well homes r to (suc j) rest l ok h.3 (omega (arith, le)) k,
-          )
+          ))
 
       build_well : (homes : ℕ → Home) (to : TFile) (rest : TSeq) → ((r : ℕ) → Near (homes r)) →
           ((r : ℕ) → IsRegister r → IsRegister (second_at m homes r)) →
-          RegsAbove 0 n to → WellFormedSeq p2 q n rest → WellFormedSeq p2 q n (build m homes to rest)
+          RegsAbove 0 n to → WellFormedSeq p2 q n rest →
+          WellFormedSeq p2 q n (before (build m homes (high_part m to)) rest)
       build_well homes to rest l ok h k =
-          let a = highs_few m n to h in (
+          let a = highs_few m n to h in
+          let high = high_above m 0 n to h in (
             (
               own 5 (omega arith) (omega arith),
-              cells_well 0 n (high_part m (sp_regs m to)) (high_above m 0 n (sp_regs m to) (regs_well 0 n to h)),
+              cells_well 0 n (sp_regs m (high_part m to)) (regs_well 0 n (high_part m to) high),
             ),
             few,
-            fill_well homes 0 (high_part m to) 0 rest l ok (high_above m 0 n to h) (omega (arith, a)) k,
+            fill_well homes 0 (high_part m to) 0 rest l ok high (omega (arith, a)) k,
           )
 
       slot_well : (used : ℕ) (ts : List Ty) (rest : TSeq) → used ≤ most_slots → WellFormedTypes n ts →
-          WellFormedSeq p2 q n rest → WellFormedSeq p2 q n (fill_slot m used ts rest)
+          WellFormedSeq p2 q n rest → WellFormedSeq p2 q n (before (fill_slot m used ts) rest)
       slot_well zero ts rest le h k = (
         (own 2 (omega arith) (omega arith), h),
         few,
@@ -260,13 +264,14 @@ module _ (m : ℕ) (fit : m + 6 ≤ max_number) where
 
       finish_well : (L : Layout) (rd : ℕ) (ts : List Ty) (to : TFile) (w : Way) (rest : TSeq) → Regular m L →
           NearLayout L → IsRegister rd → RegsAbove 0 n to → WellFormedTypes n ts → WellFormedSeq p2 q n rest →
-          WellFormedSeq p2 q n (finish m L rd ts to w rest)
+          WellFormedSeq p2 q n (before (finish m L rd ts to w) rest)
       finish_well L rd ts to Stays rest reg l hd h ht k = k
       finish_well L rd ts to Fills rest reg l hd h ht k = slot_well L.used ts rest l.1 ht k
       finish_well L rd ts to Gathers rest reg l hd h ht k =
-          build_well (homed L.homes rd (Held (into m rd))) to _ (λ r. homed_near L rd r l)
-          (λ r z. homed_own L rd r reg hd z) h
-          (mov_well (frame_reg m) (made_reg m) rest one_own (own 5 (omega arith) (omega arith)) k)
+          let homes = homed L.homes rd (Held (into m rd)) in
+          joined (WellFormedSeq p2 q n) (build m homes (high_part m to)) _ rest
+          (build_well homes to _ (λ r. homed_near L rd r l) (λ r z. homed_own L rd r reg hd z) h
+          (mov_well (frame_reg m) (made_reg m) rest one_own (own 5 (omega arith) (omega arith)) k))
 
     -- a branch's target
     abbrev TargetAbove : TProg → ℕ → TFile → TInstr → Type 0
@@ -286,7 +291,7 @@ module _ (m : ℕ) (fit : m + 6 ≤ max_number) where
           names_after i n ≤ max_names → RegsAbove 0 (names_after i n) to → WellFormedTypes (names_after i n) ts →
           TargetAbove P n x i →
           WellFormedInstr p q n i → WellFormedSeq p2 q (names_after i n) rest →
-          WellFormedSeq p2 q n (step m P L x i ts to rest)
+          WellFormedSeq p2 q n (stepped m L (high_part m (target P x i)) i ts to rest)
       step_well (Arith op rd rs v) n x ts to rest few f2 nx ht tg w k =
           load_well n few (first_reg m) (L.homes rs) _ (own 3 (omega arith) (omega arith)) (near.0 rs)
           (load_value_well n few L.homes v _ near.0 (
@@ -423,11 +428,12 @@ module _ (m : ℕ) (fit : m + 6 ≤ max_number) where
           WellFormedSeq p2 q n (code m P L x c)
       code_well (Then i c) L n x reg near few h w k f =
           let nx = next_above i c n x h w k f in
-          step_well P L reg near i n x (slots m P L.used x (Then i c)) (kept P x i c) _ few w.1 nx.1
+          subst (WellFormedSeq p2 q n) (sym (step_is m P L x i c _))
+          (step_well P L reg near i n x (slots m P L.used x (Then i c)) (kept P x i c) _ few w.1 nx.1
           (types_after i c L.used n x h w k f) (instr_above i n x k.0 h w.0 k.1 f.0) w.0
           (code_well c (after m L i (kept P x i c)) (names_after i n) (kept P x i c)
           (way_sound m L i (kept P x i c) reg) (near_after m (names_after i n) L i (kept P x i c) nx.1 near) w.1
-          nx.1 w.2 (rest_accepted i c n x k) f.3)
+          nx.1 w.2 (rest_accepted i c n x k) f.3))
       code_well (Ends (Jmp v)) L n x reg near few h w k f =
           build_well n few L.homes (target_file (type_of P x v)) _ near.0 (λ s z. second_own L s reg z)
           (enters_above n x v h w k f)

@@ -1,17 +1,17 @@
 -- What holds of what is spilled.
 use Rattle.std.specs.Prelude.{◌≡◌, ℕ, ℤ, zero, suc, ◌-◌, ◌≤◌, nat_lt, cond, List, [], ◌∷◌, Option, Some, None}
 use Rattle.std.specs.Prelude.{slice_get, count_by}
-use Rattle.t_terms.specs.Tree.{TBlock, TProg}
+use Rattle.t_terms.specs.Tree.{TSeq, Then, Ends, TBlock, TProg}
 use Rattle.t_rules.specs.Machine.{State, Place, Spot, After, HaltsWithin, Halts}
 use Rattle.t_rules.specs.Times.{places, is_spot, Times}
-use Rattle.t_spill_rules.specs.Spill.{lows, layout, thens, sizes}
+use Rattle.t_spill_rules.specs.Spill.{lows, layout, sizes}
 
 -- the two programs halt alike, the second never in fewer instructions
 pub record HaltsAlike (P Q : TProg) : Type 0 where
   pub forth : (i : ℤ) → Halts P i → Halts Q i
   pub back : (n : ℕ) (i : ℤ) → HaltsWithin Q n i → HaltsWithin P n i
 
--- the place that a place of the spilled program comes from: of which instruction's code it is
+-- the place that a place of the spilled program comes from: the instruction whose code it is of
 abbrev pub origin_in : List ℕ → ℕ → ℕ
 origin_in [] k = 0
 origin_in (n ∷ ns) k = cond (nat_lt k n) 0 (suc (origin_in ns (k - n)))
@@ -28,7 +28,11 @@ origin_above m P (Spot (suc b) i) = Spot b (origin_in (sizes_of m P (slice_get P
 abbrev pub origin : ℕ → TProg → Place → Place
 origin k P = origin_above (lows k) P
 
--- a place of a program
+-- a place of a program: one of its instructions, or an end
+abbrev pub thens : TSeq → ℕ
+thens (Then i rest) = suc (thens rest)
+thens (Ends e) = 0
+
 abbrev pub IsPlaceOf : TProg → Place → Type 0
 IsPlaceOf P (Spot b i) = (x : TBlock) × (slice_get P.blocks b ≡ Some x) × (i ≤ thens x.code)
 

@@ -1,1 +1,2 @@
 pub mod HighParts
+pub mod Parts

@@ -215,13 +215,7 @@ keep qs (MoreRegs r t x) = cond (among r qs) (MoreRegs r t (keep qs x)) (keep qs
 -- what stays known after an instruction: the registers that the rest wants; a branch leaves all as it was
 abbrev pub kept : TProg → TFile → TInstr → TSeq → TFile
 kept P file (Bnz r v) rest = file
-kept P file (Arith op rd rs v) rest =
-    keep (live P (next P file (Arith op rd rs v)) rest) (next P file (Arith op rd rs v))
-kept P file (Ld rd rs i) rest = keep (live P (next P file (Ld rd rs i)) rest) (next P file (Ld rd rs i))
-kept P file (Malloc rd ts) rest = keep (live P (next P file (Malloc rd ts)) rest) (next P file (Malloc rd ts))
-kept P file (Mov rd v) rest = keep (live P (next P file (Mov rd v)) rest) (next P file (Mov rd v))
-kept P file (St rd i rs) rest = keep (live P (next P file (St rd i rs)) rest) (next P file (St rd i rs))
-kept P file (Unpack rd v) rest = keep (live P (next P file (Unpack rd v)) rest) (next P file (Unpack rd v))
+kept P file i rest = keep (live P (next P file i) rest) (next P file i)
 
 -- where the word of a register stands: in a register, in a field of the frame, or in a slot
 pub data Home : Type 0 where
@@ -249,45 +243,44 @@ gathered m qs = record { homes = λ r. cond (nat_lt m r) (InFrame (position qs r
 abbrev pub layout : ℕ → TFile → Layout
 layout m file = gathered m (numbers (high_part m file))
 
+-- instructions in front of a sequence
+abbrev pub before : List TInstr → TSeq → TSeq
+before [] rest = rest
+before (i ∷ xs) rest = Then i (before xs rest)
+
 -- a register's word for an instruction: in the register t, where it is not in one
 abbrev pub at_home : ℕ → Home → ℕ
 at_home t (Held q) = q
 at_home t (InFrame i) = t
 at_home t (InSlot i) = t
 
-abbrev pub load : ℕ → ℕ → Home → TSeq → TSeq
-load m t (Held q) rest = rest
-load m t (InFrame i) rest = Then (Ld t (frame_reg m) i) rest
-load m t (InSlot i) rest = Then (Ld t (slot_reg m) i) rest
+abbrev pub load : ℕ → ℕ → Home → List TInstr
+load m t (Held q) = []
+load m t (InFrame i) = Ld t (frame_reg m) i ∷ []
+load m t (InSlot i) = Ld t (slot_reg m) i ∷ []
 
 -- a value's register is loaded into the second one
-abbrev pub load_base : ℕ → (ℕ → Home) → TBase → TSeq → TSeq
-load_base m homes (Reg r) rest = load m (second_reg m) (homes r) rest
-load_base m homes (Int i) rest = rest
-load_base m homes (Label l) rest = rest
-load_base m homes (Data d) rest = rest
-
-abbrev pub load_value : ℕ → (ℕ → Home) → TValue → TSeq → TSeq
-load_value m homes (Plain b ts) rest = load_base m homes b rest
-load_value m homes (Pack t v s) rest = load_value m homes v rest
+abbrev pub load_value : ℕ → (ℕ → Home) → TValue → List TInstr
+load_value m homes (Plain (Reg r) ts) = load m (second_reg m) (homes r)
+load_value m homes (Plain b ts) = []
+load_value m homes (Pack t v s) = load_value m homes v
 
 abbrev pub second_at : ℕ → (ℕ → Home) → ℕ → ℕ
 second_at m homes r = at_home (second_reg m) (homes r)
 
 -- a frame that is being made is filled from field j on
-abbrev pub fill : ℕ → (ℕ → Home) → List ℕ → ℕ → TSeq → TSeq
-fill m homes [] j rest = rest
-fill m homes (q ∷ qs) j rest =
-    load m (second_reg m) (homes q) (Then (St (made_reg m) j (second_at m homes q)) (fill m homes qs (suc j) rest))
+abbrev pub fill : ℕ → (ℕ → Home) → List ℕ → ℕ → List TInstr
+fill m homes [] j = []
+fill m homes (q ∷ qs) j =
+    load m (second_reg m) (homes q) ++ (St (made_reg m) j (second_at m homes q) ∷ fill m homes qs (suc j))
 
--- a frame of the file's registers above m, made beside the old one
-abbrev pub build : ℕ → (ℕ → Home) → TFile → TSeq → TSeq
-build m homes to rest =
-    Then (Malloc (made_reg m) (cells (high_part m (sp_regs m to)))) (fill m homes (numbers (high_part m to)) 0 rest)
+-- a frame of registers above m, made beside the old one
+abbrev pub build : ℕ → (ℕ → Home) → TFile → List TInstr
+build m homes high = Malloc (made_reg m) (cells (sp_regs m high)) ∷ fill m homes (numbers high) 0
 
 -- and in the place of the old one
-abbrev pub gather : ℕ → (ℕ → Home) → TFile → TSeq → TSeq
-gather m homes to rest = build m homes to (Then (Mov (frame_reg m) (reg (made_reg m))) rest)
+abbrev pub gather : ℕ → (ℕ → Home) → TFile → List TInstr
+gather m homes high = build m homes high ++ (Mov (frame_reg m) (reg (made_reg m)) ∷ [])
 
 -- the register that an instruction gives a word, if any
 abbrev pub defines : TInstr → ℕ
@@ -318,13 +311,9 @@ abbrev pub way_of : ℕ → ℕ → ℕ → Way
 way_of m used rd = cond (nat_lt m rd) (cond (nat_lt used most_slots) Fills Gathers) Stays
 
 abbrev pub way : ℕ → ℕ → TInstr → Way
-way m used (Arith op rd rs v) = way_of m used rd
 way m used (Bnz r v) = Stays
-way m used (Ld rd rs i) = way_of m used rd
-way m used (Malloc rd ts) = way_of m used rd
-way m used (Mov rd v) = way_of m used rd
-way m used (St rd i rs) = way_of m used rd
 way m used (Unpack rd v) = Gathers
+way m used i = way_of m used (defines i)
 
 -- the layout after it, where the file `to` is known then
 abbrev pub after_way : ℕ → Layout → ℕ → TFile → Way → Layout
@@ -352,62 +341,62 @@ slots m P used file (Then i rest) = slots_by (way m used i) (sp m (or_int (looku
 slots m P used file (Ends e) = []
 
 -- the word in the first register goes into the next slot; where none is used, all of them are made
-abbrev pub fill_slot : ℕ → ℕ → List Ty → TSeq → TSeq
-fill_slot m zero types rest = Then (Malloc (slot_reg m) types) (Then (St (slot_reg m) 0 (first_reg m)) rest)
-fill_slot m (suc j) types rest = Then (St (slot_reg m) (suc j) (first_reg m)) rest
+abbrev pub fill_slot : ℕ → ℕ → List Ty → List TInstr
+fill_slot m zero types = Malloc (slot_reg m) types ∷ St (slot_reg m) 0 (first_reg m) ∷ []
+fill_slot m (suc j) types = St (slot_reg m) (suc j) (first_reg m) ∷ []
 
 -- a word where it was computed, put where it goes
-abbrev pub finish : ℕ → Layout → ℕ → List Ty → TFile → Way → TSeq → TSeq
-finish m L rd types to Stays rest = rest
-finish m L rd types to Fills rest = fill_slot m L.used types rest
-finish m L rd types to Gathers rest = gather m (homed L.homes rd (Held (into m rd))) to rest
+abbrev pub finish : ℕ → Layout → ℕ → List Ty → TFile → Way → List TInstr
+finish m L rd types to Stays = []
+finish m L rd types to Fills = fill_slot m L.used types
+finish m L rd types to Gathers = gather m (homed L.homes rd (Held (into m rd))) (high_part m to)
 
--- the code of an instruction that leaves the file `to`, where `types` are those of the slots from here on
-abbrev pub step : ℕ → TProg → Layout → TFile → TInstr → List Ty → TFile → TSeq → TSeq
-step m P L file (Arith op rd rs v) types to rest =
-    load m (first_reg m) (L.homes rs) (load_value m L.homes v
-    (Then (Arith op (into m rd) (at_home (first_reg m) (L.homes rs)) (sp_value m (second_at m L.homes) v))
-    (finish m L rd types to (way_of m L.used rd) rest)))
-step m P L file (Bnz r v) types to rest =
-    build m L.homes (target_file (type_of P file v)) (load m (first_reg m) (L.homes r) (load_value m L.homes v
-    (Then (Mov (saved_reg m) (reg (frame_reg m))) (Then (Mov (frame_reg m) (reg (made_reg m)))
-    (Then (Bnz (at_home (first_reg m) (L.homes r)) (sp_value m (second_at m L.homes) v))
-    (Then (Mov (frame_reg m) (reg (saved_reg m))) rest))))))
-step m P L file (Ld rd rs i) types to rest =
-    load m (first_reg m) (L.homes rs) (Then (Ld (into m rd) (at_home (first_reg m) (L.homes rs)) i)
-    (finish m L rd types to (way_of m L.used rd) rest))
-step m P L file (Malloc rd ts) types to rest =
-    Then (Malloc (into m rd) (map (sp m) ts)) (finish m L rd types to (way_of m L.used rd) rest)
-step m P L file (Mov rd v) types to rest =
-    load_value m L.homes v (Then (Mov (into m rd) (sp_value m (second_at m L.homes) v))
-    (finish m L rd types to (way_of m L.used rd) rest))
-step m P L file (St rd i rs) types to rest =
-    load m (first_reg m) (L.homes rd) (load m (second_reg m) (L.homes rs)
-    (Then (St (into m rd) i (second_at m L.homes rs)) (finish m L rd types to (way_of m L.used rd) rest)))
-step m P L file (Unpack rd v) types to rest =
-    load_value m L.homes v (Then (Unpack (into m rd) (sp_value m (second_at m L.homes) v))
-    (finish m L rd types to Gathers rest))
+-- what is read is loaded, behind a frame for a branch's target, of which these registers are above m
+abbrev pub loads : ℕ → (ℕ → Home) → TFile → TInstr → List TInstr
+loads m homes high (Arith op rd rs v) = load m (first_reg m) (homes rs) ++ load_value m homes v
+loads m homes high (Bnz r v) = build m homes high ++ load m (first_reg m) (homes r) ++ load_value m homes v
+loads m homes high (Ld rd rs i) = load m (first_reg m) (homes rs)
+loads m homes high (Malloc rd ts) = []
+loads m homes high (Mov rd v) = load_value m homes v
+loads m homes high (St rd i rs) = load m (first_reg m) (homes rd) ++ load m (second_reg m) (homes rs)
+loads m homes high (Unpack rd v) = load_value m homes v
+
+-- the instruction on what is loaded; a branch takes the new frame along
+abbrev pub does : ℕ → (ℕ → Home) → TInstr → List TInstr
+does m homes (Arith op rd rs v) =
+    Arith op (into m rd) (at_home (first_reg m) (homes rs)) (sp_value m (second_at m homes) v) ∷ []
+does m homes (Bnz r v) =
+    Mov (saved_reg m) (reg (frame_reg m)) ∷ Mov (frame_reg m) (reg (made_reg m))
+    ∷ Bnz (at_home (first_reg m) (homes r)) (sp_value m (second_at m homes) v)
+    ∷ Mov (frame_reg m) (reg (saved_reg m)) ∷ []
+does m homes (Ld rd rs i) = Ld (into m rd) (at_home (first_reg m) (homes rs)) i ∷ []
+does m homes (Malloc rd ts) = Malloc (into m rd) (map (sp m) ts) ∷ []
+does m homes (Mov rd v) = Mov (into m rd) (sp_value m (second_at m homes) v) ∷ []
+does m homes (St rd i rs) = St (into m rd) i (second_at m homes rs) ∷ []
+does m homes (Unpack rd v) = Unpack (into m rd) (sp_value m (second_at m homes) v) ∷ []
+
+-- the code of an instruction that `rest` follows
+abbrev pub step : ℕ → TProg → Layout → TFile → TInstr → TSeq → List TInstr
+step m P L file i rest =
+    loads m L.homes (high_part m (target P file i)) i ++ does m L.homes i
+    ++ finish m L (defines i) (slots m P L.used file (Then i rest)) (kept P file i rest) (way m L.used i)
+
+-- the code of an end
+abbrev pub ended : ℕ → (ℕ → Home) → TFile → TEnd → TSeq
+ended m homes high (Jmp v) =
+    before (build m homes high) (before (load_value m homes v)
+    (Then (Mov (frame_reg m) (reg (made_reg m))) (Ends (Jmp (sp_value m (second_at m homes) v)))))
+ended m homes high Halt = Ends Halt
 
 abbrev pub code : ℕ → TProg → Layout → TFile → TSeq → TSeq
-code m P L file (Then i rest) = step m P L file i (slots m P L.used file (Then i rest)) (kept P file i rest)
-    (code m P (after m L i (kept P file i rest)) (kept P file i rest) rest)
-code m P L file (Ends (Jmp v)) =
-    build m L.homes (target_file (type_of P file v)) (load_value m L.homes v
-    (Then (Mov (frame_reg m) (reg (made_reg m))) (Ends (Jmp (sp_value m (second_at m L.homes) v)))))
-code m P L file (Ends Halt) = Ends Halt
+code m P L file (Then i rest) =
+    before (step m P L file i rest) (code m P (after m L i (kept P file i rest)) (kept P file i rest) rest)
+code m P L file (Ends e) = ended m L.homes (high_part m (end_target P file e)) e
 
--- the number of instructions of a sequence, its end aside, and of the code of an instruction
-abbrev pub thens : TSeq → ℕ
-thens (Then i rest) = suc (thens rest)
-thens (Ends e) = 0
-
-abbrev pub step_size : ℕ → TProg → Layout → TFile → TInstr → TFile → ℕ
-step_size m P L file i to = thens (step m P L file i [] to (Ends Halt))
-
--- of each instruction of a sequence
+-- the number of instructions in the code of each instruction of a sequence
 abbrev pub sizes : ℕ → TProg → Layout → TFile → TSeq → List ℕ
-sizes m P L file (Then i rest) = step_size m P L file i (kept P file i rest)
-    ∷ sizes m P (after m L i (kept P file i rest)) (kept P file i rest) rest
+sizes m P L file (Then i rest) =
+    length (step m P L file i rest) ∷ sizes m P (after m L i (kept P file i rest)) (kept P file i rest) rest
 sizes m P L file (Ends e) = []
 
 abbrev pub sp_block : ℕ → TProg → TBlock → TBlock

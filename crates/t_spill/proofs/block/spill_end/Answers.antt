@@ -4,10 +4,9 @@ use Rattle.t_types.specs.Read.{file, types}
 use Rattle.t_terms.specs.Tree.{Ends}
 use Rattle.t_terms.specs.Read.{end_of}
 use Rattle.t_terms.specs.ReadProgram.{program}
-use Rattle.t_spill_rules.specs.Spill.{end_target, high_part}
-use Rattle.t_spill_code.specs.Homes.{home_in, layout_of, with_slots}
-use Rattle.t_spill_code.specs.Onto.{onto, ended}
-use Rattle.t_spill_code.proofs.Steps.{end_is}
+use Rattle.t_spill_rules.specs.Spill.{end_target, high_part, ended}
+use Rattle.t_spill_code.specs.Homes.{home_in, with_slots}
+use Rattle.t_spill_code.specs.Onto.{onto}
 use Rattle.t_spill.specs.Known.{MayShow, alone}
 use Rattle.t_spill.specs.Ready.{ReadyEnd}
 use Rattle.t_spill.proofs.Beside.{ends_agree}
@@ -57,5 +56,4 @@ returns c = λ n y x b.
     let high = ap file c.deref-2.ensures.value ∙ c.in_ok-high.ensures ∙ ap (high_part m) entered in
     c.in_ok-close.ensures.1 (Ends (end_of c.in_ok-last.last))
     ∙ ap (λ s. onto w.code.body.done.items (with_slots m (types w.code.body.slots.items) [] s))
-    (c.in_ok-last.ensures ∙ ap (λ z. onto w.code.body.tail.items (ended m hs z e)) high
-    ∙ ap (onto w.code.body.tail.items) (sym (end_is m P (layout_of w.code.homes w.code.body) x e)))
+    (c.in_ok-last.ensures ∙ ap (λ z. onto w.code.body.tail.items (ended m hs z e)) high)

@@ -74,9 +74,7 @@ returns c =
     } in (
       refl,
       between P n y x w new i s b (h n y b.knows e) told refl,
-      text_computed P x i s w.code.homes w.code.homes w.code.body.slots.items w.code.body.slots.items
-          w.code.body.done.items w.code.body.done.items w.code.body.tail.items c.emit_step.new.code.items
-          (file c.deref-3.result.now)
-          refl refl refl high c.in_ok-emit_step.ensures,
+      text_computed P x i s w.code.homes w.code.body.slots.items w.code.body.done.items w.code.body.tail.items
+          c.emit_step.new.code.items (file c.deref-3.result.now) high c.in_ok-emit_step.ensures,
     ))
     c.advance.ensures

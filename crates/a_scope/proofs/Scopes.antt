@@ -17,10 +17,10 @@ use Rattle.a_terms.specs.declared.nodes.AWrap.TheVariants.{Apply, Pack}
 use Rattle.a_terms.specs.declared.nodes.ABlock.{ABlock}
 use Rattle.a_terms.specs.TypeLaws.{field_shift}
 use Rattle.a_scope.proofs.Filling.{filled_shift, field_filled_to}
-use Rattle.a_scope.specs.Scope.{filled_to, noted, noted_type, shown, scope, homes, Under, Stands, Held, wrap_type}
+use Rattle.a_scope.specs.Scope.{filled_to, noted, noted_type, shown, scope, homes, Under, Stands, Held, bare, wrap_type}
 use Rattle.a_scope.specs.Scope.{decl_ty}
 use Rattle.a_scope.specs.declared.scope.Entry.{Entry}
-use Rattle.std.proofs.lemmas.Option.{slice_get_past as get_out}
+use Rattle.std.proofs.lemmas.Option.{slice_get_past as get_out, none-some, same_Some}
 use Rattle.a_terms.proofs.Lists.{length_data, wrapped_snoc}
 
 -- places in lists
@@ -145,10 +145,24 @@ under_at k [] j e lt is u = absurd (omega arith)
 under_at k (x ∷ es) zero e lt is u = subst (λ (y : Entry). y.names ≤ k) (sym is) u.0
 under_at k (x ∷ es) (suc j) e lt is u = under_at k es j e (omega arith) is u.1
 
-pub held : (es : List Entry) (v : a.AVal) (n j : ℕ) (e : Entry) → v ≡ a.Var n → j + suc n ≡ length es →
+-- a value with something around it is no variable
+pub wrapped_bare : (v : a.AVal) (ws : List AWrap) → 0 < length ws → bare (wrapped v ws) ≡ None
+wrapped_bare v [] lt = absurd (omega (arith, lt))
+wrapped_bare v (Apply ts ∷ []) lt = refl
+wrapped_bare v (Pack h s ∷ []) lt = refl
+wrapped_bare v (w ∷ x ∷ ws) lt = wrapped_bare (wrap w v) (x ∷ ws) (omega arith)
+
+bare_is : (v : a.AVal) (n : ℕ) → bare v ≡ Some n → v ≡ a.Var n
+bare_is (a.Var m) n e = ap a.Var (same_Some m n e)
+bare_is v n e = absurd (none-some n e)
+
+pub held : (es : List Entry) (v : a.AVal) (n j : ℕ) (e : Entry) → Some n ≡ bare v → j + suc n ≡ length es →
     e ≡ get_or es j e → (p : a.AProg) (k : ℕ) → Held p k es v e
-held es v n j e is s at p k =
-    (var_in k es n j e s at ∙ ap (type_of p (scope k es)) (sym is), λ u. under_at k es j e (omega (arith, s)) at u)
+held es v n j e is s at p k = (
+  var_in k es n j e s at ∙ ap (type_of p (scope k es)) (sym (bare_is v n (sym is))),
+  λ u. under_at k es j e (omega (arith, s)) at u,
+  (n, sym is, omega (arith, s)),
+)
 
 -- a variable that shares the type of one in scope
 same_names : (k : ℕ) (e f : Entry) (t : a.ATy) → noted f ≡ t → f.names ≡ e.names → shown k f ≡ ashift (k - e.names) 0 t

@@ -1,5 +1,5 @@
 -- The types of the variables in scope.
-use Rattle.std.specs.Prelude.{◌≡◌, ℕ, zero, suc, ◌-◌, ◌≤◌, ◌++◌, List, [], ◌∷◌, Option, Some, None}
+use Rattle.std.specs.Prelude.{◌≡◌, ℕ, zero, suc, ◌-◌, ◌<◌, ◌≤◌, ◌++◌, List, length, [], ◌∷◌, Option, Some, None}
 use Rattle.a_terms.specs.Tree as a
 use Rattle.a_terms.specs.Tree.{ashift}
 use Rattle.a_terms.specs.Typing.{type_of, applied, or_int, field_of, body_of, filled_of, aunset}
@@ -62,9 +62,18 @@ abbrev pub MayStand : ℕ → a.ATy → Option Entry → Type 0
 MayStand k t None = Unit {0}
 MayStand k t (Some e) = Stands k t e
 
+-- the number of a value that is a variable, with nothing around it
+abbrev pub bare : a.AVal → Option ℕ
+bare (a.Var n) = Some n
+bare v = None
+
+-- a variable in scope, with nothing around it
+abbrev pub HasEntry : List Entry → a.AVal → Type 0
+HasEntry es v = (n : ℕ) × (bare v ≡ Some n) × (n < length es)
+
 -- the variable that the value is
 abbrev pub Held : a.AProg → ℕ → List Entry → a.AVal → Entry → Type 0
-Held p k es v e = (Some (shown k e) ≡ type_of p (scope k es) v) × (Under k es → e.names ≤ k)
+Held p k es v e = (Some (shown k e) ≡ type_of p (scope k es) v) × (Under k es → e.names ≤ k) × HasEntry es v
 
 -- the type of a value that is put round a value of this type
 abbrev pub wrap_type : AWrap → Option a.ATy → Option a.ATy

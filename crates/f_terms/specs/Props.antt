@@ -11,7 +11,7 @@ use Rattle.f_terms.specs.Tm.{Term, MVar, MNum, MFix, MApp, MGen, MInst, MTuple, 
 use Rattle.f_terms.specs.Tm.{MRef, MDeref, MAssign, Terms, NoTerms}
 use Rattle.f_terms.specs.Tm.{MoreTerms}
 use Rattle.f_terms.specs.Limits.{Within}
-use Rattle.f_terms.specs.Typing.{ty_at, field_ty, raised, in_fix, in_open, HasType, HaveTypes, IsTyped, IsProgram}
+use Rattle.f_terms.specs.Typing.{ty_at, field_ty, raised, in_fix, in_open, HasType, HaveTypes, IsTyped}
 use Rattle.f_terms.specs.Keeps.{TypeHas, AllKeep}
 use Rattle.f_terms.specs.Accepted.{KeepsLimits, IsAccepted}
 use Rattle.f_terms.specs.OneType.{one_type}
@@ -208,9 +208,6 @@ mutual
 
 pub typed_prop : (e : Term) (t : Ty) → IsProp (IsTyped e t)
 typed_prop e t = has_type_prop e 0 NoTys t
-
-pub program_prop : (e : Term) → IsProp (IsProgram e)
-program_prop e = has_type_prop e 0 NoTys TInt
 
 type_within_prop : (e : Term) (n : ℕ) (g : Tys) → IsProp (TypeHas Within e n g)
 type_within_prop e n g = hlevel props

@@ -5,7 +5,8 @@ use Rattle.page_core.specs.Names.{number, op_sign, type_name, value_name}
 use Rattle.k_terms.specs.K.{KTy, KTys, NoKTys, TKInt, TKTuple}
 use Rattle.k_terms.specs.Stream.{KNd, NVar, NInt, NTuple, NCode, NEnd, NName, NProj, NArith, NPack, NUnpack, NCell}
 use Rattle.k_terms.specs.Stream.{NGet, NSet, NCall, NIf, NElse, NHalt}
-use Rattle.kc_notation.specs.ClosedWalk.{Sheet, begun, called, choose, leave, line, opened, pair, push, scope_of, tuple, turn}
+use Rattle.kc_notation.specs.ClosedWalk.{Sheet, begun, called, choose, leave, line, opened, pair, push, scope_of}
+use Rattle.kc_notation.specs.ClosedWalk.{tuple, turn}
 use Rattle.kc_notation.specs.ClosedWalk.{with_scope, wrap}
 use Rattle.kc_notation.specs.CpsNotation.{code_line, note_text, type_text, types_text}
 

@@ -41,9 +41,6 @@ RowsBy text P place b x xs rows met =
     × (rows ≡ block ++ rest))
 
 module _ (text : List ℕ) (P : TProg) (place : Span) (blocks : List Block) where
-  pub first_to : BlocksLeftTo text P place blocks 0 []
-  first_to = λ rest rows. rows
-
   split_at : (i : ℕ) (x : Block) → x ≡ get_or blocks i x → i < length blocks → drop i blocks ≡ x ∷ drop (suc i) blocks
   split_at i x is lt = drop-cons blocks i x lt ∙ ap (λ (y : Block). y ∷ drop (suc i) blocks) (sym is)
 

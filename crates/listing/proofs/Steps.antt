@@ -197,9 +197,6 @@ BlocksLeft text P blocks i page =
     (rest : List ℕ) → AreBlocks text P i (spanned_blocks (drop i blocks)) rest →
     AreBlocks text P 0 (spanned_blocks blocks) (page ++ rest)
 
-pub blocks_first : (text : List ℕ) (P : TProg) (blocks : List Block) → BlocksLeft text P blocks 0 []
-blocks_first text P blocks = λ rest rows. rows
-
 blocks_next : (text : List ℕ) (P : TProg) (blocks : List Block) (i : ℕ) (page end : List ℕ) (x : Block) →
     x ≡ get_or blocks i x → i < length blocks → BlocksLeft text P blocks i page →
     Adds (IsBlock text P i (spanned x)) page end → BlocksLeft text P blocks (i + 1) end

@@ -7,7 +7,8 @@ ghost use Rattle.t_terms.specs.Read.{block as block_tree, datum, data_fields, sp
 ghost use Rattle.t_terms.specs.ReadProgram.{program as program_of, spanned_program};
 ghost use Rattle.t_intern.specs.Grown.{Grown, IsNumber};
 ghost use Rattle.t_known.specs.Known.{IsEmpty, IsOfBlock};
-ghost use Rattle.t_check.specs.Verdict.{program_in, FormedBlock, FormedDatum, FormedData, KnowsByNumber, IsBlock, AreBlocks};
+ghost use Rattle.t_check.specs.Verdict.{program_in, FormedBlock, FormedDatum, FormedData, KnowsByNumber, IsBlock};
+ghost use Rattle.t_check.specs.Verdict.{AreBlocks};
 ghost use Rattle.t_check.specs.Verdict.{IsDatum, IsData, IsHeap, IsLabelled, IsProgram};
 
 use crate::checker::{Checker, Labelled};

@@ -9,7 +9,8 @@ ghost use Rattle.t_intern.specs.Applied.{with_types};
 ghost use Rattle.t_intern.specs.Grown.{Grown, IsNumber};
 ghost use Rattle.t_intern.specs.Nodes.{at, regs_at, RegsBelow};
 ghost use Rattle.t_types.specs.Bounds.{Bounded, OwedFile};
-ghost use Rattle.t_check.specs.Verdict.{FormedAt, FormedBase, KnowsByNumber, BaseTypedAt, TypedAt, AppliedAt, IsInstantiated};
+ghost use Rattle.t_check.specs.Verdict.{FormedAt, FormedBase, KnowsByNumber, BaseTypedAt, TypedAt, AppliedAt};
+ghost use Rattle.t_check.specs.Verdict.{IsInstantiated};
 ghost use Rattle.t_check.specs.Verdict.{IsPacked};
 
 use crate::checker::Checker;

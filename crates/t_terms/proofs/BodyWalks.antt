@@ -66,10 +66,6 @@ module _ (V : ℕ → ℕ → Type 0) (B : ℕ → Type 0) where
   here_and_rest xs i depth x is lt h =
       subst (λ (zs : List (Instr × Span)). each_body V B depth (body zs)) (next_item xs i x is lt) h
 
-  pub rest_none : (xs : List (Instr × Span)) (i depth : ℕ) → length xs ≤ i → RestHas xs i depth
-  rest_none xs i depth all =
-      subst (λ (zs : List (Instr × Span)). each_body V B depth (body zs)) (sym (drop_all i xs all)) tt
-
 pub names_grow : (i : TInstr) (d : ℕ) → d ≤ names_after i d
 names_grow (Arith op rd rs v) d = omega arith
 names_grow (Bnz r v) d = omega arith

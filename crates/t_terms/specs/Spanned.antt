@@ -36,11 +36,6 @@ abbrev pub seq_of : List (TInstr × Span) → TEnd → TSeq
 seq_of [] e = Ends e
 seq_of (x ∷ xs) e = Then x.0 (seq_of xs e)
 
--- the places of a body's instructions, and then of its end
-abbrev pub spans_of : List (TInstr × Span) → Span → List Span
-spans_of [] s = s ∷ []
-spans_of (x ∷ xs) s = x.1 ∷ spans_of xs s
-
 abbrev pub plain : SBlock → TBlock
 plain b = record { owes = b.owes; file = b.file; code = seq_of b.body b.last }
 

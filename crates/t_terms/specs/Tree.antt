@@ -2,7 +2,7 @@
 use Rattle.std.specs.Prelude.{ℕ, ℤ, ◌+◌, List}
 use Rattle.idx_core.specs.Over.{Over, Each, shifted, putted}
 use Rattle.idx_core.specs.declared.arith.Op.{Op}
-use Rattle.t_types.specs.Tree.{Ty, VarTy, TFile, over, over_file, over_types, each, each_file, each_types}
+use Rattle.t_types.specs.Tree.{Ty, VarTy, TFile, over, over_file, over_types, each, each_types}
 
 -- a register, an integer, or a label: the number of a block, or of a data tuple
 pub data TBase : Type 0 where
@@ -106,22 +106,12 @@ abbrev pub each_end : Each TEnd
 each_end V B d (Jmp v) = each_value V B d v
 each_end V B d Halt = Unit {0}
 
-abbrev pub each_seq : Each TSeq
-each_seq V B d (Then i rest) = each_instr V B d i × B (names_after i d) × each_seq V B (names_after i d) rest
-each_seq V B d (Ends e) = each_end V B d e
-
-abbrev pub each_block : Each TBlock
-each_block V B d b = B (d + b.owes) × each_file V B (d + b.owes) b.file × each_seq V B (d + b.owes) b.code
-
 -- k added to each free type index that is at least c
 abbrev pub shift_value : ℕ → ℕ → TValue → TValue
 shift_value k c = over_value (shifted VarTy k) c
 
 abbrev pub shift_instr : ℕ → ℕ → TInstr → TInstr
 shift_instr k c = over_instr (shifted VarTy k) c
-
-abbrev pub shift_seq : ℕ → ℕ → TSeq → TSeq
-shift_seq k c = over_seq (shifted VarTy k) c
 
 abbrev pub shift_block : ℕ → ℕ → TBlock → TBlock
 shift_block k c = over_block (shifted VarTy k) c

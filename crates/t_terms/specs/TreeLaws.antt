@@ -5,11 +5,10 @@ use Rattle.idx_core.specs.Over.{deep, At, IsOver, IsEach, shifted, BelowAt, AnyD
 use Rattle.idx_core.specs.Laws as laws
 use Rattle.t_types.specs.Tree.{Ty, TFile, VarTy, over, each}
 use Rattle.t_types.specs.TreeLaws.{types_part, types_over, types_each, type_is_below, list_is_below, file_over}
-use Rattle.t_types.specs.TreeLaws.{file_each, list_over, list_each, keeps_more, after_more, agree_more, made_more}
-use Rattle.t_types.specs.TreeLaws.{made_deeper}
+use Rattle.t_types.specs.TreeLaws.{list_over, list_each, keeps_more, after_more}
 use Rattle.t_terms.specs.Tree.{TValue, Plain, Pack, TInstr, Arith, Bnz, Ld, Malloc, Mov, St, Unpack, TEnd, Jmp, Halt}
 use Rattle.t_terms.specs.Tree.{TSeq, Then, Ends, TBlock, over_value, over_instr, over_end, over_seq, over_block}
-use Rattle.t_terms.specs.Tree.{each_value, each_instr, each_end, each_seq, each_block, shift_value, shift_instr}
+use Rattle.t_terms.specs.Tree.{each_value, each_instr, each_end, shift_value, shift_instr}
 
 pub ap₃ : {X Y Z W : Type 0} (f : X → Y → Z → W) {x x' : X} {y y' : Y} {z z' : Z} → x ≡ x' → y ≡ y' → z ≡ z' →
     f x y z ≡ f x' y' z'
@@ -147,46 +146,6 @@ after_seq f g h a b c k (Then (Unpack rd v) s) =
     ap₂ Then (after_instr f g h a b c k (Unpack rd v)) (after_seq f g h (a + 1) (b + 1) (c + 1) (λ e. k (suc e)) s)
 after_seq f g h a b c k (Ends e) = ap Ends (after_end f g h a b c k e)
 
-agree_seq : (V : ℕ → ℕ → Type 0) (B : ℕ → Type 0) (f g : At Ty) (a b m : ℕ) → Agrees V f g a b m → (s : TSeq) →
-    each_seq V B m s → over_seq f a s ≡ over_seq g b s
-agree_seq V B f g a b m k (Then (Arith op rd rs v) s) u =
-    ap₂ Then (agree_instr V B f g a b m k (Arith op rd rs v) u.0) (agree_seq V B f g a b m k s u.2)
-agree_seq V B f g a b m k (Then (Bnz r v) s) u =
-    ap₂ Then (agree_instr V B f g a b m k (Bnz r v) u.0) (agree_seq V B f g a b m k s u.2)
-agree_seq V B f g a b m k (Then (Ld rd rs j) s) u =
-    ap₂ Then (agree_instr V B f g a b m k (Ld rd rs j) u.0) (agree_seq V B f g a b m k s u.2)
-agree_seq V B f g a b m k (Then (Malloc rd ts) s) u =
-    ap₂ Then (agree_instr V B f g a b m k (Malloc rd ts) u.0) (agree_seq V B f g a b m k s u.2)
-agree_seq V B f g a b m k (Then (Mov rd v) s) u =
-    ap₂ Then (agree_instr V B f g a b m k (Mov rd v) u.0) (agree_seq V B f g a b m k s u.2)
-agree_seq V B f g a b m k (Then (St rd j rs) s) u =
-    ap₂ Then (agree_instr V B f g a b m k (St rd j rs) u.0) (agree_seq V B f g a b m k s u.2)
-agree_seq V B f g a b m k (Then (Unpack rd v) s) u =
-    ap₂ Then (agree_instr V B f g a b m k (Unpack rd v) u.0)
-    (agree_seq V B f g (a + 1) (b + 1) (m + 1) (λ e. k (suc e)) s u.2)
-agree_seq V B f g a b m k (Ends e) u = ap Ends (agree_end V B f g a b m k e u)
-
-made_seq : (V W : ℕ → ℕ → Type 0) (B D : ℕ → Type 0) (f : At Ty) (a n m : ℕ) → Gives V W D f a n m → Deepens B D n m →
-    (s : TSeq) → each_seq V B n s → each_seq W D m (over_seq f a s)
-made_seq V W B D f a n m k l (Then (Arith op rd rs v) s) u =
-    (made_instr V W B D f a n m k l (Arith op rd rs v) u.0, l 0 u.1, made_seq V W B D f a n m k l s u.2)
-made_seq V W B D f a n m k l (Then (Bnz r v) s) u =
-    (made_instr V W B D f a n m k l (Bnz r v) u.0, l 0 u.1, made_seq V W B D f a n m k l s u.2)
-made_seq V W B D f a n m k l (Then (Ld rd rs j) s) u =
-    (made_instr V W B D f a n m k l (Ld rd rs j) u.0, l 0 u.1, made_seq V W B D f a n m k l s u.2)
-made_seq V W B D f a n m k l (Then (Malloc rd ts) s) u =
-    (made_instr V W B D f a n m k l (Malloc rd ts) u.0, l 0 u.1, made_seq V W B D f a n m k l s u.2)
-made_seq V W B D f a n m k l (Then (Mov rd v) s) u =
-    (made_instr V W B D f a n m k l (Mov rd v) u.0, l 0 u.1, made_seq V W B D f a n m k l s u.2)
-made_seq V W B D f a n m k l (Then (St rd j rs) s) u =
-    (made_instr V W B D f a n m k l (St rd j rs) u.0, l 0 u.1, made_seq V W B D f a n m k l s u.2)
-made_seq V W B D f a n m k l (Then (Unpack rd v) s) u = (
-  made_instr V W B D f a n m k l (Unpack rd v) u.0,
-  l 1 u.1,
-  made_seq V W B D f (a + 1) (n + 1) (m + 1) (λ e. k (suc e)) (λ e. l (suc e)) s u.2,
-)
-made_seq V W B D f a n m k l (Ends e) u = made_end V W B D f a n m k l e u
-
 -- blocks
 abbrev block_of : ℕ → TFile → TSeq → TBlock
 block_of n file c = record { owes = n; file = file; code = c }
@@ -201,23 +160,6 @@ after_block f g h a b c k x =
     let more = after_more f g h a b c x.owes k in
     ap₂ (block_of x.owes) (file_over.after f g h (a + x.owes) (b + x.owes) (c + x.owes) more x.file)
     (after_seq f g h (a + x.owes) (b + x.owes) (c + x.owes) more x.code)
-
-agree_block : (V : ℕ → ℕ → Type 0) (B : ℕ → Type 0) (f g : At Ty) (a b m : ℕ) → Agrees V f g a b m → (x : TBlock) →
-    each_block V B m x → over_block f a x ≡ over_block g b x
-agree_block V B f g a b m k x u =
-    let more = agree_more V f g a b m x.owes k in
-    ap₂ (block_of x.owes) (file_each.agree V B f g (a + x.owes) (b + x.owes) (m + x.owes) more x.file u.1)
-    (agree_seq V B f g (a + x.owes) (b + x.owes) (m + x.owes) more x.code u.2)
-
-made_block : (V W : ℕ → ℕ → Type 0) (B D : ℕ → Type 0) (f : At Ty) (a n m : ℕ) → Gives V W D f a n m → Deepens B D n m →
-    (x : TBlock) → each_block V B n x → each_block W D m (over_block f a x)
-made_block V W B D f a n m k l x u =
-    let more = made_more V W D f a n m x.owes k in
-    let deeper = made_deeper B D n m x.owes l in (
-      deeper 0 u.0,
-      file_each.made V W B D f (a + x.owes) (n + x.owes) (m + x.owes) more deeper x.file u.1,
-      made_seq V W B D f (a + x.owes) (n + x.owes) (m + x.owes) more deeper x.code u.2,
-    )
 
 pub value_over : IsOver Ty TValue VarTy over over_value
 value_over = record { keeps = keeps_value; after = after_value }
@@ -240,14 +182,8 @@ end_each = record { agree = agree_end; made = made_end }
 pub seq_over : IsOver Ty TSeq VarTy over over_seq
 seq_over = record { keeps = keeps_seq; after = after_seq }
 
-pub seq_each : IsEach Ty TSeq each over_seq each_seq
-seq_each = record { agree = agree_seq; made = made_seq }
-
 pub block_over : IsOver Ty TBlock VarTy over over_block
 block_over = record { keeps = keeps_block; after = after_block }
-
-pub block_each : IsEach Ty TBlock each over_block each_block
-block_each = record { agree = agree_block; made = made_block }
 
 -- what a shift leaves as it is has no free type index from its cut on
 still_value : (n : ℕ) (v : TValue) → shift_value 1 n v ≡ v → each_value BelowAt AnyDepth n v

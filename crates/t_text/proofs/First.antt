@@ -6,7 +6,7 @@ use Rattle.std.specs.Prelude.{if◌then◌else◌, bytes_eq, not, ◌&&◌}
 use Rattle.std.specs.List.{list_all, prefix_len}
 use Rattle.std.proofs.lemmas.Bool.{and_parts, not-true}
 use Rattle.std.proofs.lemmas.Slice.Eq.{bytes_eq-Decides}
-use Rattle.text_core.specs.Byte.{space, of_line, of_word, value}
+use Rattle.text_core.specs.Byte.{of_line, of_word, value}
 use Rattle.text_core.specs.Lexeme.{at_dashes}
 use Rattle.text_core.specs.Tokens.{Cut, c_end, c_gap, c_token, EndsLine, Gap, IsGap, IsLongest, Item, Next}
 use Rattle.text_core.specs.Tokens.{Spelling, Spells, g_comment, g_space, look, n_gap, n_nothing, n_spelling, s_negative}
@@ -146,7 +146,3 @@ program_tal (p_items t n x h) = refl
 
 pub begins_so : AssemblyBeginsSo
 begins_so text P s = ap (λ v. bytes_eq v (codes "tal")) (cut_tal s.cut (program_tal s.shape))
-
--- steps of the loop
-pub gap_step : (b : ℕ) (s : List ℕ) → space b ≡ true → after_gaps false (b ∷ s) ≡ after_gaps false s
-gap_step b s h = ap (λ o. if o then after_gaps false s else if at_dashes (b ∷ s) then after_gaps true s else b ∷ s) h

@@ -143,9 +143,6 @@ file_each = record { agree = agree_file; made = made_file }
 pub fields_over : IsOver Ty TFields VarTy over over_fields
 fields_over = record { keeps = keeps_fields; after = after_fields }
 
-pub fields_each : IsEach Ty TFields each over_fields each_fields
-fields_each = record { agree = agree_fields; made = made_fields }
-
 -- lists of types
 keeps_types : (f : At Ty) (a : ℕ) → ((e i : ℕ) → f (deep a e) i ≡ VarTy i) → (ts : List Ty) → over_types f a ts ≡ ts
 keeps_types f a h [] = refl

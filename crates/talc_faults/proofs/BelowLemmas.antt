@@ -31,12 +31,6 @@ source_at names wanted found xs some e =
     ∙ sym (ap (λ p. source_below_of names wanted found (Some p)) b.2)
     ∙ ap (source_below_of names wanted found) e
 
-pub source_top : (names : ℕ) (wanted found : source.Ty) (xs : List Step) → xs ≡ [] →
-    Some (path_of xs) ≡ source_path.difference wanted found → [] ≡ source_below names wanted found
-source_top names wanted found xs none e =
-    ap (λ ys. source_below_of names wanted found (Some (path_of ys))) (sym none)
-    ∙ ap (source_below_of names wanted found) e
-
 assembly_at : (names : ℕ) (wanted found : assembly.Ty) (xs : List Step) → (xs ≡ [] → ⊥) →
     Some (path_of xs) ≡ assembly_path.misfit wanted found →
     assembly_apart_at names wanted found (path_of xs) ≡ assembly_below names wanted found
@@ -44,12 +38,6 @@ assembly_at names wanted found xs some e =
     let b = begins xs some in
     ap (assembly_apart_at names wanted found) b.2
     ∙ sym (ap (λ p. assembly_below_of names wanted found (Some p)) b.2)
-    ∙ ap (assembly_below_of names wanted found) e
-
-pub assembly_top : (names : ℕ) (wanted found : assembly.Ty) (xs : List Step) → xs ≡ [] →
-    Some (path_of xs) ≡ assembly_path.misfit wanted found → [] ≡ assembly_below names wanted found
-assembly_top names wanted found xs none e =
-    ap (λ ys. assembly_below_of names wanted found (Some (path_of ys))) (sym none)
     ∙ ap (assembly_below_of names wanted found) e
 
 -- ---- pieces in turn

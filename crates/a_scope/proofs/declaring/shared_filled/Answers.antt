@@ -6,5 +6,5 @@ pub returns-in_ok-made-in-Some-filled_then : goal.returns-in_ok-made-in-Some-fil
 returns-in_ok-made-in-Some-filled_then c = λ p.
     let made = c.in_ok-made-in-Some-filled_then in
     filled_stands p c.args.names c.args.vars.now (a_value c.args.v.now) c.in-Some.entry.now made.made c.args.i
-    c.in-Some-filled_then.count (c.in-Some.ensures p c.args.names) c.requires c.in-Some-filled_then.ensures
+    c.in-Some-filled_then.count (c.in-Some.ensures p c.args.names) c.requires c.in-Some-filled_then.ensures.2
     made.ensures.ty made.ensures.names

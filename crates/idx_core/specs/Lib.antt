@@ -7,3 +7,4 @@ pub mod Memory
 pub mod Names
 pub mod Over
 pub mod Steps
+pub mod Separator

@@ -9,6 +9,7 @@ use Rattle.t_terms.specs.declared.shown.Shown.{Shown}
 use Rattle.t_terms.specs.declared.shown.Shown.TheVariants.{Int, Tuple, Label}
 use Rattle.t_trace.specs.declared.lines.Place.{Place}
 use Rattle.t_writer.specs.Lexeme.{number_text}
+pub use Rattle.idx_core.specs.Separator.{separator}
 
 -- a word: an integer, `@` and an address, `L` and the number of a block
 abbrev pub word_text : Shown → List ℕ
@@ -20,10 +21,6 @@ word_text (Label l) = codes "L" ++ decimal l
 -- outermost on.
 abbrev pub variable_text : ℕ → ℕ → ℕ → List ℕ
 variable_text n d i = if nat_lt i d then codes "t" ++ decimal (d - 1 - i) else codes "a" ++ decimal (n - 1 - (i - d))
-
--- what stands between an item of a list and the k items before it
-abbrev pub separator : ℕ → List ℕ
-separator k = if k == 0 then [] else codes ", "
 
 -- count names that code binds, where d are bound around the first of them, and k of the code stand before it
 abbrev pub names_text : ℕ → ℕ → ℕ → List ℕ

@@ -9,18 +9,19 @@ use Rattle.k_terms.specs.Typing.{KHas, KHave, KGives, KTyped}
 use Rattle.c_laws.proofs.Ranges.{or_split, t_range}
 use Rattle.calc_core.proofs.Lifts.{lift_add}
 use Rattle.calc_core.proofs.Scopes.{scope_length as krens_length, named_below as kat_lt}
-use Rattle.k_terms.proofs.Scoped.{more_length}
-use Rattle.c_terms.proofs.Scoping.{cargs_length as kargs_length}
+use Rattle.calc_core.proofs.NamesIn.{more_length, args_length}
 
 body_lt : (owes : ℕ) (args : KTys) (g : List KTy) (i : ℕ) →
     lift (kcount args) (suc i) < length (kbody_scope owes args g) → i < length g
 body_lt owes args g i lt =
+    let around = kren (lift owes) (TKCode owes args) ∷ krens_scope (lift owes) g in
     omega (
       arith,
       lt,
-      kargs_length args (kren (lift owes) (TKCode owes args) ∷ krens_scope (lift owes) g),
+      args_length args around,
       krens_length (lift owes) g,
       lift_add (kcount args) (suc i),
+      lift_add (kcount args) (length around),
     )
 
 mutual

@@ -25,7 +25,7 @@ use Rattle.calc_core.proofs.Lifts.{lift_add}
 use Rattle.calc_core.proofs.Scopes.{scope_length as length_krens}
 use Rattle.calc_core.proofs.Substituting.{low_or_past as near_or_far}
 use Rattle.c_laws.proofs.Closing.{after_add}
-use Rattle.k_terms.proofs.Scoped.{args_length as length_args}
+use Rattle.calc_core.proofs.NamesIn.{args_length as length_args}
 
 abbrev where_of : Scope → ℕ → (ℕ → ℕ) → Where
 where_of s e lev = record { types = s.types; tcount = s.tcount; names = e; level = lev; tvar = s.tvar }

@@ -2,35 +2,7 @@
 use Rattle.std.specs.Prelude.{ℕ, ◌+◌, ◌≤◌}
 use Rattle.c_terms.specs.C.{CVal, CVar, CInt, CTuple, CCode, CApply, CPack, CVals, NoCVals, MoreCVals, CDecl, CName}
 use Rattle.c_terms.specs.C.{CProj, CArith, CUnpack, CCell, CGet, CSet, CTm, CLet, CCall, CIf, CHalt, ccount}
-
--- the nodes of a body; a code inside counts as one
-abbrev mutual
-  pub cown_v : CVal → ℕ
-  cown_v (CVar i) = 1
-  cown_v (CInt n) = 1
-  cown_v (CTuple vs) = 1 + cown_vs vs
-  cown_v (CCode owes args body) = 1
-  cown_v (CApply v ts) = 1 + cown_v v
-  cown_v (CPack h v s) = 1 + cown_v v
-
-  pub cown_vs : CVals → ℕ
-  cown_vs NoCVals = 0
-  cown_vs (MoreCVals v vs) = cown_v v + cown_vs vs
-
-abbrev pub cown_d : CDecl → ℕ
-cown_d (CName v) = 1 + cown_v v
-cown_d (CProj i v) = 1 + cown_v v
-cown_d (CArith op v w) = 1 + cown_v v + cown_v w
-cown_d (CUnpack v) = 1 + cown_v v
-cown_d (CCell v) = 1 + cown_v v
-cown_d (CGet v) = 1 + cown_v v
-cown_d (CSet v w) = 1 + cown_v v + cown_v w
-
-abbrev pub cown_t : CTm → ℕ
-cown_t (CLet d t) = cown_d d + cown_t t
-cown_t (CCall f ts vs) = 1 + cown_v f + cown_vs vs
-cown_t (CIf v t u) = 1 + cown_v v + cown_t t + cown_t u
-cown_t (CHalt v) = 1 + cown_v v
+pub use Rattle.calc_core.specs.Size.{size_v as cown_v, size_vs as cown_vs, size_d as cown_d, size_t as cown_t}
 
 -- each body, with its parameters, is at most so large
 abbrev mutual

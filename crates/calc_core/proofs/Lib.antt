@@ -15,3 +15,4 @@ pub mod WordLists
 pub mod TypedWith
 pub mod TypeOf
 pub mod Declared
+pub mod NamesIn

@@ -18,3 +18,5 @@ pub mod Typing
 pub mod TypedWith
 pub mod Meaning
 pub mod TypeOf
+pub mod NamesIn
+pub mod Size

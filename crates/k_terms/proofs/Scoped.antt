@@ -7,22 +7,9 @@ use Rattle.k_terms.specs.K.{KLet, KCall, KIf, KHalt, kcount, kren, krens_scope, 
 use Rattle.k_terms.specs.K.{scope_more}
 use Rattle.k_terms.specs.Typing.{KHas, KHave, KGives, KTyped}
 use Rattle.k_terms.specs.Scope.{ValueIn, ValuesIn, DeclIn, TermIn}
-use Rattle.calc_core.proofs.Lifts.{lift_suc}
-use Rattle.calc_core.proofs.Scopes.{scope_length as krens_length, named_below as at_in}
-
-pub more_length : (b : Bool) (g : List KTy) → length (scope_more b g) ≡ length g
-more_length true g = krens_length suc g
-more_length false g = refl
-
-pub args_length : (ts : KTys) (g : List KTy) → length (kargs_onto ts g) ≡ lift (kcount ts) (length g)
-args_length NoKTys g = refl
-args_length (MoreKTys t ts) g = args_length ts (t ∷ g) ∙ lift_suc (kcount ts) (length g)
-
-body_length : (owes : ℕ) (args : KTys) (g : List KTy) →
-    length (kbody_scope owes args g) ≡ lift (kcount args) (suc (length g))
-body_length owes args g =
-    args_length args (kren (lift owes) (TKCode owes args) ∷ krens_scope (lift owes) g)
-    ∙ ap (λ k. lift (kcount args) (suc k)) (krens_length (lift owes) g)
+use Rattle.calc_core.specs.Calculus.{Open}
+use Rattle.calc_core.proofs.NamesIn.{more_length, body_length}
+use Rattle.calc_core.proofs.Scopes.{named_below as at_in}
 
 mutual
   has_in : (v : KVal) (n : ℕ) (g : List KTy) (t : KTy) → KHas n g v t → ValueIn (length g) n v
@@ -31,7 +18,7 @@ mutual
   has_in (KTuple vs) n g t h = have_in vs n g h.0 h.2
   has_in (KCode owes args body) n g t h = (
     h.1,
-    subst (λ k. TermIn k (lift owes n) body) (body_length owes args g)
+    subst (λ k. TermIn k (lift owes n) body) (body_length Open owes args g)
         (good_in body (lift owes n) (kbody_scope owes args g) h.2),
   )
 

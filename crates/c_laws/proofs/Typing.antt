@@ -10,11 +10,11 @@ use Rattle.k_terms.specs.K.{KUnpack, KCell, KGet, KSet, KTm, KLet, KCall, KIf, K
 use Rattle.k_terms.specs.K.{kargs_onto, kbody_scope, opens, scope_more}
 use Rattle.c_rules.specs.Free.{tfree, tfrees, tfree_v, tfree_vs, tfree_d, tfree_t, occurs_v, occurs_vs}
 use Rattle.c_rules.specs.Free.{occurs_d, occurs_t}
-use Rattle.k_terms.specs.Types.{kv_type, kd_type}
-use Rattle.c_terms.specs.C.{CTy, CTys, TCVar, TCTuple, TCCode, TCExists, TCRef, NoCTys, MoreCTys, CVal, CVar, CTuple}
+use Rattle.k_terms.specs.Types.{kd_type}
+use Rattle.c_terms.specs.C.{CTy, CTys, TCVar, TCTuple, TCCode, NoCTys, MoreCTys, CVal, CVar, CTuple}
 use Rattle.c_terms.specs.C.{NoCVals, MoreCVals, CTm, ccount, CVals}
 use Rattle.k_terms.specs.Typing.{KIns, KTyped, kscons, ksub, ksubs, knames, KAt}
-use Rattle.c_terms.specs.Typing.{CAt, CField, cup, csubs, scons, names, cargs_onto, crens_scope}
+use Rattle.c_terms.specs.Typing.{CAt, cup, csubs, scons, names, cargs_onto, crens_scope}
 use Rattle.c_rules.specs.Close.{Scope, ctype, ctypes, rank, picked_tvars, pick_type, picked_types, picked, tfree_kept}
 use Rattle.c_rules.specs.Close.{keeps, uses, named, tkeeps, env_type, closure, outside, inner, rebuilt, projections}
 use Rattle.c_rules.specs.Close.{closed_args, closed_code, with_decl, in_call, no_scope, close_v, close_vs, close_d, close_t}
@@ -31,7 +31,7 @@ use Rattle.c_laws.proofs.TypeEnvs.{tdrop_step}
 use Rattle.c_laws.proofs.Ranges.{or_split, lift_lt, under_lt, in_kren, scope_in_kren, scope_in_args, in_ctype}
 use Rattle.c_laws.proofs.Ranges.{in_ctypes}
 use Rattle.c_laws.proofs.Ranges.{kept_lt, rank_lt, tfree_back, kept_back, lift_back, kept_args, v_range}
-use Rattle.k_terms.proofs.Types.{d_type, v_type}
+use Rattle.k_terms.proofs.Types.{d_type}
 use Rattle.c_laws.proofs.Ranges.{t_range}
 use Rattle.c_laws.proofs.Meaning.{ctypes_count}
 use Rattle.k_terms.specs.Each.{KAll, KHasWith, KHaveWith, KGivesWith, KTypedWith}

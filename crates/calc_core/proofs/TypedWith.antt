@@ -1,7 +1,7 @@
 -- Typing with a property of types is typing, and typing with any weaker property.
 use Rattle.std.proofs.Common.{ℕ, suc, List, ◌∷◌}
 use Rattle.calc_core.specs.Ends.{after_one}
-use Rattle.calc_core.specs.Types.{Ty, Tys, IntTy, VarTy, TupleTy, CodeTy, ExistsTy, RefTy, NoTys, MoreTys}
+use Rattle.calc_core.specs.Types.{Ty, Tys, IntTy, VarTy, TupleTy, ExistsTy, RefTy, NoTys, MoreTys}
 use Rattle.calc_core.specs.Substitution.{with_type, substituted}
 use Rattle.calc_core.specs.Calculus.{Body, Open, Closed, Kind, Val, Var, Int, Tuple, Code, Label, Apply, Pack}
 use Rattle.calc_core.specs.Calculus.{Vals, NoVals, MoreVals}

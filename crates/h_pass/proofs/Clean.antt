@@ -1,5 +1,5 @@
 -- A typed term has nothing that is missing.
-use Rattle.std.proofs.Common.{ℕ, suc, List, subst}
+use Rattle.std.proofs.Common.{ℕ, List, subst}
 use Rattle.c_terms.specs.C.{CApply, CArith, CCall, CCell, CCode, CDecl, CGet, CHalt, CIf, CInt, CLet, CName, CPack}
 use Rattle.c_terms.specs.C.{CProj, CSet, CTm, CTuple, CTy, CTys, CUnpack, CVal, CVals, CVar, MoreCVals}
 use Rattle.c_terms.specs.C.{NoCVals, TCCode}

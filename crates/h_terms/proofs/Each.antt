@@ -1,5 +1,5 @@
 -- Typing with a property of types is typing, and with the property that every type has no more than that.
-use Rattle.std.proofs.Common.{List, [], ◌∷◌}
+use Rattle.std.proofs.Common.{[], ◌∷◌}
 use Rattle.calc_core.proofs.TypedWith.{plain_t, any_all, any_t}
 pub use Rattle.calc_core.proofs.TypedWith.{Any}
 use Rattle.c_terms.specs.Each.{CProp}

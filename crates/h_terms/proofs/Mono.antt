@@ -1,5 +1,5 @@
 -- Typing with a property is typing with any weaker one.
-use Rattle.std.proofs.Common.{◌≤◌, ℕ, suc, List, [], ◌∷◌, arith}
+use Rattle.std.proofs.Common.{◌≤◌, ℕ, [], ◌∷◌, arith}
 use Rattle.calc_core.proofs.TypedWith.{all_weaker, weaker_t}
 use Rattle.c_terms.specs.C.{CTy}
 use Rattle.c_terms.specs.Each.{CProp}

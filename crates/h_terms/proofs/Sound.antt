@@ -1,18 +1,17 @@
 -- A hoisted program that has a type is never stuck.
 use Rattle.std.proofs.Common.{◌≡◌, ℕ, zero, suc, nat_eq, List, [], ◌∷◌, Some, None, refl, sym, ap, ◌∙◌, subst, eq-eqb}
 use Rattle.calc_core.specs.Ends.{if_fits, lift, after_one}
-use Rattle.calc_core.specs.Words.{WCell, NoWords, MoreWords, size, onto, project, operate, one_more}
-use Rattle.calc_core.specs.Words.{Makes, given, get, set}
+use Rattle.calc_core.specs.Words.{NoWords, MoreWords, size, onto}
 use Rattle.calc_core.proofs.Ends.{Fine, fits_fine}
 use Rattle.calc_core.proofs.Substituting.{named_sub, subs_count, subs_sub}
 use Rattle.calc_core.specs.Calculus.{opens, scope_more}
 use Rattle.calc_core.proofs.Declared.{sound_d}
 use Rattle.calc_core.proofs.Words as W
 use Rattle.calc_core.proofs.Words.{Has, Have, EnvHas, Stored}
-use Rattle.c_terms.specs.C.{CTy, CTys, NoCTys, TCCode, TCInt, TCRef, TCExists, TCTuple, TCVar, ccount}
-use Rattle.c_terms.specs.Typing.{cargs_onto, crens_scope, csub, csubs, cup, names, scons}
-use Rattle.h_terms.specs.H.{HApply, HArith, HBlk, HBlks, HCall, HCell, HGet, HHalt, HIf, HInt, HLabel, HLet, HName}
-use Rattle.h_terms.specs.H.{HPack, HProj, HSet, HTm, HTuple, HUnpack, HVal, HVals, HVar, MoreHVals, NoHVals, block_at}
+use Rattle.c_terms.specs.C.{CTy, CTys, TCCode, TCInt, TCVar, ccount}
+use Rattle.c_terms.specs.Typing.{cargs_onto, csub, csubs, cup, names, scons}
+use Rattle.h_terms.specs.H.{HApply, HBlk, HBlks, HCall, HHalt, HIf, HInt, HLabel, HLet}
+use Rattle.h_terms.specs.H.{HPack, HTm, HTuple, HVal, HVals, HVar, MoreHVals, NoHVals, block_at}
 use Rattle.h_terms.specs.Meaning.{HEnter, HWord, HWords, hd_value, henter, hopen, hrun, hterm, hv_value, hvs_value, with_block}
 use Rattle.h_terms.specs.Typing.{BlockHas, AllGood, HTyped, HHas, HHave}
 

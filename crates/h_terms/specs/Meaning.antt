@@ -1,12 +1,12 @@
 -- What a hoisted program does. Types are not used.
 use Rattle.std.specs.Prelude.{ℕ, zero, suc, nat_eq, Option, Some, None}
 use Rattle.calc_core.specs.Ends.{Result, Spent, Stuck, enters, if_fits, stops}
-use Rattle.calc_core.specs.Words.{Word, WInt, WTuple, WCode, WCell, Words, NoWords, MoreWords, at, size, onto, project}
-use Rattle.calc_core.specs.Words.{operate, one_more, Made, Makes, given, get, set, with_value, at_zero, halt_with}
+use Rattle.calc_core.specs.Words.{Word, WInt, WTuple, WCode, Words, NoWords, MoreWords, at, size, onto}
+use Rattle.calc_core.specs.Words.{Made, with_value, at_zero, halt_with}
 use Rattle.calc_core.specs.Meaning.{declared}
 use Rattle.c_terms.specs.C.{ccount}
-use Rattle.h_terms.specs.H.{HApply, HArith, HBlk, HBlks, HCall, HCell, HDecl, HGet, HHalt, HIf, HInt, HLabel, HLet}
-use Rattle.h_terms.specs.H.{HName, HPack, HProj, HSet, HTm, HTuple, HUnpack, HVal, HVals, HVar, MoreHVals, NoHVals}
+use Rattle.h_terms.specs.H.{HApply, HBlk, HBlks, HCall, HDecl, HHalt, HIf, HInt, HLabel, HLet}
+use Rattle.h_terms.specs.H.{HPack, HTm, HTuple, HVal, HVals, HVar, MoreHVals, NoHVals}
 use Rattle.h_terms.specs.H.{block_at}
 
 -- values, whose codes are labels

@@ -1,9 +1,9 @@
 -- A typed term has its names and its type variables in scope.
-use Rattle.std.proofs.Common.{◌≡◌, ℕ, suc, Bool, true, false, List, ◌∷◌, length, refl, ap, ◌∙◌, subst}
+use Rattle.std.proofs.Common.{ℕ, suc, List, ◌∷◌, length, subst}
 use Rattle.calc_core.specs.Ends.{lift, after_one}
-use Rattle.k_terms.specs.K.{KTy, KTys, TKInt, TKCode, NoKTys, MoreKTys, KVal, KVar, KInt, KTuple, KCode, KVals}
+use Rattle.k_terms.specs.K.{KTy, KTys, TKInt, KVal, KVar, KInt, KTuple, KCode, KVals}
 use Rattle.k_terms.specs.K.{NoKVals, MoreKVals, KDecl, KName, KProj, KArith, KPack, KUnpack, KCell, KGet, KSet, KTm}
-use Rattle.k_terms.specs.K.{KLet, KCall, KIf, KHalt, kcount, kren, krens_scope, kargs_onto, kbody_scope, opens}
+use Rattle.k_terms.specs.K.{KLet, KCall, KIf, KHalt, kbody_scope, opens}
 use Rattle.k_terms.specs.K.{scope_more}
 use Rattle.k_terms.specs.Typing.{KHas, KHave, KGives, KTyped}
 use Rattle.k_terms.specs.Scope.{ValueIn, ValuesIn, DeclIn, TermIn}

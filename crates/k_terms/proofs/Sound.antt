@@ -1,21 +1,20 @@
 -- A term of the CPS calculus that has a type is never stuck.
 use Rattle.std.proofs.Common.{◌≡◌, ℕ, zero, suc, nat_eq, ◌&&◌, List, [], ◌∷◌, refl, sym, ap, ◌∙◌, subst, ap₂, eq-eqb}
 use Rattle.calc_core.specs.Ends.{lift, after_one}
-use Rattle.calc_core.specs.Words.{WCode, WCell, NoWords, MoreWords, size, onto}
-use Rattle.calc_core.specs.Words.{operate, one_more, Made, Makes, set}
-use Rattle.k_terms.specs.K.{KTy, KTys, TKInt, TKVar, TKTuple, TKCode, TKExists, TKRef, KVal, KVar}
-use Rattle.k_terms.specs.K.{KInt, KTuple, KCode, KVals, NoKVals, MoreKVals, KDecl, KName, KProj, KArith, KPack, KUnpack}
-use Rattle.k_terms.specs.K.{KCell, KGet, KSet, KTm, KLet, KCall, KIf, KHalt, kcount, kren, krens_scope}
+use Rattle.calc_core.specs.Words.{WCode, NoWords, MoreWords, size, onto}
+use Rattle.k_terms.specs.K.{KTy, KTys, TKInt, TKVar, TKCode, KVal, KVar}
+use Rattle.k_terms.specs.K.{KInt, KTuple, KCode, KVals, NoKVals, MoreKVals}
+use Rattle.k_terms.specs.K.{KTm, KLet, KCall, KIf, KHalt, kcount, kren, krens_scope}
 use Rattle.k_terms.specs.K.{kbody_scope, kv_next, kd_next, kt_next, opens, scope_more}
 use Rattle.k_terms.specs.Meaning.{KNumbered, KCodeAt, KWord, KWords, kv_value, kvs_value, kd_value, KEnter, kopen}
 use Rattle.k_terms.specs.Meaning.{kterm, kenter, krun}
-use Rattle.k_terms.specs.Typing.{KHas, KHave, KGives, KTyped, kscons, kup, ksub, ksubs, knames}
+use Rattle.k_terms.specs.Typing.{KHas, KHave, KTyped, kup, ksub, ksubs, knames}
 use Rattle.calc_core.proofs.Ends.{Fine, fits_fine}
 use Rattle.calc_core.proofs.Substituting.{sub_ren, subs_count, subs_sub, named_sub, names_up, with_types_past}
 use Rattle.calc_core.specs.Typing.{NoLabels}
 use Rattle.calc_core.proofs.Declared.{sound_d}
 use Rattle.calc_core.proofs.Words as W
-use Rattle.calc_core.proofs.Words.{Has, Have, EnvHas, Stored, MadeHas, OptionHas}
+use Rattle.calc_core.proofs.Words.{Has, Have, EnvHas, Stored}
 
 -- the types of a call's arguments are those of the code's, at run time
 call_args : (ts us args : KTys) (s r : ℕ → KTy) → ksubs (kup (kcount ts) r) args ≡ ksubs (kup (kcount ts) s) us →

@@ -88,7 +88,7 @@ module _ {old new : Forest} {shape : RawShape} {s : Span} {p : Part} (h : Puts o
   held_on (frame.LetBody w n a) vs x = (x.0, x.1, x.2, x.3, x.4, x.5, x.6, stands_on a x.4 x.7, x.8)
   held_on (frame.Pack w t) vs x = x
   held_on (frame.Open w t n) vs x = x
-  held_on (frame.OpenBody w t n a) vs x = (x.0, x.1, x.2, x.3, x.4, x.5, stands_on a x.2 x.6, x.7)
+  held_on (frame.OpenBody o) vs x = (x.0, x.1, x.2, x.3, x.4, x.5, stands_on o.first x.2 x.6, x.7)
   held_on (frame.Ref w) vs x = x
   held_on (frame.Deref w) vs x = x
   held_on (frame.Argument f) vs x = (x.0, stands_on f x.0 x.1, x.2)

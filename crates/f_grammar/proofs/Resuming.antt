@@ -25,6 +25,7 @@ use Rattle.f_grammar.specs.declared.types.FoundType.{FoundType}
 use Rattle.f_grammar.specs.declared.forest.Forest.{Forest}
 use Rattle.f_grammar.specs.declared.part.Part as parts
 use Rattle.f_grammar.specs.declared.frame.Head.{Head}
+use Rattle.f_grammar.specs.declared.frame.Opening.{Opening}
 use Rattle.f_grammar.specs.declared.frame.Frame.{Frame}
 use Rattle.f_grammar.specs.declared.frame.Frame.TheVariants as frame
 use Rattle.f_grammar.specs.Forest.{span_from, size, tree_in, Puts, Stands, AreTrees}
@@ -141,14 +142,14 @@ module _ (ts : List Token) {fs : List Frame} {b : Forest} {depth at : ℕ} where
       (OfToken i ∷ (OfTerm p ∷ (OfToken q ∷ (OfToken m ∷ (OfToken t ∷ []))))) f (t, m, q, i, p, is, name, h, refl)
       (closed ts outer d (token ts want.In i r e))
 
-  pub open_body_begun : {gs : List Frame} {outer : ℕ} {w t n : Span} {a : parts.Part} (p : Piece) (v : Opened)
-      (i : Token) → w ≡ v.word.span → t ≡ v.ty.span → n ≡ v.name.span → Stands b a p →
+  pub open_body_begun : {gs : List Frame} {outer : ℕ} {o : Opening} (p : Piece) (v : Opened) (i : Token) →
+      o.word ≡ v.word.span → o.ty ≡ v.ty.span → o.name ≡ v.name.span → Stands b o.first p →
       next_of table want.In (slice_get ts at) ≡ Some i →
-      depth ≡ outer + 1 → gs ≡ fs ++ frame.OpenBody w t n a ∷ [] →
+      depth ≡ outer + 1 → gs ≡ fs ++ frame.OpenBody o ∷ [] →
       Reached ts fs b depth at (in_owed MakeOpen) (OfTerm p ∷ opened_values v) →
       Reached ts gs b outer (at + 1) (Nt LE ∷ []) []
-  open_body_begun {outer} {w} {t} {n} {a} p v i is ty name h e d f r =
-      enter ts (Nt LE ∷ []) [] (frame.OpenBody w t n a) (OfToken i ∷ (OfTerm p ∷ opened_values v)) f
+  open_body_begun {outer} {o} p v i is ty name h e d f r =
+      enter ts (Nt LE ∷ []) [] (frame.OpenBody o) (OfToken i ∷ (OfTerm p ∷ opened_values v)) f
       (v, i, p, is, ty, name, h, refl) (closed ts outer d (token ts want.In i r e))
 
   module _ (outer : ℕ) (h : RawType) (n : ℕ) (q : Piece) (t o c : Token) (z : Token)

@@ -59,7 +59,7 @@ owes (frame.Let w n) = in_owed MakeLet
 owes (frame.LetBody w n a) = Do MakeLet ∷ []
 owes (frame.Pack w t) = Tm want.RightBracket ∷ (Mark ∷ shape_owed)
 owes (frame.Open w t n) = in_owed MakeOpen
-owes (frame.OpenBody w t n a) = Do MakeOpen ∷ []
+owes (frame.OpenBody o) = Do MakeOpen ∷ []
 owes (frame.Ref w) = Mark ∷ (Do MakeRef ∷ [])
 owes (frame.Deref w) = Mark ∷ (Do MakeDeref ∷ [])
 owes (frame.Argument f) = Do MakeCall ∷ []
@@ -129,8 +129,8 @@ Held b (frame.Pack w t) vs = (p : Token) × (o : Token) × (c : Token) × (end :
     × (vs ≡ OfToken c ∷ (OfType (record { ty = type_of t; end = end }) ∷ (OfToken o ∷ (OfToken p ∷ []))))
 Held b (frame.Open w t n) vs = (h : Opened) × (w ≡ h.word.span) × (t ≡ h.ty.span) × (n ≡ h.name.span)
     × (vs ≡ opened_values h)
-Held b (frame.OpenBody w t n a) vs = (h : Opened) × (i : Token) × (p : Piece) × (w ≡ h.word.span) × (t ≡ h.ty.span)
-    × (n ≡ h.name.span) × Stands b a p × (vs ≡ OfToken i ∷ (OfTerm p ∷ opened_values h))
+Held b (frame.OpenBody o) vs = (h : Opened) × (i : Token) × (p : Piece) × (o.word ≡ h.word.span)
+    × (o.ty ≡ h.ty.span) × (o.name ≡ h.name.span) × Stands b o.first p × (vs ≡ OfToken i ∷ (OfTerm p ∷ opened_values h))
 Held b (frame.Ref w) vs = (t : Token) × (w ≡ t.span) × (vs ≡ OfToken t ∷ [])
 Held b (frame.Deref w) vs = (t : Token) × (w ≡ t.span) × (vs ≡ OfToken t ∷ [])
 Held b (frame.Argument f) vs = (p : Piece) × Stands b f p × (vs ≡ OfTerm p ∷ [])

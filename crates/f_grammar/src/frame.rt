@@ -16,80 +16,37 @@ pub(crate) struct Head {
     pub gives: RawType,
 }
 
+/// An `open` up to its `in`: its word, the names that it binds, and the package.
+#[derive(Drop)]
+pub(crate) struct Opening {
+    pub word: Span,
+    pub ty: Span,
+    pub name: Span,
+    pub first: Part,
+}
+
 /// What is done with a term that was read: the form around it, as far as it was read, or what may follow on the term.
 #[derive(Drop)]
 pub(crate) enum Frame {
-    Paren {
-        left: Span,
-    },
-    First {
-        left: Span,
-    },
-    Next {
-        left: Span,
-        fields: Vec<u64>,
-    },
-    Proj {
-        hash: Span,
-        field: u64,
-    },
-    Test {
-        word: Span,
-    },
-    Zero {
-        word: Span,
-        test: Part,
-    },
-    Other {
-        word: Span,
-        test: Part,
-        zero: Part,
-    },
+    Paren { left: Span },
+    First { left: Span },
+    Next { left: Span, fields: Vec<u64> },
+    Proj { hash: Span, field: u64 },
+    Test { word: Span },
+    Zero { word: Span, test: Part },
+    Other { word: Span, test: Part, zero: Part },
     Fix(Head),
-    Gen {
-        word: Span,
-        name: Span,
-    },
-    Let {
-        word: Span,
-        name: Span,
-    },
-    LetBody {
-        word: Span,
-        name: Span,
-        first: Part,
-    },
-    Pack {
-        word: Span,
-        hidden: RawType,
-    },
-    Open {
-        word: Span,
-        ty: Span,
-        name: Span,
-    },
-    OpenBody {
-        word: Span,
-        ty: Span,
-        name: Span,
-        first: Part,
-    },
-    Ref {
-        word: Span,
-    },
-    Deref {
-        sign: Span,
-    },
-    Argument {
-        function: Part,
-    },
-    Right {
-        op: Op,
-        left: Part,
-    },
-    Assigned {
-        target: Part,
-    },
+    Gen { word: Span, name: Span },
+    Let { word: Span, name: Span },
+    LetBody { word: Span, name: Span, first: Part },
+    Pack { word: Span, hidden: RawType },
+    Open { word: Span, ty: Span, name: Span },
+    OpenBody(Opening),
+    Ref { word: Span },
+    Deref { sign: Span },
+    Argument { function: Part },
+    Right { op: Op, left: Part },
+    Assigned { target: Part },
     MoreParts,
     MoreFactors,
     MoreSums,

@@ -7,7 +7,7 @@ ghost use Rattle.f_grammar.specs.Frames.{Offered, Listed, Went, after};
 ghost use Rattle.f_grammar.specs.declared.frame.Frame.TheVariants as frame;
 
 use crate::begin::push;
-use crate::frame::{Control, Frame, Head, Reader};
+use crate::frame::{Control, Frame, Head, Opening, Reader};
 use crate::heads::{Argument, next_argument, next_sign};
 use crate::part::Part;
 use crate::put::put;
@@ -242,32 +242,23 @@ fn after_open(
     reader.at += 1;
     reader.depth -= 1;
     let first = part;
-    push(
-        &mut reader.frames,
-        Frame::OpenBody {
-            word,
-            ty,
-            name,
-            first,
-        },
-    )?;
+    let opening = Opening {
+        word,
+        ty,
+        name,
+        first,
+    };
+    push(&mut reader.frames, Frame::OpenBody(opening))?;
     Ok(Control::Term)
 }
 
 // open [ name , name ] = E in E
-fn after_open_body(
-    reader: &mut Reader,
-    word: Span,
-    ty: Span,
-    name: Span,
-    first: Part,
-    part: Part,
-) -> Result<Control, Stopped>
-    requires { Offered reader.old.tokens.now reader.old (frame.OpenBody word ty name first) part }
+fn after_open_body(reader: &mut Reader, opening: Opening, part: Part) -> Result<Control, Stopped>
+    requires { Offered reader.old.tokens.now reader.old (frame.OpenBody opening) part }
     ensures { Went reader.old.tokens.now reader.new (after reader.old.tokens.now reader.old) result }
 {
-    let shape = RawShape::Open(ty, name, first.node, part.node);
-    let part = put(&mut reader.forest, shape, word.start, part.end)?;
+    let shape = RawShape::Open(opening.ty, opening.name, opening.first.node, part.node);
+    let part = put(&mut reader.forest, shape, opening.word.start, part.end)?;
     Ok(Control::Give(part))
 }
 
@@ -434,12 +425,7 @@ pub(crate) fn resume(
         Frame::LetBody { word, name, first } => after_let_body(reader, word, name, first, part),
         Frame::Pack { word, hidden } => after_pack(alloc, reader, word, hidden, part),
         Frame::Open { word, ty, name } => after_open(reader, word, ty, name, part),
-        Frame::OpenBody {
-            word,
-            ty,
-            name,
-            first,
-        } => after_open_body(reader, word, ty, name, first, part),
+        Frame::OpenBody(opening) => after_open_body(reader, opening, part),
         Frame::Ref { word } => after_ref(reader, word, part),
         Frame::Deref { sign } => after_deref(reader, sign, part),
         Frame::Argument { function } => after_argument(reader, function, part),

@@ -17,7 +17,7 @@ use Rattle.t_types.specs.declared.types.TType.{TType}
 use Rattle.std.proofs.lemmas.List.{drop_more}
 use Rattle.t_types.specs.Fits.{lookup}
 use Rattle.t_types.specs.WellFormed.{max_names, max_number, WellFormed, RegsAbove, WellFormedFile, WellFormedFields}
-use Rattle.t_terms.specs.Tree.{Reg, Int, Label, Data, TBase, TValue, Plain, Pack, TInstr, Arith, Bnz, Ld, Malloc, Mov}
+use Rattle.t_terms.specs.Tree.{Reg, Int, Label, Data, TBase, TValue, Plain, Pack, TInstr, Arith, Bnz, Ld, Mov}
 use Rattle.t_terms.specs.Tree.{St, Unpack, TEnd, Jmp, Halt, TProg, names_after}
 use Rattle.t_spill_rules.specs.Spill.{or_int, ins, base_type, applied_type, type_of, field_type, filled_type}
 use Rattle.t_spill_rules.specs.Spill.{hidden_type}
@@ -188,22 +188,15 @@ module _ (P : TProg) (x : TFile) where
   type_alone (Pack t v s) = refl
 
   pub given_alone : (i : TInstr) → given P (alone (subject i) x) i ≡ given P x i
-  given_alone (Arith op rd rs v) = refl
-  given_alone (Bnz r v) = refl
   given_alone (Ld rd rs i) = ap (λ o. field_type (or_int o) i) (one_same rs (lookup x rs))
-  given_alone (Malloc rd ts) = refl
   given_alone (Mov rd v) = type_alone v
   given_alone (St rd i rs) = ap (λ o. filled_type (or_int o) i) (one_same rd (lookup x rd))
   given_alone (Unpack rd v) = ap hidden_type (type_alone v)
+  given_alone _ = refl
 
   pub target_alone : (i : TInstr) → target P (alone (subject i) x) i ≡ target P x i
-  target_alone (Arith op rd rs v) = refl
   target_alone (Bnz r v) = ap target_file (type_alone v)
-  target_alone (Ld rd rs i) = refl
-  target_alone (Malloc rd ts) = refl
-  target_alone (Mov rd v) = refl
-  target_alone (St rd i rs) = refl
-  target_alone (Unpack rd v) = refl
+  target_alone _ = refl
 
   pub end_target_alone : (e : TEnd) → end_target P (alone (end_subject e) x) e ≡ end_target P x e
   end_target_alone (Jmp v) = ap target_file (type_alone v)
@@ -226,11 +219,9 @@ module _ (P : TProg) (x : TFile) where
   instr_applies_alone : (i : TInstr) → InstrApplies P x i → InstrApplies P (alone (subject i) x) i
   instr_applies_alone (Arith op rd rs v) h = none_applies v h
   instr_applies_alone (Bnz r v) h = applies_alone v h
-  instr_applies_alone (Ld rd rs i) h = tt
-  instr_applies_alone (Malloc rd ts) h = tt
   instr_applies_alone (Mov rd v) h = applies_alone v h
-  instr_applies_alone (St rd i rs) h = tt
   instr_applies_alone (Unpack rd v) h = applies_alone v h
+  instr_applies_alone _ h = tt
 
   pub ready_alone : (n : ℕ) (i : TInstr) → ReadyInstr P n x i → ReadyInstr P n (alone (subject i) x) i
   ready_alone n i h = (h.0, h.1, alone_formed n (subject i) x h.2, h.3, instr_applies_alone i h.4)
@@ -290,10 +281,5 @@ pub typable_read : (P : TProg) (n : ℕ) (x y : TFile) (i : TInstr) → y ≡ al
 typable_read P n x y i is h = (n, subst (λ z. ReadyInstr P n z i) (sym is) (ready_alone P x n i h))
 
 pub names_room : (i : TInstr) (m n : ℕ) → m ≤ n → names_after i n ≤ max_names → names_after i m ≤ max_names
-names_room (Arith op rd rs v) m n le h = omega (arith, le, h)
-names_room (Bnz r v) m n le h = omega (arith, le, h)
-names_room (Ld rd rs i) m n le h = omega (arith, le, h)
-names_room (Malloc rd ts) m n le h = omega (arith, le, h)
-names_room (Mov rd v) m n le h = omega (arith, le, h)
-names_room (St rd i rs) m n le h = omega (arith, le, h)
 names_room (Unpack rd v) m n le h = omega (arith, le, h)
+names_room _ m n le h = omega (arith, le, h)

@@ -7,7 +7,7 @@ use Rattle.t_types.specs.declared.types.TType.{TType}
 use Rattle.t_types.specs.Tree.{Ty, TFile, shift, shift_file}
 use Rattle.t_types.specs.Fits.{lookup}
 use Rattle.t_types.specs.Read.{file, types}
-use Rattle.t_terms.specs.Tree.{Reg, Int, Label, Data, TValue, Plain, Pack, TInstr, Arith, Bnz, Ld, Malloc, Mov, St}
+use Rattle.t_terms.specs.Tree.{Reg, Int, Label, Data, TValue, Plain, Pack, TInstr, Arith, Bnz, Ld, Mov, St}
 use Rattle.t_terms.specs.Tree.{Unpack, TEnd, Jmp, Halt, TSeq, Then, TProg}
 use Rattle.t_terms.specs.Whole.{WellFormedValue, WellFormedInstr}
 use Rattle.t_terms.specs.declared.instr.Instr.{Instr}
@@ -49,11 +49,9 @@ some_value_fits = value_fits
 instr_fits : (p q n : ℕ) (i : TInstr) → p < 2 ^ 64 → WellFormedInstr p q n i → InstrFits i
 instr_fits p q n (Arith op rd rs v) few h = value_fits p q n v few h.2
 instr_fits p q n (Bnz r v) few h = value_fits p q n v few h.1
-instr_fits p q n (Ld rd rs i) few h = tt
-instr_fits p q n (Malloc rd ts) few h = tt
 instr_fits p q n (Mov rd v) few h = value_fits p q n v few h.1
-instr_fits p q n (St rd i rs) few h = tt
 instr_fits p q n (Unpack rd v) few h = value_fits p q n v few h.1
+instr_fits p q n _ few h = tt
 
 pub fits_here : (P : TProg) (n : ℕ) (y : TFile) (i : TInstr) → length P.blocks < 2 ^ 64 → ReadyInstr P n y i →
     InstrFits i
@@ -80,13 +78,11 @@ module _ (P : TProg) (x y : TFile) (i : TInstr) (c : TSeq) (agrees : Agree (live
 
 -- the type that an instruction gives
 pub given_alike : (P : TProg) (x y : TFile) (i : TInstr) → Agree (reads i) x y → given P y i ≡ given P x i
-given_alike P x y (Arith op rd rs v) ag = refl
-given_alike P x y (Bnz r v) ag = refl
 given_alike P x y (Ld rd rs i) ag = ap (λ o. field_type (or_int o) i) (ag rs (among_first rs []))
-given_alike P x y (Malloc rd ts) ag = refl
 given_alike P x y (Mov rd v) ag = value_same P x y v ag
 given_alike P x y (St rd i rs) ag = ap (λ o. filled_type (or_int o) i) (ag rd (among_first rd (rs ∷ [])))
 given_alike P x y (Unpack rd v) ag = ap hidden_type (value_same P x y v ag)
+given_alike P x y _ ag = refl
 
 -- a register that is known behind an instruction was known before, unless the instruction gives it a word
 abbrev KnownTo : TFile → ℕ → Type 0
@@ -107,14 +103,10 @@ raised_known x r t e = go (lookup x r) refl
 
 known_before : (P : TProg) (x : TFile) (i : TInstr) (r : ℕ) (t : Ty) → nat_eq (defines i) r ≡ false →
     lookup (next P x i) r ≡ Some t → KnownTo x r
-known_before P x (Arith op rd rs v) r t ne e = ins_known x rd r t _ ne e
 known_before P x (Bnz q v) r t ne e = (t, e)
-known_before P x (Ld rd rs i) r t ne e = ins_known x rd r t _ ne e
-known_before P x (Malloc rd ts) r t ne e = ins_known x rd r t _ ne e
-known_before P x (Mov rd v) r t ne e = ins_known x rd r t _ ne e
-known_before P x (St rd i rs) r t ne e = ins_known x rd r t _ ne e
 known_before P x (Unpack rd v) r t ne e =
     let k = ins_known (shift_file 1 0 x) rd r t _ ne e in raised_known x r k.0 k.1
+known_before P x i r t ne e = ins_known x (defines i) r t _ ne e
 
 pub homed_next : (P : TProg) (m : ℕ) (x : TFile) (i : TInstr) (c : TSeq) (hs : Homes) →
     Homed m (live P x (Then i c)) x hs → (r : ℕ) (t : Ty) → m < r → among r (live P (next P x i) c) ≡ true →

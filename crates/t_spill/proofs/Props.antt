@@ -44,11 +44,9 @@ applies_prop P x (Pack t v s) = Unit-prop
 instr_applies_prop : (P : TProg) (x : TFile) (i : TInstr) → IsProp (InstrApplies P x i)
 instr_applies_prop P x (Arith op rd rs v) = applies_prop P x v
 instr_applies_prop P x (Bnz r v) = applies_prop P x v
-instr_applies_prop P x (Ld rd rs i) = Unit-prop
-instr_applies_prop P x (Malloc rd ts) = Unit-prop
 instr_applies_prop P x (Mov rd v) = applies_prop P x v
-instr_applies_prop P x (St rd i rs) = Unit-prop
 instr_applies_prop P x (Unpack rd v) = applies_prop P x v
+instr_applies_prop P x _ = Unit-prop
 
 ready_instr_prop : (P : TProg) (n : ℕ) (x : TFile) (i : TInstr) → IsProp (ReadyInstr P n x i)
 ready_instr_prop P n x i =

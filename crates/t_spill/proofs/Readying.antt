@@ -3,7 +3,7 @@ use Rattle.std.proofs.Common.{ℕ, ◌<◌, ◌≤◌, ◌^◌, List, [], ◌∷
 use Rattle.t_types.specs.Tree.{Ty, CodeTy, TFile}
 use Rattle.t_types.specs.Fits.{RegTypes, lookup}
 use Rattle.t_types.specs.WellFormed.{max_names, WellFormedFile}
-use Rattle.t_terms.specs.Tree.{TValue, Plain, Pack, TInstr, Arith, Bnz, Ld, Malloc, Mov, St, Unpack, TEnd, Jmp}
+use Rattle.t_terms.specs.Tree.{TValue, Plain, Pack, TInstr, Arith, Bnz, Mov, Unpack, TEnd, Jmp}
 use Rattle.t_terms.specs.Tree.{Halt, TSeq, Then, Ends, TBlock, TData, TProg, names_after}
 use Rattle.t_terms.specs.Whole.{WellFormedEnd, WellFormedSeq, WellFormedBlocks, WellFormedData, WellFormedHeap, Whole}
 use Rattle.t_rules.specs.Rules.{Has, Typed, EndTyped, SeqAccepted, BlocksAccepted, Accepted}
@@ -24,11 +24,9 @@ instr_applies : (P : TProg) (n : ℕ) (x : TFile) (i : TInstr) (g : RegTypes) �
     InstrApplies P x i
 instr_applies P n x (Arith op rd rs v) g h = value_applies P n x v _ h.1
 instr_applies P n x (Bnz r v) g h = value_applies P n x v _ h.1.1
-instr_applies P n x (Ld rd rs i) g h = tt
-instr_applies P n x (Malloc rd ts) g h = tt
 instr_applies P n x (Mov rd v) g h = value_applies P n x v h.0 h.1
-instr_applies P n x (St rd i rs) g h = tt
 instr_applies P n x (Unpack rd v) g h = value_applies P n x v _ h.1
+instr_applies P n x _ g h = tt
 
 module _ (P : TProg) (labels : LabelsScoped P) (tuples : DataScoped P) where
   p : ℕ

@@ -6,7 +6,7 @@ use Rattle.std.proofs.Math.Logic.{⊎_elim}
 use Rattle.std.proofs.lemmas.Bool.{cases_lt, lt-ltb, le-ltb, ne_eqb}
 use Rattle.t_types.specs.Tree.{Ty, TFile, shift_file}
 use Rattle.t_types.specs.Fits.{lookup}
-use Rattle.t_terms.specs.Tree.{TInstr, Arith, Bnz, Ld, Malloc, Mov, St, Unpack, TSeq, TProg, names_after}
+use Rattle.t_terms.specs.Tree.{TInstr, Bnz, Unpack, TSeq, TProg, names_after}
 use Rattle.t_spill_rules.specs.Spill.{Held, Layout, Way, Stays, Fills, Gathers, homed, into, sp, or_int, ins, next}
 use Rattle.t_spill_rules.specs.Spill.{kept}
 use Rattle.t_spill_rules.specs.Spill.{keep, live, among, numbers, high_part, layout, gather, defines, way, way_of}
@@ -45,13 +45,9 @@ stays_low m u rd e =
     go false h = absurd (omega (arith, h))
 
 pub stays_defines : (m u : ℕ) (i : TInstr) → way m u i ≡ Stays → defines i ≤ m
-stays_defines m u (Arith op rd rs v) e = stays_low m u rd e
 stays_defines m u (Bnz r v) e = omega arith
-stays_defines m u (Ld rd rs i) e = stays_low m u rd e
-stays_defines m u (Malloc rd ts) e = stays_low m u rd e
-stays_defines m u (Mov rd v) e = stays_low m u rd e
-stays_defines m u (St rd i rs) e = stays_low m u rd e
 stays_defines m u (Unpack rd v) e = let no : 2 ≡ 0 = ap kind e in absurd (omega (arith, no))
+stays_defines m u i e = stays_low m u (defines i) e
 
 fills_high : (m u rd : ℕ) → way_of m u rd ≡ Fills → m < rd
 fills_high m u rd e =
@@ -64,13 +60,9 @@ fills_high m u rd e =
     (cases_lt m rd)
 
 pub fills_defines : (m u : ℕ) (i : TInstr) → way m u i ≡ Fills → m < defines i
-fills_defines m u (Arith op rd rs v) e = fills_high m u rd e
 fills_defines m u (Bnz r v) e = let no : 0 ≡ 1 = ap kind e in absurd (omega (arith, no))
-fills_defines m u (Ld rd rs i) e = fills_high m u rd e
-fills_defines m u (Malloc rd ts) e = fills_high m u rd e
-fills_defines m u (Mov rd v) e = fills_high m u rd e
-fills_defines m u (St rd i rs) e = fills_high m u rd e
 fills_defines m u (Unpack rd v) e = let no : 2 ≡ 1 = ap kind e in absurd (omega (arith, no))
+fills_defines m u i e = fills_high m u (defines i) e
 
 -- the type that a definition gives is that of its register afterwards
 ins_gives : (rd : ℕ) (t : Ty) (x : TFile) → or_int (lookup (ins rd t x) rd) ≡ t
@@ -78,24 +70,15 @@ ins_gives rd t x = ap or_int (ap (λ g. g rd) (lookup_ins rd t x) ∙ look_same 
 
 pub fills_type : (P : TProg) (x : TFile) (m u : ℕ) (i : TInstr) → way m u i ≡ Fills →
     or_int (lookup (next P x i) (defines i)) ≡ given P x i
-fills_type P x m u (Arith op rd rs v) e = ins_gives rd _ x
 fills_type P x m u (Bnz r v) e = let no : 0 ≡ 1 = ap kind e in absurd (omega (arith, no))
-fills_type P x m u (Ld rd rs i) e = ins_gives rd _ x
-fills_type P x m u (Malloc rd ts) e = ins_gives rd _ x
-fills_type P x m u (Mov rd v) e = ins_gives rd _ x
-fills_type P x m u (St rd i rs) e = ins_gives rd _ x
 fills_type P x m u (Unpack rd v) e = ins_gives rd _ (shift_file 1 0 x)
+fills_type P x m u i e = ins_gives (defines i) _ x
 
 -- where a frame is made, what is kept is what the rest wants
 pub gathers_kept : (P : TProg) (x : TFile) (m u : ℕ) (i : TInstr) (c : TSeq) → way m u i ≡ Gathers →
     kept P x i c ≡ keep (live P (next P x i) c) (next P x i)
-gathers_kept P x m u (Arith op rd rs v) c e = refl
 gathers_kept P x m u (Bnz r v) c e = let no : 0 ≡ 2 = ap kind e in absurd (omega (arith, no))
-gathers_kept P x m u (Ld rd rs i) c e = refl
-gathers_kept P x m u (Malloc rd ts) c e = refl
-gathers_kept P x m u (Mov rd v) c e = refl
-gathers_kept P x m u (St rd i rs) c e = refl
-gathers_kept P x m u (Unpack rd v) c e = refl
+gathers_kept P x m u _ c e = refl
 
 -- what is left of the code, by what becomes of the word
 module _ (P : TProg) (x : TFile) (w : Walk) (i : TInstr) (c : TSeq) where

@@ -3,8 +3,8 @@ use Rattle.std.specs.Prelude.{◌≡◌, ℕ, ◌<◌, true, cond, nat_eq, List,
 use Rattle.t_types.specs.Tree.{Ty, TFile}
 use Rattle.t_types.specs.Fits.{lookup}
 use Rattle.t_terms.specs.Tree.{TInstr, TSeq, Then, TProg, names_after}
-use Rattle.t_spill_rules.specs.Spill.{live, numbers, next, kept, defines, way, after, before, finish, slots, code, layout}
-use Rattle.t_spill_rules.specs.Spill.{high_part, among}
+use Rattle.t_spill_rules.specs.Spill.{live, numbers, next, kept, defines, way, after, before, finish, slots, code}
+use Rattle.t_spill_rules.specs.Spill.{layout, high_part, among}
 use Rattle.t_spill_laws.proofs.Files.{Ascends}
 use Rattle.t_spill_laws.proofs.Live.{Agree}
 use Rattle.t_spill_code.specs.Homes.{home_in, has_in, layout_of, text}

@@ -35,7 +35,8 @@ whole m done ts tail more rest = onto done (with_slots m (types ts) more (onto t
 pub first_filled : (m : ℕ) (done tail done2 tail2 : List (Instr × Span)) (ts ts2 : List TType) (t : TType) →
     length ts ≡ 0 → done2 ≡ done ++ tail → ts2 ≡ ts ++ t ∷ [] →
     ((rest : TSeq) → onto tail2 rest ≡ Then (St (slot_reg m) 0 (first_reg m)) rest) → (more : List Ty) (rest : TSeq) →
-    whole m done2 ts2 tail2 more rest ≡ whole m done ts tail (tree t ∷ more) (before (fill_slot m 0 (tree t ∷ more)) rest)
+    whole m done2 ts2 tail2 more rest
+    ≡ whole m done ts tail (tree t ∷ more) (before (fill_slot m 0 (tree t ∷ more)) rest)
 first_filled m done tail done2 tail2 [] ts2 t z d s o more rest =
     ap₂ (λ (xs : List (Instr × Span)) (us : List TType). onto xs (with_slots m (types us) more (onto tail2 rest))) d s
     ∙ onto_both done tail (Then (Malloc (slot_reg m) (tree t ∷ more)) (onto tail2 rest))

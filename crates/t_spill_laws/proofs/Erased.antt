@@ -260,21 +260,11 @@ then_size m P L x i c =
 -- walks don't change what is erased
 way_over : (f : At Ty) (d m used : ℕ) (i : TInstr) → way m used (over_instr f d i) ≡ way m used i
 way_over f d m used (Arith op rd rs v) = refl
-way_over f d m used (Bnz r v) = refl
-way_over f d m used (Ld rd rs i) = refl
-way_over f d m used (Malloc rd ts) = refl
-way_over f d m used (Mov rd v) = refl
-way_over f d m used (St rd i rs) = refl
-way_over f d m used (Unpack rd v) = refl
+way_over f d m used _ = refl
 
 defines_over : (f : At Ty) (d : ℕ) (i : TInstr) → defines (over_instr f d i) ≡ defines i
 defines_over f d (Arith op rd rs v) = refl
-defines_over f d (Bnz r v) = refl
-defines_over f d (Ld rd rs i) = refl
-defines_over f d (Malloc rd ts) = refl
-defines_over f d (Mov rd v) = refl
-defines_over f d (St rd i rs) = refl
-defines_over f d (Unpack rd v) = refl
+defines_over f d _ = refl
 
 pub left_over : (f : At Ty) (m : ℕ) (c : TSeq) (used d : ℕ) → slots_left m used (over_seq f d c) ≡ slots_left m used c
 left_over f m (Ends e) used d = refl
@@ -361,11 +351,9 @@ value_reads_over f d (Pack t v s) = value_reads_over f d v
 reads_over : (f : At Ty) (d : ℕ) (i : TInstr) → reads (over_instr f d i) ≡ reads i
 reads_over f d (Arith op rd rs v) = ap (λ (qs : List ℕ). rs ∷ qs) (value_reads_over f d v)
 reads_over f d (Bnz r v) = ap (λ (qs : List ℕ). r ∷ qs) (value_reads_over f d v)
-reads_over f d (Ld rd rs i) = refl
-reads_over f d (Malloc rd ts) = refl
 reads_over f d (Mov rd v) = value_reads_over f d v
-reads_over f d (St rd i rs) = refl
 reads_over f d (Unpack rd v) = value_reads_over f d v
+reads_over f d _ = refl
 
 end_reads_over : (f : At Ty) (d : ℕ) (e : TEnd) → end_reads (over_end f d e) ≡ end_reads e
 end_reads_over f d (Jmp v) = value_reads_over f d v
@@ -457,12 +445,7 @@ module _ (c : ℕ) (s : Ty) (P : TProg) (closed : ClosedLabels P) (tuples : Clos
   high_same : (i : TInstr) (m d : ℕ) (x : TFile) (h : RegTypes) → c ≤ d → Typed P (d + 1) (lookup x) i h →
       highs m (target P (put_file_from c s d x) (over_instr (putted VarTy over c s) d i)) ≡ highs m (target P x i)
   high_same (Bnz r v) m d x h le k = high_target m d x v le k.1
-  high_same (Arith op rd rs v) m d x h le k = refl
-  high_same (Ld rd rs i) m d x h le k = refl
-  high_same (Malloc rd ts) m d x h le k = refl
-  high_same (Mov rd v) m d x h le k = refl
-  high_same (St rd i rs) m d x h le k = refl
-  high_same (Unpack rd v) m d x h le k = refl
+  high_same _ m d x h le k = refl
 
   high_end : (e : TEnd) (m d : ℕ) (x : TFile) → c ≤ d → EndTyped P (d + 1) (lookup x) e →
       highs m (end_target P (put_file_from c s d x) (over_end (putted VarTy over c s) d e))
@@ -473,12 +456,7 @@ module _ (c : ℕ) (s : Ty) (P : TProg) (closed : ClosedLabels P) (tuples : Clos
   target_same : (i : TInstr) (d : ℕ) (x : TFile) (h : RegTypes) → c ≤ d → Typed P (d + 1) (lookup x) i h →
       numbers (target P (put_file_from c s d x) (over_instr (putted VarTy over c s) d i)) ≡ numbers (target P x i)
   target_same (Bnz r v) d x h le k = target_put d x v le k.1
-  target_same (Arith op rd rs v) d x h le k = refl
-  target_same (Ld rd rs i) d x h le k = refl
-  target_same (Malloc rd ts) d x h le k = refl
-  target_same (Mov rd v) d x h le k = refl
-  target_same (St rd i rs) d x h le k = refl
-  target_same (Unpack rd v) d x h le k = refl
+  target_same _ d x h le k = refl
 
   end_same : (e : TEnd) (d : ℕ) (x : TFile) → c ≤ d → EndTyped P (d + 1) (lookup x) e →
       numbers (end_target P (put_file_from c s d x) (over_end (putted VarTy over c s) d e))
@@ -488,12 +466,7 @@ module _ (c : ℕ) (s : Ty) (P : TProg) (closed : ClosedLabels P) (tuples : Clos
 
   larger : (i : TInstr) (d : ℕ) → c ≤ d → c ≤ names_after i d
   larger (Unpack rd v) d le = omega arith
-  larger (Arith op rd rs v) d le = le
-  larger (Bnz r v) d le = le
-  larger (Ld rd rs i) d le = le
-  larger (Malloc rd ts) d le = le
-  larger (Mov rd v) d le = le
-  larger (St rd i rs) d le = le
+  larger _ d le = le
 
   names_up : (i : TInstr) (d : ℕ) → names_after i (d + 1) ≡ names_after i d + 1
   names_up i d = omega (arith, names_more i d, names_more i (d + 1))
@@ -538,12 +511,7 @@ module _ (c : ℕ) (s : Ty) (P : TProg) (closed : ClosedLabels P) (tuples : Clos
       (over_seq (putted VarTy over c s) (names_after i d) rest)
       ≡ put_file_from c s (names_after i d) (kept P x i rest)
   kept_put (Bnz r v) d x rest le k = refl
-  kept_put (Arith op rd rs v) d x rest le k = keep_put (Arith op rd rs v) d x rest le k
-  kept_put (Ld rd rs i) d x rest le k = keep_put (Ld rd rs i) d x rest le k
-  kept_put (Malloc rd ts) d x rest le k = keep_put (Malloc rd ts) d x rest le k
-  kept_put (Mov rd v) d x rest le k = keep_put (Mov rd v) d x rest le k
-  kept_put (St rd i rs) d x rest le k = keep_put (St rd i rs) d x rest le k
-  kept_put (Unpack rd v) d x rest le k = keep_put (Unpack rd v) d x rest le k
+  kept_put i d x rest le k = keep_put i d x rest le k
 
   kept_highs : (m : ℕ) (i : TInstr) (d : ℕ) (x : TFile) (rest : TSeq) → c ≤ d →
       SeqAccepted P (d + 1) (lookup x) (Then i rest) →

@@ -17,10 +17,10 @@ use Rattle.t_spill_rules.specs.Spill.{homed}
 use Rattle.t_spill_rules.specs.Spill.{layout}
 use Rattle.t_spill_rules.specs.Spill.{at_home, load, load_value, second_at, fill, build, defines, into, Way, Stays}
 use Rattle.t_spill_rules.specs.Spill.{Fills}
-use Rattle.t_spill_rules.specs.Spill.{Gathers, way_of, way, after, slots_by, used_by, slots, fill_slot, finish}
-use Rattle.t_spill_rules.specs.Spill.{target, before, code}
+use Rattle.t_spill_rules.specs.Spill.{Gathers, way, after, slots_by, used_by, slots, fill_slot, finish}
+use Rattle.t_spill_rules.specs.Spill.{target, before, does, code}
 use Rattle.t_spill_rules.specs.Spill.{sp_blocks, sp_data, spilled_above}
-use Rattle.t_spill_rules.proofs.Parts.{joined, stepped, step_is}
+use Rattle.t_spill_rules.proofs.Parts.{joined, loading, step_is}
 use Rattle.t_spill_laws.specs.Bound.{InType, InFile, InFields, InTypes, InValue, InSeq, InBlocks, InData, InHeap}
 use Rattle.t_spill_laws.specs.Bound.{RegistersUpTo}
 use Rattle.t_spill_laws.proofs.Homes.{Regular, UpTo, sound_up, homed_up, into_most, gathered_regular, way_sound}
@@ -164,53 +164,46 @@ module _ (k m : ℕ) (most : m + 6 ≤ k) where
     here : (rd : ℕ) → into m rd ≤ k
     here rd = let a = into_most m rd in omega (arith, a, most)
 
-    in_step : (i : TInstr) (high : TFile) (ts : List Ty) (to : TFile) (rest : TSeq) → InTypes k ts → InSeq k rest →
-        InSeq k (stepped m L high i ts to rest)
-    in_step (Arith op rd rs v) high ts to rest ht h =
-        in_load (first_reg m) (L.homes rs) _ (omega arith) (in_load_value L.homes v _ (
-          (here rd, first rs, in_value (second_at m L.homes) v second),
-          in_finish L rd ts to (way_of m L.used rd) rest reg ht h,
-        ))
-    in_step (Bnz r v) high ts to rest ht h =
-        in_build L.homes high _ up
-        (in_load (first_reg m) (L.homes r) _ (omega arith) (in_load_value L.homes v _ (
-          (omega (arith, most), (omega (arith, most), tt)),
-          (
-            (omega (arith, most), (omega (arith, most), tt)),
-            (
-              (first r, in_value (second_at m L.homes) v second),
-              ((omega (arith, most), (omega (arith, most), tt)), h),
-            ),
-          ),
-        )))
-    in_step (Ld rd rs i) high ts to rest ht h =
-        in_load (first_reg m) (L.homes rs) _ (omega arith)
-        ((here rd, first rs), in_finish L rd ts to (way_of m L.used rd) rest reg ht h)
-    in_step (Malloc rd us) high ts to rest ht h =
-        ((here rd, in_types us), in_finish L rd ts to (way_of m L.used rd) rest reg ht h)
-    in_step (Mov rd v) high ts to rest ht h =
-        in_load_value L.homes v _ (
-          (here rd, in_value (second_at m L.homes) v second),
-          in_finish L rd ts to (way_of m L.used rd) rest reg ht h,
-        )
-    in_step (St rd i rs) high ts to rest ht h =
-        in_load (first_reg m) (L.homes rd) _ (omega arith) (in_load (second_reg m) (L.homes rs) _ (omega arith)
-        ((here rd, second rs), in_finish L rd ts to (way_of m L.used rd) rest reg ht h))
-    in_step (Unpack rd v) high ts to rest ht h =
-        in_load_value L.homes v _ (
-          (here rd, in_value (second_at m L.homes) v second),
-          in_finish L rd ts to Gathers rest reg ht h,
-        )
+    value : (v : TValue) → InValue k (sp_value m (second_at m L.homes) v)
+    value v = in_value (second_at m L.homes) v second
+
+    in_loading : (high : TFile) (i : TInstr) (rest : TSeq) → InSeq k rest → InSeq k (loading m L.homes high i rest)
+    in_loading high (Arith op rd rs v) rest h =
+        in_load (first_reg m) (L.homes rs) _ (omega arith) (in_load_value L.homes v rest h)
+    in_loading high (Bnz r v) rest h =
+        in_build L.homes high _ up (in_load (first_reg m) (L.homes r) _ (omega arith) (in_load_value L.homes v rest h))
+    in_loading high (Ld rd rs i) rest h = in_load (first_reg m) (L.homes rs) rest (omega arith) h
+    in_loading high (Malloc rd us) rest h = h
+    in_loading high (Mov rd v) rest h = in_load_value L.homes v rest h
+    in_loading high (St rd i rs) rest h =
+        in_load (first_reg m) (L.homes rd) _ (omega arith) (in_load (second_reg m) (L.homes rs) rest (omega arith) h)
+    in_loading high (Unpack rd v) rest h = in_load_value L.homes v rest h
+
+    in_does : (i : TInstr) (rest : TSeq) → InSeq k rest → InSeq k (before (does m L.homes i) rest)
+    in_does (Arith op rd rs v) rest h = ((here rd, first rs, value v), h)
+    in_does (Bnz r v) rest h = (
+      (omega (arith, most), (omega (arith, most), tt)),
+      (
+        (omega (arith, most), (omega (arith, most), tt)),
+        ((first r, value v), ((omega (arith, most), (omega (arith, most), tt)), h)),
+      ),
+    )
+    in_does (Ld rd rs i) rest h = ((here rd, first rs), h)
+    in_does (Malloc rd us) rest h = ((here rd, in_types us), h)
+    in_does (Mov rd v) rest h = ((here rd, value v), h)
+    in_does (St rd i rs) rest h = ((here rd, second rs), h)
+    in_does (Unpack rd v) rest h = ((here rd, value v), h)
 
   in_code : (P : TProg) (c : TSeq) (L : Layout) (x : TFile) → Regular m L → InSeq k (code m P L x c)
   in_code P (Then i c) L x reg =
       subst (InSeq k) (sym (step_is m P L x i c _))
-      (in_step L reg i (high_part m (target P x i)) (slots m P L.used x (Then i c)) (kept P x i c) _
+      (in_loading L reg (high_part m (target P x i)) i _ (in_does L reg i _
+      (in_finish L (defines i) (slots m P L.used x (Then i c)) (kept P x i c) (way m L.used i) _ reg
       (in_slots P (Then i c) L.used x)
-      (in_code P c (after m L i (kept P x i c)) (kept P x i c) (way_sound m L i (kept P x i c) reg)))
+      (in_code P c (after m L i (kept P x i c)) (kept P x i c) (way_sound m L i (kept P x i c) reg)))))
   in_code P (Ends (Jmp v)) L x reg =
       in_build L.homes (high_part m (target_file (type_of P x v))) _ (up L reg) (in_load_value L.homes v _
-      ((omega (arith, most), (omega (arith, most), tt)), in_value (second_at m L.homes) v (second L reg)))
+      ((omega (arith, most), (omega (arith, most), tt)), value L reg v))
   in_code P (Ends Halt) L x reg = tt
 
   in_blocks : (P : TProg) (bs : List TBlock) → InBlocks k (sp_blocks m P bs)

@@ -4,9 +4,9 @@ use Rattle.std.proofs.Common.{subst, arith, inl, inr, ◌⊎◌, ⊎_elim}
 use Rattle.std.specs.Prelude.{◌≢◌}
 use Rattle.std.proofs.lemmas.Bool.{eq-eqb, ne_eqb, cases_lt, cases_eq, lt-ltb, le-ltb}
 use Rattle.t_types.specs.Tree.{TFile}
-use Rattle.t_terms.specs.Tree.{TInstr, Arith, Bnz, Ld, Malloc, Mov, St, Unpack}
+use Rattle.t_terms.specs.Tree.{TInstr, Bnz, Unpack}
 use Rattle.t_spill_rules.specs.Spill.{Home, Held, InFrame, InSlot, Layout, homed, position, gathered, at_home, into}
-use Rattle.t_spill_rules.specs.Spill.{first_reg}
+use Rattle.t_spill_rules.specs.Spill.{first_reg, defines}
 use Rattle.t_spill_rules.specs.Spill.{Way, Stays, Fills, Gathers, most_slots, way_of, after_way, after, used_by}
 
 -- the home of r is its own register, up to m, or in a tuple, in a slot that is used
@@ -157,13 +157,10 @@ after_regular m L rd to Gathers k h r = gathered_regular m _ r
 -- of each instruction
 
 pub way_sound : (m : ℕ) (L : Layout) (i : TInstr) (to : TFile) → Regular m L → Regular m (after m L i to)
-way_sound m L (Arith op rd rs v) to h = after_regular m L rd to (way_of m L.used rd) (way_fits m L.used rd) h
 way_sound m L (Bnz r v) to h = h
-way_sound m L (Ld rd rs i) to h = after_regular m L rd to (way_of m L.used rd) (way_fits m L.used rd) h
-way_sound m L (Malloc rd ts) to h = after_regular m L rd to (way_of m L.used rd) (way_fits m L.used rd) h
-way_sound m L (Mov rd v) to h = after_regular m L rd to (way_of m L.used rd) (way_fits m L.used rd) h
-way_sound m L (St rd i rs) to h = after_regular m L rd to (way_of m L.used rd) (way_fits m L.used rd) h
 way_sound m L (Unpack rd v) to h = gathered_regular m _
+way_sound m L i to h =
+    after_regular m L (defines i) to (way_of m L.used (defines i)) (way_fits m L.used (defines i)) h
 
 -- how many slots are used
 pub used_is : (m : ℕ) (L : Layout) (rd : ℕ) (to : TFile) (w : Way) → (after_way m L rd to w).used ≡ used_by w L.used

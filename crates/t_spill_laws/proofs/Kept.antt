@@ -5,7 +5,7 @@ use Rattle.std.specs.Prelude.{max}
 use Rattle.std.proofs.lemmas.Bool.{ne_eqb, eqb-true}
 use Rattle.t_types.specs.Tree.{Ty, IntTy, CodeTy, ExistsTy, TFile, NoRegs, MoreRegs}
 use Rattle.t_types.specs.Fits.{lookup}
-use Rattle.t_terms.specs.Tree.{TValue, TInstr, Arith, Bnz, Ld, Malloc, Mov, St, Unpack, Jmp, Halt, TSeq, Then, Ends}
+use Rattle.t_terms.specs.Tree.{TValue, TInstr, Arith, Bnz, Mov, Unpack, Jmp, Halt, TSeq, Then, Ends}
 use Rattle.t_terms.specs.Tree.{TProg, names_after}
 use Rattle.t_rules.specs.Rules.{Has, SeqAccepted}
 use Rattle.t_spill_rules.specs.Spill.{type_of, next, numbers, target, value_reads, reads, live, among, kept, FewNames}
@@ -142,19 +142,17 @@ module _ (P : TProg) where
             (λ r e. front n y x (Bnz s v) c k r (among_next r s _ (among_left r (value_reads v) _ e))) a.1 f.0,
         tt,
       )
-  values_few n y x (Ld rd rs i) c k f = tt
-  values_few n y x (Malloc rd ts) c k f = tt
   values_few n y x (Mov rd v) c k f = (
     value_kept (FewNames n) n y x v k.acc.1.0
         (λ r e. front n y x (Mov rd v) c k r (among_left r (value_reads v) [] e)) k.acc.1.1 f.0,
     tt,
   )
-  values_few n y x (St rd i rs) c k f = tt
   values_few n y x (Unpack rd v) c k f = (
     value_kept (FewNames n) n y x v (ExistsTy k.acc.1.0)
         (λ r e. front n y x (Unpack rd v) c k r (among_left r (value_reads v) [] e)) k.acc.1.1 f.0,
     tt,
   )
+  values_few n y x _ c k f = tt
 
   pub kept_few : (c : TSeq) (n : ℕ) (y x : TFile) → Knows n y x c → SeqFew P n y c → KeptFew P n x c
   kept_few (Then i c) n y x k f =
@@ -186,17 +184,15 @@ module _ (P : TProg) where
       let h = value_kept (Within m) n y x v (CodeTy 0 a.0)
       (λ r e. front n y x (Bnz s v) c k r (among_next r s _ (among_left r (value_reads v) _ e))) a.1
       (omega (arith, f)) in omega (arith, f, h)
-  reach_same m n y x (Ld rd rs i) c k f = f
-  reach_same m n y x (Malloc rd ts) c k f = f
   reach_same m n y x (Mov rd v) c k f =
       let h = value_kept (Within m) n y x v k.acc.1.0
       (λ r e. front n y x (Mov rd v) c k r (among_left r (value_reads v) [] e)) k.acc.1.1 (omega (arith, f)) in
       omega (arith, f, h)
-  reach_same m n y x (St rd i rs) c k f = f
   reach_same m n y x (Unpack rd v) c k f =
       let h = value_kept (Within m) n y x v (ExistsTy k.acc.1.0)
       (λ r e. front n y x (Unpack rd v) c k r (among_left r (value_reads v) [] e)) k.acc.1.1 (omega (arith, f)) in
       omega (arith, f, h)
+  reach_same m n y x _ c k f = f
 
   pub kept_reach : (m : ℕ) (c : TSeq) (n : ℕ) (y x : TFile) → Knows n y x c → seq_reach P y c ≤ m → KeptReach P m x c
   kept_reach m (Then i c) n y x k f =

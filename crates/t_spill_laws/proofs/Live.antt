@@ -318,12 +318,7 @@ module _ (P : TProg) where
   pub kept_case : (i : TInstr) (x : TFile) (c : TSeq) → (kept P x i c ≡ keep (live P (next P x i) c) (next P x i))
       ⊎ (kept P x i c ≡ next P x i)
   kept_case (Bnz r v) x c = inr refl
-  kept_case (Arith op rd rs v) x c = inl refl
-  kept_case (Ld rd rs i) x c = inl refl
-  kept_case (Malloc rd ts) x c = inl refl
-  kept_case (Mov rd v) x c = inl refl
-  kept_case (St rd i rs) x c = inl refl
-  kept_case (Unpack rd v) x c = inl refl
+  kept_case _ x c = inl refl
 
   -- so each property of files that keeping and staying keep
   pub by_cases : (i : TInstr) (x : TFile) (c : TSeq) (Q : TFile → Type 0) →
@@ -392,12 +387,7 @@ module _ (P : TProg) where
 
   pub target_alike : (y z : TFile) (i : TInstr) → Agree (reads i) y z → target P z i ≡ target P y i
   target_alike y z (Bnz r v) ag = ap target_file (value_same y z v (λ q e. ag q (among_next q r (value_reads v) e)))
-  target_alike y z (Arith op rd rs v) ag = refl
-  target_alike y z (Ld rd rs i) ag = refl
-  target_alike y z (Malloc rd ts) ag = refl
-  target_alike y z (Mov rd v) ag = refl
-  target_alike y z (St rd i rs) ag = refl
-  target_alike y z (Unpack rd v) ag = refl
+  target_alike y z _ ag = refl
 
   pub end_alike : (y z : TFile) (e : TEnd) → Agree (end_reads e) y z → end_target P z e ≡ end_target P y e
   end_alike y z (Jmp v) ag = ap target_file (value_same y z v ag)

@@ -18,11 +18,11 @@ use Rattle.t_spill_rules.specs.Spill.{type_of}
 use Rattle.t_spill_rules.specs.Spill.{target_file, next, numbers, kept, or_int, Home, Held, InFrame, InSlot, Layout}
 use Rattle.t_spill_rules.specs.Spill.{homed}
 use Rattle.t_spill_rules.specs.Spill.{layout, load, load_value, second_at, fill, build, defines, into, Way, Stays}
-use Rattle.t_spill_rules.specs.Spill.{Fills, Gathers, way_of, way, after, slots_by, used_by, slots, fill_slot, finish}
-use Rattle.t_spill_rules.specs.Spill.{target, before}
+use Rattle.t_spill_rules.specs.Spill.{Fills, Gathers, way, after, slots_by, used_by, slots, fill_slot, finish}
+use Rattle.t_spill_rules.specs.Spill.{target, before, does}
 use Rattle.t_spill_rules.specs.Spill.{code, sp_blocks, sp_data, spilled_above}
 use Rattle.t_spill_rules.proofs.HighParts.{high_regs}
-use Rattle.t_spill_rules.proofs.Parts.{joined, stepped, step_is}
+use Rattle.t_spill_rules.proofs.Parts.{joined, loading, step_is}
 use Rattle.t_terms.specs.Flat.{FlatValue, FlatInstr, FlatSeq, FlatBlocks, FlatData, FlatHeap, Flat}
 use Rattle.t_terms.specs.Reach.{type_reach, regs_reach, fields_reach, types_reach}
 use Rattle.t_spill_laws.specs.Reach.{value_reach, instr_reach, seq_reach, blocks_reach, data_reach, heap_reach, reach}
@@ -110,6 +110,10 @@ target_most (CodeTy owes file) = omega arith
 target_most (ExistsTy t) = omega arith
 target_most (TupleTy fs) = omega arith
 
+reach_target : (P : TProg) (x : TFile) (i : TInstr) → regs_reach (target P x i) ≤ instr_reach P x i
+reach_target P x (Bnz r v) = let t = target_most (type_of P x v) in omega (arith, t)
+reach_target P x _ = omega arith
+
 -- the types of slots
 look_most : (x : TFile) (r : ℕ) → type_reach (or_int (lookup x r)) ≤ regs_reach x
 look_most NoRegs r = omega arith
@@ -177,45 +181,44 @@ module _ (n : ℕ) (some : 2 ≤ n) (m : ℕ) where
       joined (λ c. seq_nesting c ≤ n) (build m homes (high_part m to)) _ rest
       (build_most homes to _ nx (omega (arith, h)))
 
-  step_most : (P : TProg) (L : Layout) (x : TFile) (i : TInstr) (ts : List Ty) (to : TFile) (rest : TSeq) →
-      FlatInstr i → instr_reach P x i + 2 ≤ n → types_nesting ts + 1 ≤ n → regs_reach to + 2 ≤ n →
-      seq_nesting rest ≤ n → seq_nesting (stepped m L (high_part m (target P x i)) i ts to rest) ≤ n
-  step_most P L x (Arith op rd rs v) ts to rest f le ht nx h =
-      let a = value_most m (second_at m L.homes) v f in
-      let b = finish_most L rd ts to (way_of m L.used rd) rest ht (omega (arith, nx)) h in
-      load_most (first_reg m) (L.homes rs) _ (load_value_most L.homes v _ (omega (arith, a, b, le)))
-  step_most P L x (Bnz r v) ts to rest f le ht nx h =
-      let a = value_most m (second_at m L.homes) v f in
-      let t = target_most (type_of P x v) in
-      build_most L.homes (target_file (type_of P x v)) _ (omega (arith, t, le))
-      (load_most (first_reg m) (L.homes r) _ (load_value_most L.homes v _ (omega (arith, a, h, le))))
-  step_most P L x (Ld rd rs i) ts to rest f le ht nx h =
-      let b = finish_most L rd ts to (way_of m L.used rd) rest ht (omega (arith, nx)) h in
-      load_most (first_reg m) (L.homes rs) _ (omega (arith, b, some))
-  step_most P L x (Malloc rd us) ts to rest f le ht nx h =
-      let a = types_most m us in
-      let b = finish_most L rd ts to (way_of m L.used rd) rest ht (omega (arith, nx)) h in
-      omega (arith, a, b, le)
-  step_most P L x (Mov rd v) ts to rest f le ht nx h =
-      let a = value_most m (second_at m L.homes) v f in
-      let b = finish_most L rd ts to (way_of m L.used rd) rest ht (omega (arith, nx)) h in
-      load_value_most L.homes v _ (omega (arith, a, b, le))
-  step_most P L x (St rd i rs) ts to rest f le ht nx h =
-      let b = finish_most L rd ts to (way_of m L.used rd) rest ht (omega (arith, nx)) h in
-      load_most (first_reg m) (L.homes rd) _ (load_most (second_reg m) (L.homes rs) _ (omega (arith, b, some)))
-  step_most P L x (Unpack rd v) ts to rest f le ht nx h =
-      let a = value_most m (second_at m L.homes) v f in
-      let b = finish_most L rd ts to Gathers rest ht (omega (arith, nx)) h in
-      load_value_most L.homes v _ (omega (arith, a, b, le, some))
+  loading_most : (homes : ℕ → Home) (to : TFile) (i : TInstr) (rest : TSeq) → regs_reach to + 1 ≤ n →
+      seq_nesting rest ≤ n → seq_nesting (loading m homes (high_part m to) i rest) ≤ n
+  loading_most homes to (Arith op rd rs v) rest le h =
+      load_most (first_reg m) (homes rs) _ (load_value_most homes v rest h)
+  loading_most homes to (Bnz r v) rest le h =
+      build_most homes to _ le (load_most (first_reg m) (homes r) _ (load_value_most homes v rest h))
+  loading_most homes to (Ld rd rs i) rest le h = load_most (first_reg m) (homes rs) rest h
+  loading_most homes to (Malloc rd us) rest le h = h
+  loading_most homes to (Mov rd v) rest le h = load_value_most homes v rest h
+  loading_most homes to (St rd i rs) rest le h =
+      load_most (first_reg m) (homes rd) _ (load_most (second_reg m) (homes rs) rest h)
+  loading_most homes to (Unpack rd v) rest le h = load_value_most homes v rest h
+
+  does_most : (P : TProg) (x : TFile) (homes : ℕ → Home) (i : TInstr) (rest : TSeq) → FlatInstr i →
+      instr_reach P x i + 2 ≤ n → seq_nesting rest ≤ n → seq_nesting (before (does m homes i) rest) ≤ n
+  does_most P x homes (Arith op rd rs v) rest f le h =
+      let a = value_most m (second_at m homes) v f in omega (arith, a, h, le)
+  does_most P x homes (Bnz r v) rest f le h =
+      let a = value_most m (second_at m homes) v f in omega (arith, a, h, le)
+  does_most P x homes (Ld rd rs i) rest f le h = omega (arith, h, some)
+  does_most P x homes (Malloc rd us) rest f le h = let a = types_most m us in omega (arith, a, h, le)
+  does_most P x homes (Mov rd v) rest f le h =
+      let a = value_most m (second_at m homes) v f in omega (arith, a, h, le)
+  does_most P x homes (St rd i rs) rest f le h = omega (arith, h, some)
+  does_most P x homes (Unpack rd v) rest f le h =
+      let a = value_most m (second_at m homes) v f in omega (arith, a, h, le, some)
 
   code_most : (P : TProg) (k : ℕ) (c : TSeq) (L : Layout) (x : TFile) → k + 2 ≤ n → FlatSeq c → KeptReach P k x c →
       seq_nesting (code m P L x c) ≤ n
   code_most P k (Then i c) L x le f h =
       let s = slots_most m k P (Then i c) L.used x h in
+      let t = reach_target P x i in
       subst (λ d. seq_nesting d ≤ n) (sym (step_is m P L x i c _))
-      (step_most P L x i (slots m P L.used x (Then i c)) (kept P x i c) _ f.0 (omega (arith, h.0, le))
+      (loading_most L.homes (target P x i) i _ (omega (arith, t, h.0, le))
+      (does_most P x L.homes i _ f.0 (omega (arith, h.0, le))
+      (finish_most L (defines i) (slots m P L.used x (Then i c)) (kept P x i c) (way m L.used i) _
       (omega (arith, s, le)) (omega (arith, h.1, le))
-      (code_most P k c (after m L i (kept P x i c)) (kept P x i c) le f.1 h.3))
+      (code_most P k c (after m L i (kept P x i c)) (kept P x i c) le f.1 h.3))))
   code_most P k (Ends (Jmp v)) L x le f h =
       let a = value_most m (second_at m L.homes) v f in
       let t = target_most (type_of P x v) in

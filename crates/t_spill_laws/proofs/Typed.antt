@@ -69,12 +69,7 @@ module _ (m : ℕ) (P Q : TProg) (labels : Labels m P Q) (tuples : Tuples m P Q)
       (names_after i n ≡ n → BelowTypes n (slots_by (way m used i) t ts)) →
       BelowTypes n (slots_by (way m used i) t ts)
   no_slots (Unpack rd v) used n t ts h = tt
-  no_slots (Arith op rd rs v) used n t ts h = h refl
-  no_slots (Bnz r v) used n t ts h = h refl
-  no_slots (Ld rd rs i) used n t ts h = h refl
-  no_slots (Malloc rd us) used n t ts h = h refl
-  no_slots (Mov rd v) used n t ts h = h refl
-  no_slots (St rd i rs) used n t ts h = h refl
+  no_slots _ used n t ts h = h refl
 
   module _ (p q : ℕ) (files : LabelsScoped P) (fields : DataScoped P) where
     pub slots_below : (c : TSeq) (file : TFile) (used n : ℕ) → ScopedRegs 0 n file → WellFormedSeq p q n c →

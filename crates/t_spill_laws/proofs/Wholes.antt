@@ -14,12 +14,12 @@ use Rattle.t_terms.specs.Tree.{Jmp, Halt, TSeq, Then, Ends, TBlock, TData, TProg
 use Rattle.t_terms.specs.Whole.{WellFormedValue, WellFormedInstr, WellFormedSeq, WellFormedBlock, WellFormedBlocks}
 use Rattle.t_terms.specs.Whole.{HasNoRegister, WellFormedData, WellFormedHeap, Whole}
 use Rattle.t_rules.specs.Rules.{Enters, Typed, SeqAccepted, BlocksAccepted, Accepted}
-use Rattle.t_spill_rules.specs.Spill.{frame_reg, first_reg, second_reg, made_reg, saved_reg, with_if, without_if}
+use Rattle.t_spill_rules.specs.Spill.{frame_reg, first_reg, second_reg, made_reg, with_if, without_if}
 use Rattle.t_spill_rules.specs.Spill.{high_part, low_part, frame, cells, split, sp, sp_regs, sp_fields, sp_value}
 use Rattle.t_spill_rules.specs.Spill.{type_of}
 use Rattle.t_spill_rules.specs.Spill.{target_file, or_int, next, numbers, kept, Home, Held, InFrame, InSlot, Layout}
-use Rattle.t_spill_rules.specs.Spill.{homed, target, before}
-use Rattle.t_spill_rules.proofs.Parts.{joined, stepped, step_is}
+use Rattle.t_spill_rules.specs.Spill.{homed, target, before, does}
+use Rattle.t_spill_rules.proofs.Parts.{joined, loading, step_is}
 use Rattle.t_spill_rules.specs.Spill.{position, gathered, layout, at_home, load, load_value, second_at, fill, build}
 use Rattle.t_spill_rules.specs.Spill.{defines, into, Way, Stays, Fills, Gathers, most_slots, way_of, way, after_way}
 use Rattle.t_spill_rules.specs.Spill.{after}
@@ -114,13 +114,10 @@ near_way m n L rd to Gathers k h l = near_gathered m (highs m to) (highs_few m n
 
 near_after : (m n : ℕ) (L : Layout) (i : TInstr) (to : TFile) → RegsAbove 0 n to → NearLayout L →
     NearLayout (after m L i to)
-near_after m n L (Arith op rd rs v) to h l = near_way m n L rd to (way_of m L.used rd) (way_fits m L.used rd) h l
 near_after m n L (Bnz r v) to h l = l
-near_after m n L (Ld rd rs i) to h l = near_way m n L rd to (way_of m L.used rd) (way_fits m L.used rd) h l
-near_after m n L (Malloc rd ts) to h l = near_way m n L rd to (way_of m L.used rd) (way_fits m L.used rd) h l
-near_after m n L (Mov rd v) to h l = near_way m n L rd to (way_of m L.used rd) (way_fits m L.used rd) h l
-near_after m n L (St rd i rs) to h l = near_way m n L rd to (way_of m L.used rd) (way_fits m L.used rd) h l
 near_after m n L (Unpack rd v) to h l = near_way m n L rd to Gathers tt h l
+near_after m n L i to h l =
+    near_way m n L (defines i) to (way_of m L.used (defines i)) (way_fits m L.used (defines i)) h l
 
 module _ (m : ℕ) (fit : m + 6 ≤ max_number) where
   -- types
@@ -273,78 +270,62 @@ module _ (m : ℕ) (fit : m + 6 ≤ max_number) where
           (build_well homes to _ (λ r. homed_near L rd r l) (λ r z. homed_own L rd r reg hd z) h
           (mov_well (frame_reg m) (made_reg m) rest one_own (own 5 (omega arith) (omega arith)) k))
 
-    -- a branch's target
-    abbrev TargetAbove : TProg → ℕ → TFile → TInstr → Type 0
-    TargetAbove P n x (Bnz r v) = RegsAbove 0 n (target_file (type_of P x v))
-    TargetAbove P n x (Arith op rd rs v) = Unit {0}
-    TargetAbove P n x (Ld rd rs i) = Unit {0}
-    TargetAbove P n x (Malloc rd ts) = Unit {0}
-    TargetAbove P n x (Mov rd v) = Unit {0}
-    TargetAbove P n x (St rd i rs) = Unit {0}
-    TargetAbove P n x (Unpack rd v) = Unit {0}
-
-    module _ (P : TProg) (L : Layout) (reg : Regular m L) (near : NearLayout L) where
+    module _ (L : Layout) (reg : Regular m L) (near : NearLayout L) where
       first_own : (r : ℕ) → IsRegister r → IsRegister (at_home (first_reg m) (L.homes r))
       first_own r h = at_own L.used (first_reg m) r (L.homes r) (reg r) (own 3 (omega arith) (omega arith)) h
 
-      step_well : (i : TInstr) (n : ℕ) (x : TFile) (ts : List Ty) (to : TFile) (rest : TSeq) → n ≤ max_names →
-          names_after i n ≤ max_names → RegsAbove 0 (names_after i n) to → WellFormedTypes (names_after i n) ts →
-          TargetAbove P n x i →
-          WellFormedInstr p q n i → WellFormedSeq p2 q (names_after i n) rest →
-          WellFormedSeq p2 q n (stepped m L (high_part m (target P x i)) i ts to rest)
-      step_well (Arith op rd rs v) n x ts to rest few f2 nx ht tg w k =
-          load_well n few (first_reg m) (L.homes rs) _ (own 3 (omega arith) (omega arith)) (near.0 rs)
-          (load_value_well n few L.homes v _ near.0 (
+      value_here : (n : ℕ) (v : TValue) → WellFormedValue p q n v →
+          WellFormedValue p2 q n (sp_value m (second_at m L.homes) v)
+      value_here n v w = value_well n (second_at m L.homes) v (λ r h. second_own L r reg h) w
+
+      first_well : (n r : ℕ) (rest : TSeq) → n ≤ max_names → WellFormedSeq p2 q n rest →
+          WellFormedSeq p2 q n (before (load m (first_reg m) (L.homes r)) rest)
+      first_well n r rest few k =
+          load_well n few (first_reg m) (L.homes r) rest (own 3 (omega arith) (omega arith)) (near.0 r) k
+
+      loading_well : (i : TInstr) (n : ℕ) (to : TFile) (rest : TSeq) → n ≤ max_names → RegsAbove 0 n to →
+          WellFormedSeq p2 q n rest → WellFormedSeq p2 q n (loading m L.homes (high_part m to) i rest)
+      loading_well (Arith op rd rs v) n to rest few tg k =
+          first_well n rs _ few (load_value_well n few L.homes v rest near.0 k)
+      loading_well (Bnz r v) n to rest few tg k =
+          build_well n few L.homes to _ near.0 (λ s h. second_own L s reg h) tg
+          (first_well n r _ few (load_value_well n few L.homes v rest near.0 k))
+      loading_well (Ld rd rs i) n to rest few tg k = first_well n rs rest few k
+      loading_well (Malloc rd us) n to rest few tg k = k
+      loading_well (Mov rd v) n to rest few tg k = load_value_well n few L.homes v rest near.0 k
+      loading_well (St rd i rs) n to rest few tg k =
+          first_well n rd _ few
+          (load_well n few (second_reg m) (L.homes rs) rest (own 4 (omega arith) (omega arith)) (near.0 rs) k)
+      loading_well (Unpack rd v) n to rest few tg k = load_value_well n few L.homes v rest near.0 k
+
+      does_well : (i : TInstr) (n : ℕ) (rest : TSeq) → names_after i n ≤ max_names → WellFormedInstr p q n i →
+          WellFormedSeq p2 q (names_after i n) rest → WellFormedSeq p2 q n (before (does m L.homes i) rest)
+      does_well (Arith op rd rs v) n rest few w k =
+          ((into_own rd w.0, first_own rs w.1, value_here n v w.2), few, k)
+      does_well (Bnz r v) n rest few w k =
+          let made = own 5 (omega arith) (omega arith) in
+          let saved = own 6 (omega arith) (omega arith) in (
+            (saved, (one_own, tt)),
+            few,
             (
-              into_own rd w.0,
-              first_own rs w.1,
-              value_well n (second_at m L.homes) v (λ r h. second_own L r reg h) w.2,
+              (one_own, (made, tt)),
+              few,
+              ((first_own r w.0, value_here n v w.1), few, ((one_own, (saved, tt)), few, k)),
             ),
-            few,
-            finish_well n few L rd ts to (way_of m L.used rd) rest reg near w.0 nx ht k,
-          ))
-      step_well (Bnz r v) n x ts to rest few f2 nx ht tg w k =
-          let c4 = Then (Mov (frame_reg m) (Plain (Reg (saved_reg m)) [])) rest in
-          let c3 = Then (Bnz (at_home (first_reg m) (L.homes r)) (sp_value m (second_at m L.homes) v)) c4 in
-          let c2 = Then (Mov (frame_reg m) (Plain (Reg (made_reg m)) [])) c3 in
-          let back = mov_well n few (frame_reg m) (saved_reg m) rest one_own (own 6 (omega arith) (omega arith)) k in
-          let branch : WellFormedSeq p2 q n c3 =
-          ((first_own r w.0, value_well n (second_at m L.homes) v (λ s h. second_own L s reg h) w.1), few, back) in
-          let over = mov_well n few (frame_reg m) (made_reg m) c3 one_own (own 5 (omega arith) (omega arith)) branch in
-          let away = mov_well n few (saved_reg m) (frame_reg m) c2 (own 6 (omega arith) (omega arith)) one_own over in
-          build_well n few L.homes (target_file (type_of P x v)) _ near.0 (λ s h. second_own L s reg h) tg
-          (load_well n few (first_reg m) (L.homes r) _ (own 3 (omega arith) (omega arith)) (near.0 r)
-          (load_value_well n few L.homes v _ near.0 away))
-      step_well (Ld rd rs i) n x ts to rest few f2 nx ht tg w k =
-          load_well n few (first_reg m) (L.homes rs) _ (own 3 (omega arith) (omega arith)) (near.0 rs) (
-            (into_own rd w.0, first_own rs w.1, w.2),
-            few,
-            finish_well n few L rd ts to (way_of m L.used rd) rest reg near w.0 nx ht k,
           )
-      step_well (Malloc rd us) n x ts to rest few f2 nx ht tg w k = (
-        (into_own rd w.0, types_well n us w.1),
-        few,
-        finish_well n few L rd ts to (way_of m L.used rd) rest reg near w.0 nx ht k,
-      )
-      step_well (Mov rd v) n x ts to rest few f2 nx ht tg w k =
-          load_value_well n few L.homes v _ near.0 (
-            (into_own rd w.0, value_well n (second_at m L.homes) v (λ r h. second_own L r reg h) w.1),
-            few,
-            finish_well n few L rd ts to (way_of m L.used rd) rest reg near w.0 nx ht k,
-          )
-      step_well (St rd i rs) n x ts to rest few f2 nx ht tg w k =
-          load_well n few (first_reg m) (L.homes rd) _ (own 3 (omega arith) (omega arith)) (near.0 rd)
-          (load_well n few (second_reg m) (L.homes rs) _ (own 4 (omega arith) (omega arith)) (near.0 rs) (
-            (into_own rd w.0, w.1, second_own L rs reg w.2),
-            few,
-            finish_well n few L rd ts to (way_of m L.used rd) rest reg near w.0 nx ht k,
-          ))
-      step_well (Unpack rd v) n x ts to rest few f2 nx ht tg w k =
-          load_value_well n few L.homes v _ near.0 (
-            (into_own rd w.0, value_well n (second_at m L.homes) v (λ r h. second_own L r reg h) w.1),
-            f2,
-            finish_well (n + 1) f2 L rd ts to Gathers rest reg near w.0 nx ht k,
-          )
+      does_well (Ld rd rs i) n rest few w k = ((into_own rd w.0, first_own rs w.1, w.2), few, k)
+      does_well (Malloc rd us) n rest few w k = ((into_own rd w.0, types_well n us w.1), few, k)
+      does_well (Mov rd v) n rest few w k = ((into_own rd w.0, value_here n v w.1), few, k)
+      does_well (St rd i rs) n rest few w k = ((into_own rd w.0, w.1, second_own L rs reg w.2), few, k)
+      does_well (Unpack rd v) n rest few w k = ((into_own rd w.0, value_here n v w.1), few, k)
+
+      word_well : (i : TInstr) (n : ℕ) (ts : List Ty) (to : TFile) (rest : TSeq) → names_after i n ≤ max_names →
+          RegsAbove 0 (names_after i n) to → WellFormedTypes (names_after i n) ts → WellFormedInstr p q n i →
+          WellFormedSeq p2 q (names_after i n) rest →
+          WellFormedSeq p2 q (names_after i n) (before (finish m L (defines i) ts to (way m L.used i)) rest)
+      word_well (Bnz r v) n ts to rest few nx ht w k = k
+      word_well i n ts to rest few nx ht w k =
+          finish_well (names_after i n) few L (defines i) ts to (way m L.used i) rest reg near w.0 nx ht k
 
     module _ (P : TProg) (labels : LabelsScoped P) (tuples : DataScoped P) where
       enters_above : (n : ℕ) (x : TFile) (v : TValue) → RegsAbove 0 n x → WellFormedValue p q n v →
@@ -357,14 +338,9 @@ module _ (m : ℕ) (fit : m + 6 ≤ max_number) where
           target_above n (type_of P x v) k.0 (value_is P n x v (CodeTy 0 k.0) k.1) good
 
       instr_above : (i : TInstr) (n : ℕ) (x : TFile) (g : RegTypes) → RegsAbove 0 n x → WellFormedInstr p q n i →
-          Typed P n (lookup x) i g → ValuesFew P n x (values_of i) → TargetAbove P n x i
+          Typed P n (lookup x) i g → ValuesFew P n x (values_of i) → RegsAbove 0 n (target P x i)
       instr_above (Bnz r v) n x g h w k f = enters_above n x v h w.1 k.1 f.0
-      instr_above (Arith op rd rs v) n x g h w k f = tt
-      instr_above (Ld rd rs i) n x g h w k f = tt
-      instr_above (Malloc rd ts) n x g h w k f = tt
-      instr_above (Mov rd v) n x g h w k f = tt
-      instr_above (St rd i rs) n x g h w k f = tt
-      instr_above (Unpack rd v) n x g h w k f = tt
+      instr_above _ n x g h w k f = tt
 
       -- the types of slots
       by_well : (n : ℕ) (w : Way) (t : Ty) (ts : List Ty) → WellFormed n t → WellFormedTypes n ts →
@@ -378,12 +354,7 @@ module _ (m : ℕ) (fit : m + 6 ≤ max_number) where
           WellFormedTypes (names_after i n) (slots_by (way m used i) t ts) →
           WellFormedTypes n (slots_by (way m used i) t ts)
       back_well (Unpack rd v) used n t ts h = tt
-      back_well (Arith op rd rs v) used n t ts h = h
-      back_well (Bnz r v) used n t ts h = h
-      back_well (Ld rd rs i) used n t ts h = h
-      back_well (Malloc rd us) used n t ts h = h
-      back_well (Mov rd v) used n t ts h = h
-      back_well (St rd i rs) used n t ts h = h
+      back_well _ used n t ts h = h
 
       next_above : (i : TInstr) (c : TSeq) (n : ℕ) (x : TFile) → RegsAbove 0 n x → WellFormedSeq p q n (Then i c) →
           (k : SeqAccepted P n (lookup x) (Then i c)) → KeptFew P n x (Then i c) →
@@ -429,11 +400,13 @@ module _ (m : ℕ) (fit : m + 6 ≤ max_number) where
       code_well (Then i c) L n x reg near few h w k f =
           let nx = next_above i c n x h w k f in
           subst (WellFormedSeq p2 q n) (sym (step_is m P L x i c _))
-          (step_well P L reg near i n x (slots m P L.used x (Then i c)) (kept P x i c) _ few w.1 nx.1
-          (types_after i c L.used n x h w k f) (instr_above i n x k.0 h w.0 k.1 f.0) w.0
+          (loading_well L reg near i n (target P x i) _ few (instr_above i n x k.0 h w.0 k.1 f.0)
+          (does_well L reg near i n _ w.1 w.0
+          (word_well L reg near i n (slots m P L.used x (Then i c)) (kept P x i c) _ w.1 nx.1
+          (types_after i c L.used n x h w k f) w.0
           (code_well c (after m L i (kept P x i c)) (names_after i n) (kept P x i c)
           (way_sound m L i (kept P x i c) reg) (near_after m (names_after i n) L i (kept P x i c) nx.1 near) w.1
-          nx.1 w.2 (rest_accepted i c n x k) f.3))
+          nx.1 w.2 (rest_accepted i c n x k) f.3))))
       code_well (Ends (Jmp v)) L n x reg near few h w k f =
           build_well n few L.homes (target_file (type_of P x v)) _ near.0 (λ s z. second_own L s reg z)
           (enters_above n x v h w k f)

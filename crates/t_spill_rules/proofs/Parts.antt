@@ -1,7 +1,7 @@
 -- The code of an instruction, part by part in front of a rest.
 use Rattle.std.proofs.Common.{◌≡◌, ℕ, List, [], ◌∷◌, ◌++◌, refl, sym, ap, ◌∙◌, subst}
 use Rattle.t_types.specs.Tree.{Ty, TFile}
-use Rattle.t_terms.specs.Tree.{TInstr, Arith, Bnz, Ld, Malloc, Mov, St, Unpack, TSeq, Then, TProg}
+use Rattle.t_terms.specs.Tree.{TInstr, Arith, Bnz, St, TSeq, Then, TProg}
 use Rattle.t_spill_rules.specs.Spill.{Home, Layout, first_reg, second_reg, high_part, target, kept, defines, way, slots}
 use Rattle.t_spill_rules.specs.Spill.{before, load, load_value, build, finish, loads, does, step}
 
@@ -14,6 +14,7 @@ pub joined : (B : TSeq → Type 0) (xs ys : List TInstr) (rest : TSeq) → B (be
     B (before (xs ++ ys) rest)
 joined B xs ys rest = subst B (sym (before_both xs ys rest))
 
+-- what is loaded, one part in front of the next
 abbrev pub loading : ℕ → (ℕ → Home) → TFile → TInstr → TSeq → TSeq
 loading m homes high (Arith op rd rs v) rest =
     before (load m (first_reg m) (homes rs)) (before (load_value m homes v) rest)
@@ -30,15 +31,12 @@ loads_are m homes high (Bnz r v) rest =
     before_both (build m homes high ++ load m (first_reg m) (homes r)) (load_value m homes v) rest
     ∙ before_both (build m homes high) (load m (first_reg m) (homes r)) _
 loads_are m homes high (St rd i rs) rest = before_both (load m (first_reg m) (homes rd)) _ rest
-loads_are m homes high (Ld rd rs i) rest = refl
-loads_are m homes high (Malloc rd ts) rest = refl
-loads_are m homes high (Mov rd v) rest = refl
-loads_are m homes high (Unpack rd v) rest = refl
+loads_are m homes high _ rest = refl
 
--- with slots of these types, and where `to` is known afterwards
+-- with slots of the types ts, and where `to` is known afterwards
 abbrev pub stepped : ℕ → Layout → TFile → TInstr → List Ty → TFile → TSeq → TSeq
-stepped m L high i types to rest =
-    loading m L.homes high i (before (does m L.homes i) (before (finish m L (defines i) types to (way m L.used i)) rest))
+stepped m L high i ts to rest =
+    loading m L.homes high i (before (does m L.homes i) (before (finish m L (defines i) ts to (way m L.used i)) rest))
 
 pub step_parts : (m : ℕ) (P : TProg) (L : Layout) (x : TFile) (i : TInstr) (c rest : TSeq) →
     before (step m P L x i c) rest

@@ -1,5 +1,5 @@
 -- The trees of the closed calculus.
-use Rattle.calc_core.specs.Calculus.{Flat, Val, Vals, Decl, Tm}
+use Rattle.calc_core.specs.Calculus.{Closed, Val, Vals, Decl, Tm}
 pub use Rattle.calc_core.specs.Types.{Ty as CTy, Tys as CTys, IntTy as TCInt, VarTy as TCVar, TupleTy as TCTuple}
 pub use Rattle.calc_core.specs.Types.{CodeTy as TCCode, ExistsTy as TCExists, RefTy as TCRef, NoTys as NoCTys}
 pub use Rattle.calc_core.specs.Types.{MoreTys as MoreCTys, count as ccount}
@@ -10,13 +10,13 @@ pub use Rattle.calc_core.specs.Calculus.{Set as CSet, Let as CLet, Call as CCall
 pub use Rattle.calc_core.specs.Calculus.{v_next as cv_next, vs_next as cvs_next, d_next as cd_next, t_next as ct_next}
 
 abbrev pub CVal : Type 0
-CVal = Val Flat
+CVal = Val Closed
 
 abbrev pub CVals : Type 0
-CVals = Vals Flat
+CVals = Vals Closed
 
 abbrev pub CDecl : Type 0
-CDecl = Decl Flat
+CDecl = Decl Closed
 
 abbrev pub CTm : Type 0
-CTm = Tm Flat
+CTm = Tm Closed

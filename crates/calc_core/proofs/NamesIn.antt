@@ -4,7 +4,7 @@ use Rattle.calc_core.specs.Ends.{lift, after_one}
 use Rattle.calc_core.specs.Types.{Ty, Tys, NoTys, MoreTys, CodeTy, count}
 use Rattle.calc_core.specs.Substitution.{renamed, scope_renamed}
 use Rattle.calc_core.specs.Scope.{args_onto}
-use Rattle.calc_core.specs.Calculus.{Body, Open, Closed, Kind, Val, Var, Int, Tuple, Code, Label, Apply, Pack}
+use Rattle.calc_core.specs.Calculus.{Body, Open, Shut, Kind, Val, Var, Int, Tuple, Code, Label, Apply, Pack}
 use Rattle.calc_core.specs.Calculus.{Vals, NoVals, MoreVals, Decl, Name, Proj, Arith, Packs, Unpack, Cell, Get, Set}
 use Rattle.calc_core.specs.Calculus.{Tm, Let, Call, If, Halt, opens, scope_more, names_in, body_scope}
 use Rattle.calc_core.specs.NamesIn.{names_seen, NamesIn_v, NamesIn_vs, NamesIn_d, NamesIn}
@@ -25,7 +25,7 @@ pub body_length : (b : Body) (owes : ℕ) (args : Tys) (g : List Ty) →
 body_length Open owes args g =
     args_length args (renamed (lift owes) (CodeTy owes args) ∷ scope_renamed (lift owes) g)
     ∙ ap (λ k. lift (count args) (suc k)) (scope_length (lift owes) g)
-body_length Closed owes args g = args_length args (CodeTy owes args ∷ [])
+body_length Shut owes args g = args_length args (CodeTy owes args ∷ [])
 
 module _ (L : LabelTypes) where
   mutual

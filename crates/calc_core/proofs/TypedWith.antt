@@ -3,7 +3,7 @@ use Rattle.std.proofs.Common.{ℕ, suc, List, ◌∷◌}
 use Rattle.calc_core.specs.Ends.{after_one}
 use Rattle.calc_core.specs.Types.{Ty, Tys, IntTy, VarTy, TupleTy, ExistsTy, RefTy, NoTys, MoreTys}
 use Rattle.calc_core.specs.Substitution.{with_type, substituted}
-use Rattle.calc_core.specs.Calculus.{Body, Open, Closed, Kind, Val, Var, Int, Tuple, Code, Label, Apply, Pack}
+use Rattle.calc_core.specs.Calculus.{Body, Open, Shut, Kind, Val, Var, Int, Tuple, Code, Label, Apply, Pack}
 use Rattle.calc_core.specs.Calculus.{Vals, NoVals, MoreVals}
 use Rattle.calc_core.specs.Calculus.{Decl, Name, Proj, Arith, Packs, Unpack, Cell, Get, Set, Tm, Let, Call, If, Halt}
 use Rattle.calc_core.specs.Calculus.{opens, scope_more, names_in, body_scope}
@@ -55,7 +55,7 @@ any_all n (MoreTys t ts) = (tt, any_all n ts)
 
 any_args : (b : Body) (n : ℕ) (ts : Tys) → ArgsWith b Any n ts
 any_args Open n ts = tt
-any_args Closed n ts = any_all n ts
+any_args Shut n ts = any_all n ts
 
 module _ (L : LabelTypes) where
   mutual
@@ -104,7 +104,7 @@ module _ (P Q : Property) (f : (n : ℕ) (t : Ty) → P n t → Q n t) where
 
   args_weaker : (b : Body) (n : ℕ) (ts : Tys) → ArgsWith b P n ts → ArgsWith b Q n ts
   args_weaker Open n ts h = h
-  args_weaker Closed n ts h = all_weaker n ts h
+  args_weaker Shut n ts h = all_weaker n ts h
 
   module _ (L : LabelTypes) where
     mutual

@@ -11,25 +11,27 @@ pub data Codes : Type 0 where
   Inside : Codes
   Apart : Codes
 
--- what the body of a code sees beside its arguments: all that is around the code, or nothing
+-- what the body of a code sees beside its arguments: all that is around the code, or nothing of it
 pub data Body : Type 0 where
   Open : Body
-  Closed : Body
+  Shut : Body
 
+-- the kind of a calculus, and those of the three
 pub data Kind : Type 0 where
   Kinded : (codes : Codes) (body : Body) → Kind
 
 abbrev pub Cps : Kind
 Cps = Kinded Inside Open
 
-abbrev pub Flat : Kind
-Flat = Kinded Inside Closed
+abbrev pub Closed : Kind
+Closed = Kinded Inside Shut
 
 abbrev pub Hoisted : Kind
-Hoisted = Kinded Apart Closed
+Hoisted = Kinded Apart Shut
 
 -- in the body of a code of m arguments, 0 is the last argument, m - 1 the first, and m the code itself, if it stands
--- inside. Open terms declare packages; closed ones have packages, and codes applied to types, as values
+-- inside. Where bodies are open, packages are declared; where they are shut, packages, and codes applied to types, are
+-- values
 mutual
   pub data Val : Kind → Type 0 where
     Var : {k : Kind} (i : ℕ) → Val k
@@ -37,8 +39,8 @@ mutual
     Tuple : {k : Kind} (vs : Vals k) → Val k
     Code : {b : Body} (owes : ℕ) (args : Tys) (body : Tm (Kinded Inside b)) → Val (Kinded Inside b)
     Label : {b : Body} (l : ℕ) → Val (Kinded Apart b)
-    Apply : {c : Codes} (v : Val (Kinded c Closed)) (types : Tys) → Val (Kinded c Closed)
-    Pack : {c : Codes} (hidden : Ty) (inner : Val (Kinded c Closed)) (shape : Ty) → Val (Kinded c Closed)
+    Apply : {c : Codes} (v : Val (Kinded c Shut)) (types : Tys) → Val (Kinded c Shut)
+    Pack : {c : Codes} (hidden : Ty) (inner : Val (Kinded c Shut)) (shape : Ty) → Val (Kinded c Shut)
 
   pub data Vals : Kind → Type 0 where
     NoVals : {k : Kind} → Vals k
@@ -103,11 +105,11 @@ scope_more false g = g
 -- how many type variables the body of a code sees, and what it sees beside its arguments
 abbrev pub names_in : Body → ℕ → ℕ → ℕ
 names_in Open owes n = lift owes n
-names_in Closed owes n = owes
+names_in Shut owes n = owes
 
 abbrev pub around : Body → ℕ → Tys → List Ty → List Ty
 around Open owes args g = renamed (lift owes) (CodeTy owes args) ∷ scope_renamed (lift owes) g
-around Closed owes args g = CodeTy owes args ∷ []
+around Shut owes args g = CodeTy owes args ∷ []
 
 -- the scope of a code's body
 abbrev pub body_scope : Body → ℕ → Tys → List Ty → List Ty

@@ -4,7 +4,7 @@ use Rattle.calc_core.specs.Ends.{if_fits, Spent, Stuck, Result, stops, enters}
 use Rattle.calc_core.specs.Types.{Tys, count}
 use Rattle.calc_core.specs.Words.{Word, WInt, WTuple, WCode, WCell, Words, NoWords, MoreWords, at, size, onto, project}
 use Rattle.calc_core.specs.Words.{operate, one_more, Made, Makes, given, get, set, with_value, at_zero, halt_with}
-use Rattle.calc_core.specs.Calculus.{Kind, Body, Open, Closed, Inside, Kinded, Val, Var, Int, Tuple, Code, Apply}
+use Rattle.calc_core.specs.Calculus.{Kind, Body, Open, Shut, Inside, Kinded, Val, Var, Int, Tuple, Code, Apply}
 use Rattle.calc_core.specs.Calculus.{Pack, Vals, NoVals, MoreVals}
 use Rattle.calc_core.specs.Calculus.{Decl, Name, Proj, Arith, Packs, Unpack, Cell, Get, Set, Tm, Let, Call, If, Halt}
 use Rattle.calc_core.specs.Calculus.{v_next, d_next, t_next}
@@ -27,12 +27,12 @@ pub data Numbered (c : Body) : Type 0 where
 -- what a code keeps of the values that it is made among
 abbrev pub kept : (c : Body) → Words (Numbered c) → Words (Numbered c)
 kept Open env = env
-kept Closed env = NoWords
+kept Shut env = NoWords
 
 -- whether a call gives as many types as the code takes: a closed code may have been applied to types before
 abbrev pub types_fit : Body → ℕ → ℕ → Bool
 types_fit Open m owes = nat_eq m owes
-types_fit Closed m owes = true
+types_fit Shut m owes = true
 
 -- the value of a tree whose codes are numbered from b on
 abbrev mutual

@@ -2,14 +2,14 @@
 use Rattle.std.specs.Prelude.{◌<◌, ℕ, suc}
 use Rattle.calc_core.specs.Ends.{lift}
 use Rattle.calc_core.specs.Types.{count}
-use Rattle.calc_core.specs.Calculus.{Body, Open, Closed, Kind, Val, Var, Int, Tuple, Code, Label, Apply, Pack}
+use Rattle.calc_core.specs.Calculus.{Body, Open, Shut, Kind, Val, Var, Int, Tuple, Code, Label, Apply, Pack}
 use Rattle.calc_core.specs.Calculus.{Vals, NoVals, MoreVals, Decl, Name, Proj, Arith, Packs, Unpack, Cell, Get, Set}
 use Rattle.calc_core.specs.Calculus.{Tm, Let, Call, If, Halt}
 
 -- how many names the body of a code with m arguments sees
 abbrev pub names_seen : Body → ℕ → ℕ → ℕ
 names_seen Open m d = lift m (suc d)
-names_seen Closed m d = lift m 1
+names_seen Shut m d = lift m 1
 
 abbrev mutual
   pub NamesIn_v : {k : Kind} → ℕ → Val k → Type 0

@@ -1,14 +1,14 @@
 -- How many nodes a term has, types aside.
 use Rattle.std.specs.Prelude.{ℕ, suc, ◌+◌}
 use Rattle.calc_core.specs.Types.{count}
-use Rattle.calc_core.specs.Calculus.{Body, Open, Closed, Kind, Val, Var, Int, Tuple, Code, Label, Apply, Pack}
+use Rattle.calc_core.specs.Calculus.{Body, Open, Shut, Kind, Val, Var, Int, Tuple, Code, Label, Apply, Pack}
 use Rattle.calc_core.specs.Calculus.{Vals, NoVals, MoreVals, Decl, Name, Proj, Arith, Packs, Unpack, Cell, Get, Set}
 use Rattle.calc_core.specs.Calculus.{Tm, Let, Call, If, Halt}
 
 -- what a code has inside counts where it sees what is around it; a closed code counts as one
 abbrev pub inside : Body → ℕ → ℕ
 inside Open n = n
-inside Closed n = 0
+inside Shut n = 0
 
 abbrev mutual
   pub size_v : {k : Kind} → Val k → ℕ

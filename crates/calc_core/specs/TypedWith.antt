@@ -5,7 +5,7 @@ use Rattle.calc_core.specs.Ends.{lift, after_one}
 use Rattle.calc_core.specs.Types.{Ty, Tys, IntTy, VarTy, TupleTy, CodeTy, ExistsTy, RefTy, NoTys, MoreTys, count}
 use Rattle.calc_core.specs.Substitution.{with_type, with_types, under_binders, substituted, all_substituted}
 use Rattle.calc_core.specs.Scope.{InScope, AllInScope, IsTypeOf, IsField}
-use Rattle.calc_core.specs.Calculus.{Body, Open, Closed, Kind, Val, Var, Int, Tuple, Code, Label, Apply, Pack}
+use Rattle.calc_core.specs.Calculus.{Body, Open, Shut, Kind, Val, Var, Int, Tuple, Code, Label, Apply, Pack}
 use Rattle.calc_core.specs.Calculus.{Vals, NoVals, MoreVals}
 use Rattle.calc_core.specs.Calculus.{Decl, Name, Proj, Arith, Packs, Unpack, Cell, Get, Set, Tm, Let, Call, If, Halt}
 use Rattle.calc_core.specs.Calculus.{opens, scope_more, names_in, body_scope}
@@ -22,7 +22,7 @@ All P n (MoreTys t ts) = P n t × All P n ts
 -- of the arguments of a code, where no names around it may stand in them
 abbrev pub ArgsWith : Body → Property → ℕ → Tys → Type 0
 ArgsWith Open P n ts = Unit {0}
-ArgsWith Closed P n ts = All P n ts
+ArgsWith Shut P n ts = All P n ts
 
 abbrev mutual
   pub HasWith : {k : Kind} → Property → LabelTypes → ℕ → List Ty → Val k → Ty → Type 0

@@ -1,5 +1,6 @@
 -- The text of a type.
-use Rattle.std.specs.Prelude.{ℕ, ◌+◌, ◌-◌, ◌==◌, List, [], ◌++◌, Bool, true, false, if◌then◌else◌, codes, decimal}
+use Rattle.std.specs.Prelude.{ℕ, ◌+◌, ◌-◌, List, [], ◌++◌, Bool, true, false, if◌then◌else◌, codes, decimal}
+use Rattle.idx_core.specs.Separator.{separator}
 use Rattle.f_terms.specs.Ty.{Ty, TInt, TVar, TArrow, TAll, TTuple, TSome, TRef, Tys, NoTys, MoreTys}
 
 -- the variable of an `all` or a `some` with d of them around it
@@ -15,10 +16,6 @@ is_grouped TInt = false
 is_grouped (TVar i) = false
 is_grouped (TTuple ts) = false
 is_grouped (TRef t) = false
-
--- what stands between a field of a tuple and the k fields before it
-abbrev pub separator : ℕ → List ℕ
-separator k = if k == 0 then [] else codes ", "
 
 -- the text inside d `all`s and `some`s: the variable i is that of the one with i others between
 abbrev mutual

@@ -2,6 +2,7 @@
 use Rattle.std.specs.Prelude.{ℕ, zero, suc, ◌+◌, ◌*◌, ◌/◌, ◌%◌, min, ℤ, List, [], ◌∷◌, ◌++◌, replicate, codes}
 use Rattle.std.specs.Prelude.{decimal}
 use Rattle.std.specs.Fmt.{signed_decimal}
+pub use Rattle.idx_core.specs.Separator.{separator}
 use Rattle.idx_core.specs.declared.arith.Op.{Op}
 use Rattle.idx_core.specs.declared.arith.Op.TheVariants.{Add, Sub, Mul}
 
@@ -17,11 +18,6 @@ rounds (suc r) = decimal (suc r)
 -- the name of a type that has n type names around it: `a` to `z`, then `a1` to `z1`, and so on
 abbrev pub type_name : ℕ → List ℕ
 type_name n = (97 + n % 26) ∷ rounds (n / 26)
-
--- what stands before an item of a list with i items before it
-abbrev pub separator : ℕ → List ℕ
-separator zero = []
-separator (suc i) = codes ", "
 
 -- the names of k types from n on, with i before them
 abbrev pub names_in_row : ℕ → ℕ → ℕ → List ℕ

@@ -1,7 +1,8 @@
 -- The line of a state: how many steps led to it, its place, and of each register that is known there the word and the
 -- type.
-use Rattle.std.specs.Prelude.{◌≡◌, ℕ, zero, suc, ◌+◌, ◌-◌, ◌==◌, nat_lt, List, [], ◌∷◌, ◌++◌, Bool, true, false}
+use Rattle.std.specs.Prelude.{◌≡◌, ℕ, zero, suc, ◌+◌, ◌-◌, nat_lt, List, [], ◌∷◌, ◌++◌, Bool, true, false}
 use Rattle.std.specs.Prelude.{if◌then◌else◌, codes, decimal}
+use Rattle.idx_core.specs.Separator.{separator}
 use Rattle.t_types.specs.Read.{file as file_of}
 use Rattle.t_types.specs.Tree.{Ty, IntTy, VarTy, CodeTy, ExistsTy, TupleTy, TFile, NoRegs, MoreRegs, TFields, NoFields}
 use Rattle.t_types.specs.Tree.{MoreFields}
@@ -20,10 +21,6 @@ word_text (Label l) = codes "L" ++ decimal l
 -- outermost on.
 abbrev pub variable_text : ℕ → ℕ → ℕ → List ℕ
 variable_text n d i = if nat_lt i d then codes "t" ++ decimal (d - 1 - i) else codes "a" ++ decimal (n - 1 - (i - d))
-
--- what stands between an item of a list and the k items before it
-abbrev pub separator : ℕ → List ℕ
-separator k = if k == 0 then [] else codes ", "
 
 -- count names that code binds, where d are bound around the first of them, and k of the code stand before it
 abbrev pub names_text : ℕ → ℕ → ℕ → List ℕ

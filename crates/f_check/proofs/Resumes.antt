@@ -619,22 +619,22 @@ module _ (f : FTerm) (st : State) (ty : FType) (q : Span) where
 
   pub assigned_refused : (x : Assignment) → Offered f st (C.Assigned x) ty q →
       (z : Result Control Failure) (m : ℕ) →
-      Stops st E22 q (WType (tree x.held)) (tree ty) z → tree ty ≢ tree x.held → Goes f st z m
+      Stops st E22 q (WType (tree x.cell)) (tree ty) z → tree ty ≢ tree x.cell → Goes f st z m
   assigned_refused x h z m k ne =
       let w = h.1 in
-      refused f st w h.5 (SAssign (place x.span) h.4.0 h.0) st E22 q k.0 (odds w.around (WType (tree x.held)) (tree ty))
-      z m k.1 (k.2 ∙ ap (λ n. odds n (WType (tree x.held)) (tree ty)) h.4.3.0) h.4.1
-      (forms.assign_other w.around (context w) (place x.span) h.4.0 h.0 (tree x.held) (tree ty) (place q) h.4.4
+      refused f st w h.5 (SAssign (place x.span) h.4.0 h.0) st E22 q k.0 (odds w.around (WType (tree x.cell)) (tree ty))
+      z m k.1 (k.2 ∙ ap (λ n. odds n (WType (tree x.cell)) (tree ty)) h.4.3.0) h.4.1
+      (forms.assign_other w.around (context w) (place x.span) h.4.0 h.0 (tree x.cell) (tree ty) (place q) h.4.4
       (same_type (C.Assigned x) h h.4.3).0 ne h.3)
 
   pub assigned_given : (x : Assignment) → Offered f st (C.Assigned x) ty q → (t : FType) →
-      tree t ≡ TTuple NoTys → tree ty ≡ tree x.held → Goes f st (Ok (Give t x.span T.Int)) (offer_work f st [])
+      tree t ≡ TTuple NoTys → tree ty ≡ tree x.cell → Goes f st (Ok (Give t x.span T.Int)) (offer_work f st [])
   assigned_given x h t eu et =
       let w = h.1 in
       let wi : Within (TTuple NoTys) = (omega arith, omega arith) in
       given f st w h.5 T.Int st (SAssign (place x.span) h.4.0 h.0) t x.span (offer_work f st []) refl
       (task_is w st.around (map bound st.scope.items) h.4.3.0 h.4.3.1) h.4.1 (
-        (tree x.held, eu, h.4.4, subst (Passes h.0 w.around (context w)) et (same_type (C.Assigned x) h h.4.3).0),
+        (tree x.cell, eu, h.4.4, subst (Passes h.0 w.around (context w)) et (same_type (C.Assigned x) h h.4.3).0),
         subst (Below w.around) (sym eu) tt,
         subst Within (sym eu) wi,
       ) refl (omega arith)

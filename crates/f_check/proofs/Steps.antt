@@ -123,7 +123,7 @@ module _ (f : FTerm) (c : Note) (p : Spn) where
       go (C.Ref s) h = back _ h.0 (inl (same h.2))
       go (C.Deref s) h = back _ h.0 (inl (same h.2))
       go (C.Target s b) h = back _ h.0 (inl (same h.2))
-      go (C.Assigned x) h = back _ h.1 (inr (TRef (tree x.held), h.4, inl (same h.3)))
+      go (C.Assigned x) h = back _ h.1 (inr (TRef (tree x.cell), h.4, inl (same h.3)))
 
 -- a fault of a task is the fault of the whole
 pub fails : (f : FTerm) (st : State) (w : Task) → Holds f st w → (e : Failure) → Tells e (FaultOf w) →

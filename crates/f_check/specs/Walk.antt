@@ -99,7 +99,7 @@ Part f (C.Ref s) t w = (w.e ≡ SRef (place s) t.e) × IsReady w × Same t w
 Part f (C.Deref s) t w = (w.e ≡ SDeref (place s) t.e) × IsReady w × Same t w
 Part f (C.Target s b) t w = (w.e ≡ SAssign (place s) t.e (node_at f b)) × IsReady w × Same t w × (b < count f)
 Part f (C.Assigned x) t w = (a : Tm) × (w.e ≡ SAssign (place x.span) a t.e) × IsReady w × Same t w
-    × Passes a w.around (context w) (TRef (tree x.held))
+    × Passes a w.around (context w) (TRef (tree x.cell))
 
 -- the whole term, and the term e where the state stands
 abbrev pub top : FTerm → Task

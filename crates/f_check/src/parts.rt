@@ -64,11 +64,11 @@ pub(crate) fn some_body(t: FType) -> Result<FType, FType>
 }
 
 // The type of what a cell holds, or the type itself.
-pub(crate) fn held_part(t: FType) -> Result<FType, FType>
+pub(crate) fn cell_part(t: FType) -> Result<FType, FType>
     ensures { IsRef (tree t) result }
 {
     match t {
-        FType::Ref(held) => Ok(Box::into_inner(held)),
+        FType::Ref(cell) => Ok(Box::into_inner(cell)),
         FType::Int | FType::Var(_) | FType::Arrow(_, _) | FType::All(_) => Err(t),
         FType::Tuple(_) | FType::Exists(_) => Err(t),
     }

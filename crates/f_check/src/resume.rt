@@ -14,7 +14,7 @@ use crate::frame::{
 };
 use crate::mismatch::{Mismatch, Wanted, odds};
 use crate::parts::{
-    all_body, arrow_parts, held_part, is_int, outer, some_body, take_field, tuple_parts,
+    all_body, arrow_parts, cell_part, is_int, outer, some_body, take_field, tuple_parts,
 };
 use crate::put::{put_or_none, put_within};
 use crate::scope::{bind, copy_arrow, leave, leave_last};
@@ -468,7 +468,7 @@ fn after_deref(term: &FTerm, state: &State, span: Span, part: Passed) -> Result<
     ensures frames { IfOk result (λ c. Resumed (frames.Deref span)
         (map bound state.now.scope.items) state.now.frames.items state.now.frames.items c) }
 {
-    match held_part(part.ty) {
+    match cell_part(part.ty) {
         Ok(ty) => Ok(Control::Give {
             ty,
             span,
@@ -493,8 +493,8 @@ fn after_target(
     ensures frames { IfOk result (λ c. Resumed (frames.Target span b)
         (map bound state.old.scope.items) state.old.frames.items state.new.frames.items c) }
 {
-    match held_part(part.ty) {
-        Ok(held) => enter(term, state, Frame::Assigned(Assignment { span, held }), b),
+    match cell_part(part.ty) {
+        Ok(cell) => enter(term, state, Frame::Assigned(Assignment { span, cell }), b),
         Err(found) => {
             let mismatch = odds(Wanted::Reference, found, state.around);
             refused(Code::E21, part.span, mismatch)
@@ -514,9 +514,9 @@ fn after_assigned(
     ensures frames { IfOk result (λ c. Resumed (frames.Assigned assignment)
         (map bound state.now.scope.items) state.now.frames.items state.now.frames.items c) }
 {
-    let Assignment { span, held } = assignment;
-    if !eq(&part.ty, &held) {
-        let mismatch = odds(Wanted::Exactly(held), part.ty, state.around);
+    let Assignment { span, cell } = assignment;
+    if !eq(&part.ty, &cell) {
+        let mismatch = odds(Wanted::Exactly(cell), part.ty, state.around);
         return refused(Code::E22, part.span, mismatch);
     }
     Ok(Control::Give {

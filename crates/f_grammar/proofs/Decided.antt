@@ -15,7 +15,7 @@ use Rattle.f_lexer.specs.Source.{IsCut, FirstTokenFault}
 use Rattle.f_lexer.proofs.Exact as lexer
 use Rattle.f_grammar.specs.Raw.{RawTy, RInt, RName, RTuple, RArrow, RAll, RSome, RRef, RawTys, NoRawTys, MoreRawTys}
 use Rattle.f_grammar.specs.Raw.{RawTm, RVar, RNum, RFix, RGen, RApp, RInst, RFields, RProj, RArith, RIf0, RLet, RPack}
-use Rattle.f_grammar.specs.Raw.{ROpen, RCell, RDeref, RAssign, RawTms, NoRawTms, MoreRawTms, Piece, nodes, place_of}
+use Rattle.f_grammar.specs.Raw.{ROpen, RCell, RDeref, RAssign, RawTms, NoRawTms, MoreRawTms, Piece, nodes, raw_span}
 use Rattle.f_grammar.specs.Machine.{table}
 use Rattle.f_grammar.proofs.Instance.{source_exact}
 use Rattle.f_grammar.specs.Scope.{spelled, TypeOf, of_int, of_name, of_tuple, of_arrow, of_all, of_some, of_ref}
@@ -164,7 +164,7 @@ module _ (text : List ℕ) where
 
   shaped : (p : Piece) → HasShape text p → (b : Bool) → nat_le (nodes p.tree) 100000 ≡ b → Decided
   shaped p h true e = named p h (leb-true (nodes p.tree) 100000 e) (term_named [] [] p.tree)
-  shaped p h false e = inr (code.L3, place_of p.tree, too_large p h (leb-false (nodes p.tree) 100000 e))
+  shaped p h false e = inr (code.L3, raw_span p.tree, too_large p h (leb-false (nodes p.tree) 100000 e))
 
   judged : (w : List Token) → HasTokens text w → (v : Verdict table) → Says table 200 w v → Decided
   judged w h (Fine vs) x =

@@ -16,7 +16,7 @@ use Rattle.f_terms.specs.Tm.{Tm}
 use Rattle.f_lexer.specs.declared.token.Token.{Token}
 use Rattle.f_lexer.specs.Source.{IsCut, FirstTokenFault, IsTokenFault}
 use Rattle.f_lexer.proofs.Exact as lexer
-use Rattle.f_grammar.specs.Raw.{Piece, RawTm, nodes, place_of}
+use Rattle.f_grammar.specs.Raw.{Piece, RawTm, nodes, raw_span}
 use Rattle.f_grammar.specs.Grammar.{E}
 use Rattle.f_grammar.specs.Machine.{table, OfTerm}
 use Rattle.f_grammar.proofs.Instance.{one_tree, one_verdict}
@@ -30,7 +30,7 @@ use Rattle.f_grammar.proofs.Closed.{term_in_scope, same_nodes}
 
 -- what a fault after the reading of tokens says, by the tree
 data AfterShape (text : List ℕ) (t : RawTm) (c : Code) (s : Span) : Type 0 where
-  large : 100000 < nodes t → c ≡ code.L3 → s ≡ place_of t → AfterShape text t c s
+  large : 100000 < nodes t → c ≡ code.L3 → s ≡ raw_span t → AfterShape text t c s
   name : (u : Use) → nodes t ≤ 100000 → IsFirstUnbound text (uses text [] [] t) u → c ≡ unbound_code u.of_type →
       s ≡ u.at → AfterShape text t c s
 

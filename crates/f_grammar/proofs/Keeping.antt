@@ -3,13 +3,13 @@ use Rattle.std.proofs.Common.{◌≡◌, ◌<◌, ◌≤◌, ◌⊎◌, inl, inr
 use Rattle.std.proofs.Common.{refl, sym, ◌∙◌, ap, subst, arith, All}
 use Rattle.std.proofs.lemmas.List.{length_push}
 use Rattle.idx_core.specs.declared.span.Span.{Span}
-use Rattle.f_grammar.specs.Raw.{RawTm, Piece, place_of, nodes, nodes_all, raw_tms}
+use Rattle.f_grammar.specs.Raw.{RawTm, Piece, raw_span, nodes, nodes_all, raw_tms}
 use Rattle.f_grammar.specs.Machine.{Val}
 use Rattle.f_grammar.specs.Nodes.{shape_tree, tree_at}
 use Rattle.f_grammar.specs.declared.raw.RawNode.{RawNode}
 use Rattle.f_grammar.specs.declared.raw.RawShape.{RawShape}
 use Rattle.f_grammar.proofs.Noding.{same_all, tree_new, tree_old}
-use Rattle.f_grammar.specs.Forest.{size, tree_in, AddsBy, Puts, Stands, AreTrees, nodes_in, Counted}
+use Rattle.f_grammar.specs.Forest.{size, tree_in, AddsBy, Puts, Stores, AreTrees, nodes_in, Counted}
 use Rattle.f_grammar.specs.Frames.{Held}
 use Rattle.f_grammar.specs.declared.forest.Forest.{Forest}
 use Rattle.f_grammar.specs.declared.part.Part.{Part}
@@ -36,8 +36,8 @@ module _ {old new : Forest} {shape : RawShape} {s : Span} {p : Part} (h : Puts o
   old_tree e k l = ap (λ (ns : List RawNode). tree_at ns k) (kept e).1
       ∙ tree_old old.nodes.items (record { span = s; shape = shape }) k l
 
-  pub new_stands : (q : Piece) → place_of q.tree ≡ s → q.start ≡ s.start → q.end ≡ s.end →
-      (old.full ≡ false → shape_tree (tree_in old) s shape ≡ q.tree) → Stands new p q
+  pub new_stands : (q : Piece) → raw_span q.tree ≡ s → q.start ≡ s.start → q.end ≡ s.end →
+      (old.full ≡ false → shape_tree (tree_in old) s shape ≡ q.tree) → Stores new p q
   new_stands q is starts ends tree = record {
     node = λ e.
         let k = kept e in
@@ -52,7 +52,7 @@ module _ {old new : Forest} {shape : RawShape} {s : Span} {p : Part} (h : Puts o
     ends = h.ends ∙ sym ends;
   }
 
-  pub stands_on : (r : Part) (q : Piece) → Stands old r q → Stands new r q
+  pub stands_on : (r : Part) (q : Piece) → Stores old r q → Stores new r q
   stands_on r q x = record {
     node =
         λ e. let y = x.node (kept e).0 in let l = size_more e in (omega (arith, y.0, l), old_tree e r.node y.0 ∙ y.1);

@@ -22,7 +22,7 @@ use Rattle.f_grammar.specs.declared.part.Part as parts
 use Rattle.f_grammar.specs.declared.frame.Frame.{Frame}
 use Rattle.f_grammar.specs.declared.frame.Frame.TheVariants as frame
 use Rattle.f_grammar.specs.ReadsTerms.{argument_next, sign_next}
-use Rattle.f_grammar.specs.Forest.{span_from, Puts, Stands}
+use Rattle.f_grammar.specs.Forest.{span_from, Puts, Stores}
 use Rattle.f_grammar.specs.Frames.{Reached}
 use Rattle.f_grammar.proofs.Follows.{argument_is, begins_part, begins_bracket, bracket_owed, argument_lacks, sign_is}
 use Rattle.f_grammar.proofs.Follows.{sign_lacks, star_owed, after_star, not_star, after_assign, not_assign}
@@ -32,7 +32,7 @@ use Rattle.f_grammar.proofs.Steps.{Given}
 
 module _ (ts : List Token) {fs : List Frame} {b : Forest} {depth at : ℕ} where
   -- what may follow on an operand
-  pub part_begun : {gs hs : List Frame} {p : parts.Part} (q : Piece) → Stands b p q →
+  pub part_begun : {gs hs : List Frame} {p : parts.Part} (q : Piece) → Stores b p q →
       argument_next (slice_get ts at) ≡ Some Part → gs ≡ fs ++ frame.MoreParts ∷ [] →
       hs ≡ gs ++ frame.Argument p ∷ [] →
       Reached ts fs b depth at (Nt MoreParts ∷ []) (OfTerm q ∷ []) → Reached ts hs b depth at (Nt LP ∷ []) []
@@ -74,7 +74,7 @@ module _ (ts : List Token) {fs : List Frame} {b : Forest} {depth at : ℕ} where
         (λ below. refl) h.same (bracket_opened d)
 
     pub inst_given : {inner : ℕ} {new : Forest} {p p' : parts.Part} {gs : List Frame} (f : FoundType) (s : Token) →
-        Stands b p q → (inner ≡ depth + 1) × (depth < 200) → ReadsType LT ts inner (at + 1) f →
+        Stores b p q → (inner ≡ depth + 1) × (depth < 200) → ReadsType LT ts inner (at + 1) f →
         next_of table want.RightBracket (slice_get ts f.next) ≡ Some s →
         Puts b new (shape.Inst p.node f.ty) (span_from p.start s.span.end) p' → gs ≡ fs ++ frame.MoreParts ∷ [] →
         Given ts gs new depth (f.next + 1) p'
@@ -91,7 +91,7 @@ module _ (ts : List Token) {fs : List Frame} {b : Forest} {depth at : ℕ} where
               (closed ts depth d.0 (token ts want.RightBracket s (bracket_typed f d t) g)));
         }
 
-  pub star_begun : {gs hs is : List Frame} {p : parts.Part} (q : Piece) (s : Token) → Stands b p q →
+  pub star_begun : {gs hs is : List Frame} {p : parts.Part} (q : Piece) (s : Token) → Stores b p q →
       next_of table want.Star (slice_get ts at) ≡ Some s →
       gs ≡ fs ++ frame.MoreFactors ∷ [] → hs ≡ gs ++ frame.Right Mul p ∷ [] → is ≡ hs ++ frame.MoreParts ∷ [] →
       Reached ts fs b depth at (Nt MoreFactors ∷ []) (OfTerm q ∷ []) → Reached ts is b depth (at + 1) (Nt LP ∷ []) []
@@ -108,7 +108,7 @@ module _ (ts : List Token) {fs : List Frame} {b : Forest} {depth at : ℕ} where
   factors_end e r =
       ends ts MoreFactors refl r (step.lacks_all table ts at want.Star MoreFactors (λ c q. not_star c.kind q) e)
 
-  pub sign_begun : {gs hs is js : List Frame} {p : parts.Part} {op : Op} (q : Piece) → Stands b p q →
+  pub sign_begun : {gs hs is js : List Frame} {p : parts.Part} {op : Op} (q : Piece) → Stores b p q →
       sign_next (slice_get ts at) ≡ Some op →
       gs ≡ fs ++ frame.MoreSums ∷ [] → hs ≡ gs ++ frame.Right op p ∷ [] → is ≡ hs ++ frame.MoreFactors ∷ [] →
       js ≡ is ++ frame.MoreParts ∷ [] →
@@ -128,7 +128,7 @@ module _ (ts : List Token) {fs : List Frame} {b : Forest} {depth at : ℕ} where
       Reached ts fs b depth at (Nt MoreSums ∷ []) (OfTerm q ∷ []) → Reached ts fs b depth at [] (OfTerm q ∷ [])
   sums_end e r = ends ts MoreSums refl r (sign_lacks ts at e)
 
-  pub assign_begun : {gs hs is js : List Frame} {p : parts.Part} (q : Piece) (s : Token) → Stands b p q →
+  pub assign_begun : {gs hs is js : List Frame} {p : parts.Part} (q : Piece) (s : Token) → Stores b p q →
       next_of table want.Assign (slice_get ts at) ≡ Some s →
       gs ≡ fs ++ frame.Assigned p ∷ [] → hs ≡ gs ++ frame.MoreSums ∷ [] → is ≡ hs ++ frame.MoreFactors ∷ [] →
       js ≡ is ++ frame.MoreParts ∷ [] →

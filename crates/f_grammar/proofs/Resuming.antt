@@ -28,7 +28,7 @@ use Rattle.f_grammar.specs.declared.frame.Head.{Head}
 use Rattle.f_grammar.specs.declared.frame.Opening.{Opening}
 use Rattle.f_grammar.specs.declared.frame.Frame.{Frame}
 use Rattle.f_grammar.specs.declared.frame.Frame.TheVariants as frame
-use Rattle.f_grammar.specs.Forest.{span_from, size, tree_in, Puts, Stands, AreTrees}
+use Rattle.f_grammar.specs.Forest.{span_from, size, tree_in, Puts, Stores, AreTrees}
 use Rattle.f_grammar.specs.Frames.{fields_owed, other_owed, zero_owed, in_owed, shape_owed, Opened, opened_values}
 use Rattle.f_grammar.specs.Frames.{HeadIs, Reached}
 use Rattle.f_grammar.proofs.Follows.{after_comma, not_comma}
@@ -41,7 +41,7 @@ packed_values z q c t o p = OfToken z ∷ (OfTerm q ∷ (OfToken c ∷ (OfType t
 
 module _ (ts : List Token) {fs : List Frame} {b : Forest} {depth at : ℕ} where
   -- after a term
-  pub paren_given : {outer : ℕ} {p : parts.Part} {l : Span} (q : Piece) (o s : Token) → l ≡ o.span → Stands b p q →
+  pub paren_given : {outer : ℕ} {p : parts.Part} {l : Span} (q : Piece) (o s : Token) → l ≡ o.span → Stores b p q →
       next_of table want.RightParen (slice_get ts at) ≡ Some s → depth ≡ outer + 1 →
       Reached ts fs b depth at (Tm want.RightParen ∷ (Mark ∷ (Do MakeParen ∷ []))) (OfTerm q ∷ (OfToken o ∷ [])) →
       Given ts fs b outer (at + 1) (record { node = p.node; place = p.place; start = l.start; end = s.span.end })
@@ -85,7 +85,7 @@ module _ (ts : List Token) {fs : List Frame} {b : Forest} {depth at : ℕ} where
             (closed ts outer d (token ts want.RightAngle s (fields_end us o e r) f));
       }
 
-  pub first_field : {p : parts.Part} (q : Piece) (o : Token) (ks : List ℕ) → Stands b p q → ks ≡ p.node ∷ [] →
+  pub first_field : {p : parts.Part} (q : Piece) (o : Token) (ks : List ℕ) → Stores b p q → ks ≡ p.node ∷ [] →
       Reached ts fs b depth at (Do MakeFirst ∷ fields_owed) (OfTerm q ∷ (OfToken o ∷ [])) →
       AreTrees b ks (q.tree ∷ []) × Reached ts fs b depth at fields_owed (OfTerms (q.tree ∷ []) ∷ (OfToken o ∷ []))
   first_field {p} q o ks h e r = (
@@ -96,7 +96,7 @@ module _ (ts : List Token) {fs : List Frame} {b : Forest} {depth at : ℕ} where
     done ts MakeFirst (OfTerms (q.tree ∷ []) ∷ (OfToken o ∷ [])) (λ below. refl) (λ below. omega arith) r,
   )
 
-  pub next_field : {p : parts.Part} (q : Piece) (o c : Token) (us : List RawTm) (fields ks : List ℕ) → Stands b p q →
+  pub next_field : {p : parts.Part} (q : Piece) (o c : Token) (us : List RawTm) (fields ks : List ℕ) → Stores b p q →
       AreTrees b fields us → (b.full ≡ false → ks ≡ fields ++ p.node ∷ []) →
       Reached ts fs b depth at (Do MakeNext ∷ fields_owed) (OfTerm q ∷ (OfToken c ∷ (OfTerms us ∷ (OfToken o ∷ [])))) →
       AreTrees b ks (us ++ q.tree ∷ [])
@@ -115,7 +115,7 @@ module _ (ts : List Token) {fs : List Frame} {b : Forest} {depth at : ℕ} where
   )
 
   pub zero_begun : {gs : List Frame} {w : Span} {a : parts.Part} (q : Piece) (t o c : Token) → w ≡ t.span →
-      Stands b a q → next_of table want.Comma (slice_get ts at) ≡ Some c → gs ≡ fs ++ frame.Zero w a ∷ [] →
+      Stores b a q → next_of table want.Comma (slice_get ts at) ≡ Some c → gs ≡ fs ++ frame.Zero w a ∷ [] →
       Reached ts fs b depth at (Tm want.Comma ∷ (Nt LE ∷ zero_owed)) (OfTerm q ∷ (OfToken o ∷ (OfToken t ∷ []))) →
       Reached ts gs b depth (at + 1) (Nt LE ∷ []) []
   zero_begun {gs} {w} {a} q t o c is h e f r =
@@ -123,7 +123,7 @@ module _ (ts : List Token) {fs : List Frame} {b : Forest} {depth at : ℕ} where
       (t, o, c, q, is, h, refl) (token ts want.Comma c r e)
 
   pub other_begun : {gs : List Frame} {w : Span} {a z : parts.Part} (p q : Piece) (t o c d : Token) → w ≡ t.span →
-      Stands b a p → Stands b z q → next_of table want.Comma (slice_get ts at) ≡ Some d →
+      Stores b a p → Stores b z q → next_of table want.Comma (slice_get ts at) ≡ Some d →
       gs ≡ fs ++ frame.Other w a z ∷ [] →
       Reached ts fs b depth at zero_owed (OfTerm q ∷ (OfToken c ∷ (OfTerm p ∷ (OfToken o ∷ (OfToken t ∷ []))))) →
       Reached ts gs b depth (at + 1) (Nt LE ∷ []) []
@@ -133,7 +133,7 @@ module _ (ts : List Token) {fs : List Frame} {b : Forest} {depth at : ℕ} where
       (t, o, c, d, p, q, is, h, g, refl) (token ts want.Comma d r e)
 
   pub let_body_begun : {gs : List Frame} {outer : ℕ} {w n : Span} {a : parts.Part} (p : Piece) (t m q i : Token) →
-      w ≡ t.span → n ≡ m.span → Stands b a p → next_of table want.In (slice_get ts at) ≡ Some i → depth ≡ outer + 1 →
+      w ≡ t.span → n ≡ m.span → Stores b a p → next_of table want.In (slice_get ts at) ≡ Some i → depth ≡ outer + 1 →
       gs ≡ fs ++ frame.LetBody w n a ∷ [] →
       Reached ts fs b depth at (in_owed MakeLet) (OfTerm p ∷ (OfToken q ∷ (OfToken m ∷ (OfToken t ∷ [])))) →
       Reached ts gs b outer (at + 1) (Nt LE ∷ []) []
@@ -143,7 +143,7 @@ module _ (ts : List Token) {fs : List Frame} {b : Forest} {depth at : ℕ} where
       (closed ts outer d (token ts want.In i r e))
 
   pub open_body_begun : {gs : List Frame} {outer : ℕ} {o : Opening} (p : Piece) (v : Opened) (i : Token) →
-      o.word ≡ v.word.span → o.ty ≡ v.ty.span → o.name ≡ v.name.span → Stands b o.first p →
+      o.word ≡ v.word.span → o.ty ≡ v.ty.span → o.name ≡ v.name.span → Stores b o.first p →
       next_of table want.In (slice_get ts at) ≡ Some i →
       depth ≡ outer + 1 → gs ≡ fs ++ frame.OpenBody o ∷ [] →
       Reached ts fs b depth at (in_owed MakeOpen) (OfTerm p ∷ opened_values v) →
@@ -166,7 +166,7 @@ module _ (ts : List Token) {fs : List Frame} {b : Forest} {depth at : ℕ} where
             (OfToken s ∷ packed_values z q c (record { ty = type_of h; end = n }) o t)
         pack_as = token ts want.As s pack_closed g
 
-        pub pack_given : {w : Span} {a p : parts.Part} {new : Forest} (f : FoundType) → w ≡ t.span → Stands b a q →
+        pub pack_given : {w : Span} {a p : parts.Part} {new : Forest} (f : FoundType) → w ≡ t.span → Stores b a q →
             ReadsType LT ts outer (at + 1 + 1) f → Puts b new (shape.Pack h a.node f.ty) (span_from w.start f.end) p →
             Given ts fs new outer f.next p
         pack_given {w} {a} {p} f is x y puts =
@@ -184,7 +184,7 @@ module _ (ts : List Token) {fs : List Frame} {b : Forest} {depth at : ℕ} where
 
   module _ {new : Forest} {new_part : parts.Part} where
     pub let_given : {w n : Span} {f a : parts.Part} (p q : Piece) (t m u i : Token) → w ≡ t.span → n ≡ m.span →
-        Stands b f p → Stands b a q → Puts b new (shape.Let n f.node a.node) (span_from w.start a.end) new_part →
+        Stores b f p → Stores b a q → Puts b new (shape.Let n f.node a.node) (span_from w.start a.end) new_part →
         Reached ts fs b depth at (Do MakeLet ∷ [])
         (OfTerm q ∷ (OfToken i ∷ (OfTerm p ∷ (OfToken u ∷ (OfToken m ∷ (OfToken t ∷ [])))))) →
         Given ts fs new depth at new_part
@@ -200,7 +200,7 @@ module _ (ts : List Token) {fs : List Frame} {b : Forest} {depth at : ℕ} where
         }
 
     pub open_given : {w t n : Span} {f a : parts.Part} (p q : Piece) (v : Opened) (i : Token) → w ≡ v.word.span →
-        t ≡ v.ty.span → n ≡ v.name.span → Stands b f p → Stands b a q →
+        t ≡ v.ty.span → n ≡ v.name.span → Stores b f p → Stores b a q →
         Puts b new (shape.Open t n f.node a.node) (span_from w.start a.end) new_part →
         Reached ts fs b depth at (Do MakeOpen ∷ []) (OfTerm q ∷ (OfToken i ∷ (OfTerm p ∷ opened_values v))) →
         Given ts fs new depth at new_part
@@ -216,7 +216,7 @@ module _ (ts : List Token) {fs : List Frame} {b : Forest} {depth at : ℕ} where
           reached = made ts MakeOpen (OfTerm whole ∷ []) (λ below. refl) (λ below. omega arith) puts r;
         }
 
-    pub ref_given : {outer : ℕ} {w : Span} {a : parts.Part} (q : Piece) (t : Token) → w ≡ t.span → Stands b a q →
+    pub ref_given : {outer : ℕ} {w : Span} {a : parts.Part} (q : Piece) (t : Token) → w ≡ t.span → Stores b a q →
         depth ≡ outer + 1 → Puts b new (shape.Ref a.node) (span_from w.start a.end) new_part →
         Reached ts fs b depth at (Mark ∷ (Do MakeRef ∷ [])) (OfTerm q ∷ (OfToken t ∷ [])) →
         Given ts fs new outer at new_part
@@ -232,7 +232,7 @@ module _ (ts : List Token) {fs : List Frame} {b : Forest} {depth at : ℕ} where
               made ts MakeRef (OfTerm whole ∷ []) (λ below. refl) (λ below. omega arith) puts (closed ts outer e r);
         }
 
-    pub deref_given : {outer : ℕ} {w : Span} {a : parts.Part} (q : Piece) (t : Token) → w ≡ t.span → Stands b a q →
+    pub deref_given : {outer : ℕ} {w : Span} {a : parts.Part} (q : Piece) (t : Token) → w ≡ t.span → Stores b a q →
         depth ≡ outer + 1 → Puts b new (shape.Deref a.node) (span_from w.start a.end) new_part →
         Reached ts fs b depth at (Mark ∷ (Do MakeDeref ∷ [])) (OfTerm q ∷ (OfToken t ∷ [])) →
         Given ts fs new outer at new_part
@@ -248,7 +248,7 @@ module _ (ts : List Token) {fs : List Frame} {b : Forest} {depth at : ℕ} where
               made ts MakeDeref (OfTerm whole ∷ []) (λ below. refl) (λ below. omega arith) puts (closed ts outer e r);
         }
 
-    pub assign_given : {l a : parts.Part} (p q : Piece) (t : Token) → Stands b l p → Stands b a q →
+    pub assign_given : {l a : parts.Part} (p q : Piece) (t : Token) → Stores b l p → Stores b a q →
         Puts b new (shape.Assign l.node a.node) (span_from l.start a.end) new_part →
         Reached ts fs b depth at (Do MakeAssign ∷ []) (OfTerm q ∷ (OfToken t ∷ (OfTerm p ∷ []))) →
         Given ts fs new depth at new_part
@@ -264,7 +264,7 @@ module _ (ts : List Token) {fs : List Frame} {b : Forest} {depth at : ℕ} where
         }
 
     pub if0_given : {outer : ℕ} {w : Span} {a z y : parts.Part} (p q v : Piece) (t o c d s : Token) → w ≡ t.span →
-        Stands b a p → Stands b z q → Stands b y v → next_of table want.RightParen (slice_get ts at) ≡ Some s →
+        Stores b a p → Stores b z q → Stores b y v → next_of table want.RightParen (slice_get ts at) ≡ Some s →
         depth ≡ outer + 1 →
         Puts b new (shape.If0 a.node z.node y.node) (span_from w.start s.span.end) new_part →
         Reached ts fs b depth at other_owed
@@ -285,7 +285,7 @@ module _ (ts : List Token) {fs : List Frame} {b : Forest} {depth at : ℕ} where
         }
 
     pub proj_given : {outer n : ℕ} {h : Span} {a : parts.Part} (q : Piece) (t m : Token) → h ≡ t.span →
-        n ≡ nat_abs (value_of m.kind) → Stands b a q → depth ≡ outer + 1 →
+        n ≡ nat_abs (value_of m.kind) → Stores b a q → depth ≡ outer + 1 →
         Puts b new (shape.Proj n a.node) (span_from h.start a.end) new_part →
         Reached ts fs b depth at (Mark ∷ (Do MakeProj ∷ [])) (OfTerm q ∷ (OfToken m ∷ (OfToken t ∷ []))) →
         Given ts fs new outer at new_part
@@ -301,7 +301,7 @@ module _ (ts : List Token) {fs : List Frame} {b : Forest} {depth at : ℕ} where
               made ts MakeProj (OfTerm whole ∷ []) (λ below. refl) (λ below. omega arith) puts (closed ts outer e r);
         }
 
-    pub fix_given : {outer : ℕ} {a : parts.Part} (h : Head) (vs : List Val) (q : Piece) → HeadIs h vs → Stands b a q →
+    pub fix_given : {outer : ℕ} {a : parts.Part} (h : Head) (vs : List Val) (q : Piece) → HeadIs h vs → Stores b a q →
         depth ≡ outer + 1 →
         Puts b new (shape.Fix h.name h.parameter h.takes h.gives a.node) (span_from h.word.start a.end) new_part →
         Reached ts fs b depth at (Mark ∷ (Do MakeFix ∷ [])) (OfTerm q ∷ vs) → Given ts fs new outer at new_part
@@ -323,7 +323,7 @@ module _ (ts : List Token) {fs : List Frame} {b : Forest} {depth at : ℕ} where
         }
 
     pub gen_given : {outer : ℕ} {w n : Span} {a : parts.Part} (q : Piece) (t m d : Token) → w ≡ t.span → n ≡ m.span →
-        Stands b a q → depth ≡ outer + 1 → Puts b new (shape.Gen n a.node) (span_from w.start a.end) new_part →
+        Stores b a q → depth ≡ outer + 1 → Puts b new (shape.Gen n a.node) (span_from w.start a.end) new_part →
         Reached ts fs b depth at (Mark ∷ (Do MakeGen ∷ [])) (OfTerm q ∷ (OfToken d ∷ (OfToken m ∷ (OfToken t ∷ [])))) →
         Given ts fs new outer at new_part
     gen_given {outer} {w} {n} {a} q t m d is name g e puts r =
@@ -338,7 +338,7 @@ module _ (ts : List Token) {fs : List Frame} {b : Forest} {depth at : ℕ} where
               made ts MakeGen (OfTerm whole ∷ []) (λ below. refl) (λ below. omega arith) puts (closed ts outer e r);
         }
 
-    pub call_given : {f a : parts.Part} (p q : Piece) → Stands b f p → Stands b a q →
+    pub call_given : {f a : parts.Part} (p q : Piece) → Stores b f p → Stores b a q →
         Puts b new (shape.App f.node a.node) (span_from f.start a.end) new_part →
         Reached ts fs b depth at (Do MakeCall ∷ []) (OfTerm q ∷ (OfTerm p ∷ [])) → Given ts fs new depth at new_part
     call_given {f} {a} p q h g puts r =
@@ -352,7 +352,7 @@ module _ (ts : List Token) {fs : List Frame} {b : Forest} {depth at : ℕ} where
           reached = made ts MakeCall (OfTerm whole ∷ []) (λ below. refl) (λ below. omega arith) puts r;
         }
 
-    pub arith_given : {op : Op} {l a : parts.Part} (p q : Piece) (t : Token) → Stands b l p → Stands b a q →
+    pub arith_given : {op : Op} {l a : parts.Part} (p q : Piece) (t : Token) → Stores b l p → Stores b a q →
         Puts b new (shape.Arith op l.node a.node) (span_from l.start a.end) new_part →
         Reached ts fs b depth at (Do (MakeArith op) ∷ []) (OfTerm q ∷ (OfToken t ∷ (OfTerm p ∷ []))) →
         Given ts fs new depth at new_part

@@ -19,7 +19,7 @@ use Rattle.f_grammar.specs.declared.raw.RawShape.TheVariants as shape
 use Rattle.f_grammar.specs.declared.forest.Forest.{Forest}
 use Rattle.f_grammar.specs.declared.part.Part as parts
 use Rattle.f_grammar.specs.declared.frame.Frame.{Frame}
-use Rattle.f_grammar.specs.Forest.{size, Stands, Counted}
+use Rattle.f_grammar.specs.Forest.{size, Stores, Counted}
 use Rattle.f_grammar.specs.Frames.{Around, nothing, Reached, Leads, Offered, IsLeaf, work, Went}
 use Rattle.f_grammar.specs.declared.frame.Reader.{Reader}
 use Rattle.f_grammar.specs.declared.frame.Control.{Control}
@@ -71,7 +71,7 @@ went ts old new m c e h = subst (λ xs. (new.tokens.now ≡ xs) × Leads xs new 
 -- a term was read
 pub record Given (ts : List Token) (fs : List Frame) (b : Forest) (depth at : ℕ) (p : parts.Part) : Type 0 where
   pub piece : Piece
-  pub stands : Stands b p piece
+  pub stands : Stores b p piece
   pub reached : Reached ts fs b depth at [] (OfTerm piece ∷ [])
 
 -- a leaf has no children
@@ -82,16 +82,16 @@ leaf_children (k.Negative z) (shape.Num y) n h = All-nil (λ i. i < n)
 leaf_children _ _ n h = absurd h
 
 -- one, two and three children
-pub one_child : {b : Forest} {p : parts.Part} {q : Piece} → Stands b p q → b.full ≡ false →
+pub one_child : {b : Forest} {p : parts.Part} {q : Piece} → Stores b p q → b.full ≡ false →
     All (λ i. i < size b) (p.node ∷ [])
 one_child {b} {p} h f = All-cons (λ i. i < size b) p.node [] (h.node f).0 (All-nil (λ i. i < size b))
 
-pub two_children : {b : Forest} {p p' : parts.Part} {q q' : Piece} → Stands b p q → Stands b p' q' → b.full ≡ false →
+pub two_children : {b : Forest} {p p' : parts.Part} {q q' : Piece} → Stores b p q → Stores b p' q' → b.full ≡ false →
     All (λ i. i < size b) (p.node ∷ p'.node ∷ [])
 two_children {b} {p} {p'} h g f = All-cons (λ i. i < size b) p.node (p'.node ∷ []) (h.node f).0 (one_child g f)
 
-pub three_children : {b : Forest} {p p' p'' : parts.Part} {q q' q'' : Piece} → Stands b p q → Stands b p' q' →
-    Stands b p'' q'' → b.full ≡ false → All (λ i. i < size b) (p.node ∷ p'.node ∷ p''.node ∷ [])
+pub three_children : {b : Forest} {p p' p'' : parts.Part} {q q' q'' : Piece} → Stores b p q → Stores b p' q' →
+    Stores b p'' q'' → b.full ≡ false → All (λ i. i < size b) (p.node ∷ p'.node ∷ p''.node ∷ [])
 three_children {b} {p} {p'} {p''} h g i f =
     All-cons (λ i. i < size b) p.node (p'.node ∷ p''.node ∷ []) (h.node f).0 (two_children g i f)
 

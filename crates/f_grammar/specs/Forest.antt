@@ -2,7 +2,7 @@
 use Rattle.std.specs.Prelude.{◌≡◌, ℕ, ◌+◌, ◌<◌, ◌≤◌, ◌⊎◌, List, [], ◌∷◌, ◌++◌, map, length, Bool, true, false}
 use Rattle.std.specs.List.{All}
 use Rattle.idx_core.specs.declared.span.Span.{Span}
-use Rattle.f_grammar.specs.Raw.{RawTm, Piece, place_of, nodes, nodes_all, raw_tms}
+use Rattle.f_grammar.specs.Raw.{RawTm, Piece, raw_span, nodes, nodes_all, raw_tms}
 use Rattle.f_grammar.specs.Machine.{Val, OfToken, OfTerm, OfTerms, OfType, OfTypes}
 use Rattle.f_grammar.specs.Nodes.{tree_at}
 use Rattle.f_grammar.specs.declared.raw.RawNode.{RawNode}
@@ -36,10 +36,10 @@ pub record Puts (old new : Forest) (shape : RawShape) (s : Span) (p : Part) : Ty
   pub starts : p.start ≡ s.start
   pub ends : p.end ≡ s.end
 
--- a term that was read stands for the piece q
-pub record Stands (b : Forest) (p : Part) (q : Piece) : Type 0 where
+-- the forest stores the piece q, whose root is the part p
+pub record Stores (b : Forest) (p : Part) (q : Piece) : Type 0 where
   pub node : b.full ≡ false → (p.node < size b) × (tree_in b p.node ≡ q.tree)
-  pub place : p.place ≡ place_of q.tree
+  pub place : p.place ≡ raw_span q.tree
   pub starts : p.start ≡ q.start
   pub ends : p.end ≡ q.end
 

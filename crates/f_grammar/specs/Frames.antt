@@ -19,7 +19,7 @@ use Rattle.f_grammar.specs.Machine.{MakeCall, MakeArith, MakeFirst, MakeNext, Ma
 use Rattle.f_grammar.specs.Machine.{MakeDeref, MakeAssign, MoreAssign, LT, value_of, marks}
 use Rattle.f_grammar.specs.declared.cursor.Wanted.TheVariants as want
 use Rattle.f_grammar.specs.declared.cursor.Stopped.{Stopped}
-use Rattle.f_grammar.specs.Forest.{Stands, AreTrees, Counted}
+use Rattle.f_grammar.specs.Forest.{Stores, AreTrees, Counted}
 use Rattle.f_grammar.specs.declared.forest.Forest.{Forest}
 use Rattle.f_grammar.specs.declared.part.Part.{Part}
 use Rattle.f_grammar.specs.declared.frame.Head.{Head}
@@ -112,10 +112,10 @@ Held b (frame.Next l fs) vs = (o : Token) × (c : Token) × (ts : List RawTm) ×
 Held b (frame.Proj h n) vs = (t : Token) × (m : Token) × (h ≡ t.span) × (n ≡ nat_abs (value_of m.kind))
     × (vs ≡ OfToken m ∷ (OfToken t ∷ []))
 Held b (frame.Test w) vs = (t : Token) × (o : Token) × (w ≡ t.span) × (vs ≡ OfToken o ∷ (OfToken t ∷ []))
-Held b (frame.Zero w a) vs = (t : Token) × (o : Token) × (c : Token) × (p : Piece) × (w ≡ t.span) × Stands b a p
+Held b (frame.Zero w a) vs = (t : Token) × (o : Token) × (c : Token) × (p : Piece) × (w ≡ t.span) × Stores b a p
     × (vs ≡ OfToken c ∷ (OfTerm p ∷ (OfToken o ∷ (OfToken t ∷ []))))
 Held b (frame.Other w a z) vs = (t : Token) × (o : Token) × (c : Token) × (d : Token) × (p : Piece) × (q : Piece)
-    × (w ≡ t.span) × Stands b a p × Stands b z q
+    × (w ≡ t.span) × Stores b a p × Stores b z q
     × (vs ≡ OfToken d ∷ (OfTerm q ∷ (OfToken c ∷ (OfTerm p ∷ (OfToken o ∷ (OfToken t ∷ []))))))
 Held b (frame.Fix h) vs = HeadIs h vs
 Held b (frame.Gen w n) vs = (t : Token) × (a : Token) × (d : Token) × (w ≡ t.span) × (n ≡ a.span)
@@ -123,19 +123,19 @@ Held b (frame.Gen w n) vs = (t : Token) × (a : Token) × (d : Token) × (w ≡ 
 Held b (frame.Let w n) vs = (l : Token) × (m : Token) × (q : Token) × (w ≡ l.span) × (n ≡ m.span)
     × (vs ≡ OfToken q ∷ (OfToken m ∷ (OfToken l ∷ [])))
 Held b (frame.LetBody w n a) vs = (l : Token) × (m : Token) × (q : Token) × (i : Token) × (p : Piece) × (w ≡ l.span)
-    × (n ≡ m.span) × Stands b a p
+    × (n ≡ m.span) × Stores b a p
     × (vs ≡ OfToken i ∷ (OfTerm p ∷ (OfToken q ∷ (OfToken m ∷ (OfToken l ∷ [])))))
 Held b (frame.Pack w t) vs = (p : Token) × (o : Token) × (c : Token) × (end : ℕ) × (w ≡ p.span)
     × (vs ≡ OfToken c ∷ (OfType (record { ty = type_of t; end = end }) ∷ (OfToken o ∷ (OfToken p ∷ []))))
 Held b (frame.Open w t n) vs = (h : Opened) × (w ≡ h.word.span) × (t ≡ h.ty.span) × (n ≡ h.name.span)
     × (vs ≡ opened_values h)
 Held b (frame.OpenBody o) vs = (h : Opened) × (i : Token) × (p : Piece) × (o.word ≡ h.word.span)
-    × (o.ty ≡ h.ty.span) × (o.name ≡ h.name.span) × Stands b o.first p × (vs ≡ OfToken i ∷ (OfTerm p ∷ opened_values h))
+    × (o.ty ≡ h.ty.span) × (o.name ≡ h.name.span) × Stores b o.first p × (vs ≡ OfToken i ∷ (OfTerm p ∷ opened_values h))
 Held b (frame.Ref w) vs = (t : Token) × (w ≡ t.span) × (vs ≡ OfToken t ∷ [])
 Held b (frame.Deref w) vs = (t : Token) × (w ≡ t.span) × (vs ≡ OfToken t ∷ [])
-Held b (frame.Argument f) vs = (p : Piece) × Stands b f p × (vs ≡ OfTerm p ∷ [])
-Held b (frame.Right op l) vs = (s : Token) × (p : Piece) × Stands b l p × (vs ≡ OfToken s ∷ (OfTerm p ∷ []))
-Held b (frame.Assigned a) vs = (s : Token) × (p : Piece) × Stands b a p × (vs ≡ OfToken s ∷ (OfTerm p ∷ []))
+Held b (frame.Argument f) vs = (p : Piece) × Stores b f p × (vs ≡ OfTerm p ∷ [])
+Held b (frame.Right op l) vs = (s : Token) × (p : Piece) × Stores b l p × (vs ≡ OfToken s ∷ (OfTerm p ∷ []))
+Held b (frame.Assigned a) vs = (s : Token) × (p : Piece) × Stores b a p × (vs ≡ OfToken s ∷ (OfTerm p ∷ []))
 Held b frame.MoreParts vs = vs ≡ []
 Held b frame.MoreFactors vs = vs ≡ []
 Held b frame.MoreSums vs = vs ≡ []
@@ -168,11 +168,11 @@ Stays ts r goal got = Reached ts r.frames.items r.forest r.depth r.at goal got
 abbrev pub Leads : List Token → Reader → Control → Type 0
 Leads ts r control.Term = Stays ts r (Nt LE ∷ []) []
 Leads ts r control.Part = Stays ts r (Nt LP ∷ []) []
-Leads ts r (control.Give p) = (q : Piece) × Stands r.forest p q × Stays ts r [] (OfTerm q ∷ [])
+Leads ts r (control.Give p) = (q : Piece) × Stores r.forest p q × Stays ts r [] (OfTerm q ∷ [])
 
 -- a term was read for which the frame waits
 abbrev pub Offered : List Token → Reader → Frame → Part → Type 0
-Offered ts r f p = (q : Piece) × (vs : List Val) × Stands r.forest p q × Held r.forest f vs
+Offered ts r f p = (q : Piece) × (vs : List Val) × Stores r.forest p q × Held r.forest f vs
     × Stays ts r (owes f) (OfTerm q ∷ vs)
 
 -- a name or a number, and its form

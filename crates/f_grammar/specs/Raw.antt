@@ -59,23 +59,23 @@ raw_tms [] = NoRawTms
 raw_tms (e ∷ es) = MoreRawTms e (raw_tms es)
 
 -- the place of the whole form
-abbrev pub place_of : RawTm → Span
-place_of (RVar s) = s
-place_of (RNum s z) = s
-place_of (RFix s f x t r e) = s
-place_of (RGen s n e) = s
-place_of (RApp s a b) = s
-place_of (RInst s e t) = s
-place_of (RFields s es) = s
-place_of (RProj s n e) = s
-place_of (RArith s op a b) = s
-place_of (RIf0 s a b c) = s
-place_of (RLet s n a b) = s
-place_of (RPack s t e r) = s
-place_of (ROpen s n x a b) = s
-place_of (RCell s e) = s
-place_of (RDeref s e) = s
-place_of (RAssign s a b) = s
+abbrev pub raw_span : RawTm → Span
+raw_span (RVar s) = s
+raw_span (RNum s z) = s
+raw_span (RFix s f x t r e) = s
+raw_span (RGen s n e) = s
+raw_span (RApp s a b) = s
+raw_span (RInst s e t) = s
+raw_span (RFields s es) = s
+raw_span (RProj s n e) = s
+raw_span (RArith s op a b) = s
+raw_span (RIf0 s a b c) = s
+raw_span (RLet s n a b) = s
+raw_span (RPack s t e r) = s
+raw_span (ROpen s n x a b) = s
+raw_span (RCell s e) = s
+raw_span (RDeref s e) = s
+raw_span (RAssign s a b) = s
 
 -- the nodes of a term
 abbrev mutual

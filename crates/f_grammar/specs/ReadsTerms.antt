@@ -7,7 +7,7 @@ use Rattle.f_lexer.specs.declared.kind.Kind.{Kind}
 use Rattle.f_lexer.specs.declared.kind.Kind.TheVariants as k
 use Rattle.text_core.specs.Table.{Nt, Do, Mark}
 use Rattle.text_core.specs.Going.{Goes, next_of}
-use Rattle.f_grammar.specs.Raw.{RawTm, Piece, place_of, nodes}
+use Rattle.f_grammar.specs.Raw.{RawTm, Piece, raw_span, nodes}
 use Rattle.f_grammar.specs.Machine.{table, Stack, OfToken, OfTerm, OfType, value_of, LE, MakeFix, MakeGen}
 use Rattle.f_grammar.specs.Read.{type_of}
 use Rattle.f_grammar.specs.Term.{tree_of}
@@ -22,7 +22,7 @@ use Rattle.f_grammar.specs.declared.heads.Argument.TheVariants.{Part, Bracket}
 -- what is kept of the tree t
 abbrev pub Keeps : Kept → RawTm → Type 0
 Keeps (kept.Term e) t = (tree_of e ≡ t) × (nodes t ≤ 100000)
-Keeps (kept.TooMany s) t = (place_of t ≡ s) × (100000 < nodes t)
+Keeps (kept.TooMany s) t = (raw_span t ≡ s) × (100000 < nodes t)
 
 -- from the first token on a term was read, up to a token
 pub record ReadsTerm (ts : List Token) (f : FoundTerm) : Type 0 where

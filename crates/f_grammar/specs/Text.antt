@@ -12,7 +12,7 @@ use Rattle.f_terms.specs.Limits.{nodes as term_nodes}
 use Rattle.f_terms.specs.Scope.{IsClosed}
 use Rattle.f_lexer.specs.declared.token.Token.{Token}
 use Rattle.f_lexer.specs.Source.{IsCut, FirstTokenFault}
-use Rattle.f_grammar.specs.Raw.{Piece, nodes, place_of}
+use Rattle.f_grammar.specs.Raw.{Piece, nodes, raw_span}
 use Rattle.f_grammar.specs.Grammar.{E, open_E}
 use Rattle.f_grammar.specs.Scope.{TermOf, Use, uses, Ascends, IsFirstUnbound, unbound_code}
 
@@ -79,7 +79,7 @@ pub data FirstFault (text : List ℕ) : Code → Span → Type 0 where
   too_deep : {w : List Token} (u : List Token) (t : Token) (z : List Token) → HasTokens text w →
       IsPassed source_grammar 200 w u t z → FirstFault text code.L2 t.span
   -- L3: too many nodes
-  too_large : (p : Piece) → HasShape text p → 100000 < nodes p.tree → FirstFault text code.L3 (place_of p.tree)
+  too_large : (p : Piece) → HasShape text p → 100000 < nodes p.tree → FirstFault text code.L3 (raw_span p.tree)
   -- E05 and E06, whichever comes first: a value name, a type name that has no binder around it
   unbound : (p : Piece) (u : Use) → HasShape text p → nodes p.tree ≤ 100000 →
       IsFirstUnbound text (uses text [] [] p.tree) u → FirstFault text (unbound_code u.of_type) u.at

@@ -2,7 +2,7 @@
 ghost use Rattle.std.specs.Prelude.{◌≡◌, ◌<◌, ◌∷◌, [], false, MatchResult};
 ghost use Rattle.f_grammar.specs.Raw.{Piece};
 ghost use Rattle.f_grammar.specs.Machine.{OfTerm};
-ghost use Rattle.f_grammar.specs.Forest.{size, Stands, Counted};
+ghost use Rattle.f_grammar.specs.Forest.{size, Stores, Counted};
 ghost use Rattle.f_grammar.specs.ReadsTerms.{Keeps, ReadsTerm};
 ghost use Rattle.f_grammar.specs.Frames.{IsStop, Leads};
 ghost use Rattle.f_grammar.specs.declared.frame.Control.TheVariants as control;
@@ -34,7 +34,7 @@ fn start<'a>(alloc: Global, tokens: &'a [Token]) -> Reader<'a>
 // What is kept of the whole term.
 fn kept(forest: Forest, part: Part) -> Kept
     requires { forest.full ≡ false → part.node < size forest }
-    ensures { (q : Piece) → Stands forest part q → Counted forest (OfTerm q ∷ []) → Keeps result q.tree }
+    ensures { (q : Piece) → Stores forest part q → Counted forest (OfTerm q ∷ []) → Keeps result q.tree }
 {
     if forest.full {
         return Kept::TooMany(part.place);

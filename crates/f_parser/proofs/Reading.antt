@@ -8,7 +8,7 @@ use Rattle.text_core.proofs.Whole.{whole_fine, whole_more, whole_unexpected, who
 use Rattle.f_terms.specs.declared.fault.Code.TheVariants as code
 use Rattle.f_terms.specs.Tm.{Tm}
 use Rattle.f_lexer.specs.declared.token.Token.{Token}
-use Rattle.f_grammar.specs.Raw.{RawTm, Piece, nodes, place_of}
+use Rattle.f_grammar.specs.Raw.{RawTm, Piece, nodes, raw_span}
 use Rattle.f_grammar.specs.Grammar.{E}
 use Rattle.f_grammar.specs.Machine.{table, LE, OfTerm}
 use Rattle.f_grammar.specs.Reads.{Fails}
@@ -68,7 +68,7 @@ module _ (text : List ℕ) (w : List Token) (h : HasTokens text w) (f : FoundTer
   pub whole_kept : slice_get w f.next ≡ None → (result : Result RawTerm FFault) →
       ((t : RawTm) → Keeps f.kept t →
       MatchResult result (λ e. (tree_of e ≡ t) × (nodes t ≤ 100000))
-      (λ x. (x ≡ Refused code.L3 (place_of t)) × (100000 < nodes t))) →
+      (λ x. (x ≡ Refused code.L3 (raw_span t)) × (100000 < nodes t))) →
       MatchResult result (λ t. HasTree text (tree_of t)) (λ x. IsFault text x)
   whole_kept e (Ok t) k =
       let x = k r.piece.tree r.keeps in

@@ -7,7 +7,7 @@ ghost use Rattle.f_terms.specs.declared.fault.FFault.TheVariants as fault;
 ghost use Rattle.f_terms.specs.Tm.{Tm};
 ghost use Rattle.f_terms.specs.ReadTerm.{spanned};
 ghost use Rattle.f_terms.specs.declared.fault.Code.TheVariants.{L3};
-ghost use Rattle.f_grammar.specs.Raw.{RawTm, nodes, place_of};
+ghost use Rattle.f_grammar.specs.Raw.{RawTm, nodes, raw_span};
 ghost use Rattle.f_grammar.specs.Machine.{LE};
 ghost use Rattle.f_grammar.specs.Reads.{Fails};
 ghost use Rattle.f_grammar.specs.Term.{tree_of};
@@ -70,7 +70,7 @@ fn stopped_fault(text: &[u8], tokens: &[Token], stopped: Stopped) -> FFault
 // the tree, or the fault where it has too many nodes
 fn kept_tree(kept: Kept) -> Result<RawTerm, FFault>
     ensures { (t : RawTm) → Keeps kept t → MatchResult result (λ e. (tree_of e ≡ t) × (nodes t ≤ 100000))
-        (λ f. (f ≡ fault.Refused L3 (place_of t)) × (100000 < nodes t)) }
+        (λ f. (f ≡ fault.Refused L3 (raw_span t)) × (100000 < nodes t)) }
 {
     match kept {
         Kept::Term(tree) => Ok(tree),

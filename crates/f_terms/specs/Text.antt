@@ -1,7 +1,7 @@
 -- The text of a type.
 use Rattle.std.specs.Prelude.{ℕ, ◌+◌, ◌-◌, List, [], ◌++◌, Bool, true, false, if◌then◌else◌, codes, decimal}
+use Rattle.idx_core.specs.Separator.{separator}
 use Rattle.f_terms.specs.Ty.{Ty, TInt, TVar, TArrow, TAll, TTuple, TSome, TRef, Tys, NoTys, MoreTys}
-pub use Rattle.idx_core.specs.Separator.{separator}
 
 -- the variable of an `all` or a `some` with d of them around it
 abbrev pub name_text : ℕ → List ℕ

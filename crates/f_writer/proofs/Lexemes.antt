@@ -1,12 +1,11 @@
 -- The text of a term as tokens and the white space between them.
 use Rattle.std.proofs.Common.{◌≡◌, ℕ, suc, ◌+◌, ◌-◌, ℤ, pos, negsuc, List, [], ◌∷◌, ◌++◌, Bool, true, false, codes}
-use Rattle.std.proofs.Common.{decimal, refl, sym, ap, ap₂, ◌∙◌, append_assoc, add-one, arith, ◌==◌, if◌then◌else◌}
-use Rattle.std.proofs.lemmas.Bool.{ne_eqb}
+use Rattle.std.proofs.Common.{decimal, refl, sym, ap, ap₂, ◌∙◌, append_assoc, add-one, if◌then◌else◌}
 use Rattle.std.proofs.lemmas.List.{append-nil}
 use Rattle.idx_core.specs.declared.arith.Op.{Op}
 use Rattle.idx_core.specs.declared.arith.Op.TheVariants.{Add, Sub, Mul}
 use Rattle.f_terms.specs.Ty.{Ty, TInt, TVar, TArrow, TAll, TTuple, TSome, TRef, Tys, NoTys, MoreTys}
-use Rattle.f_terms.specs.Text.{name_text, is_grouped, separator, text_at, texts_at}
+use Rattle.f_terms.specs.Text.{name_text, is_grouped, text_at, texts_at}
 use Rattle.f_terms.specs.Tm.{Term, MVar, MNum, MFix, MApp, MGen, MInst, MTuple, MProj, MArith, MIf0, MLet, MPack}
 use Rattle.f_terms.specs.Tm.{MOpen, MRef, MDeref, MAssign, Terms, NoTerms, MoreTerms}
 use Rattle.f_lexer.specs.declared.kind.Kind.{Kind}
@@ -152,10 +151,6 @@ if_grouped false s = sym (append-nil s)
 join_three : (a b c : List ℕ) → a ++ (b ++ c) ≡ a ++ b ++ c
 join_three a b c = simp append_assoc
 
--- a comma stands before each field but the first
-late : (i : ℕ) → separator (suc i) ≡ codes ", "
-late i = let e : (suc i == 0) ≡ false = ne_eqb (suc i) 0 (λ e. omega arith) in rw e refl
-
 mutual
   pub type_rendered : (d : ℕ) (t : Ty) → render (type_lexed d t) ≡ text_at d t
   type_rendered d TInt = refl
@@ -189,7 +184,7 @@ mutual
   more_types_rendered d i (MoreTys t ts) =
       ap (λ (u : List ℕ). codes ", " ++ u) (render_append (type_lexed d t) (more_types_lexed d ts) ∙ ap₂
       (λ (u v : List ℕ). u ++ v) (type_rendered d t) (more_types_rendered d (suc i) ts))
-      ∙ ap₂ (λ (s : List ℕ) (j : ℕ). s ++ text_at d t ++ texts_at d j ts) (sym (late i)) (sym (add-one (suc i)))
+      ∙ ap (λ (j : ℕ). codes ", " ++ text_at d t ++ texts_at d j ts) (sym (add-one (suc i)))
 
 -- pieces joined
 join_four : (a b c d : List ℕ) → a ++ (b ++ (c ++ d)) ≡ a ++ b ++ c ++ d

@@ -4,7 +4,8 @@ use Rattle.std.proofs.Common.{arith}
 use Rattle.std.proofs.lemmas.List.{map_more, append_assoc, append-nil, length-map, length-take}
 use Rattle.f_terms.specs.declared.types.FType.{FType}
 use Rattle.f_terms.specs.Ty.{Ty, TTuple, tys}
-use Rattle.f_terms.specs.Text.{separator, text_at, texts_at}
+use Rattle.idx_core.specs.Separator.{separator}
+use Rattle.f_terms.specs.Text.{text_at, texts_at}
 use Rattle.f_terms.specs.Read.{tree}
 
 push : (d k : ℕ) (us : List Ty) (u : Ty) → texts_at d k (tys (us ++ u ∷ [])) ≡ texts_at d k (tys us) ++

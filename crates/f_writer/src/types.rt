@@ -1,6 +1,7 @@
 // Types.
 ghost use Rattle.std.specs.Prelude.{◌≡◌, ◌++◌, [], ◌+◌, codes, OnOk, IfOk, if◌then◌else◌};
-ghost use Rattle.f_terms.specs.Text.{name_text, is_grouped, separator, text_at};
+ghost use Rattle.idx_core.specs.Separator.{separator};
+ghost use Rattle.f_terms.specs.Text.{name_text, is_grouped, text_at};
 ghost use Rattle.f_terms.specs.Read.{tree};
 
 use crate::names::write_type_name;

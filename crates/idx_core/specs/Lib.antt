@@ -6,5 +6,5 @@ pub mod Levels
 pub mod Memory
 pub mod Names
 pub mod Over
-pub mod Steps
 pub mod Separator
+pub mod Steps

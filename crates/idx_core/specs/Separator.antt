@@ -1,7 +1,7 @@
--- What stands between the items of a list.
+-- What stands between the items of a list in a text.
 use Rattle.std.specs.Prelude.{ℕ, zero, suc, List, [], codes}
 
--- before an item that has so many before it: a comma and a space, unless it is the first
+-- what stands before an item with so many items before it
 abbrev pub separator : ℕ → List ℕ
 separator zero = []
-separator (suc i) = codes ", "
+separator (suc before) = codes ", "

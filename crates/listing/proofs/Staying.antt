@@ -8,7 +8,8 @@ use Rattle.t_types.specs.Tree.{MoreFields, over, over_file, over_fields, shift}
 use Rattle.t_types.specs.Fits.{RegTypes}
 use Rattle.t_terms.specs.Tree.{Arith, Bnz, Ld, Malloc, Mov, St, Unpack}
 use Rattle.t_terms.specs.Registers.{with_reg, raised}
-use Rattle.t_trace.specs.Line.{fields_text, flag_text, names_text, regs_text, separator, text_at, variable_text}
+use Rattle.idx_core.specs.Separator.{separator}
+use Rattle.t_trace.specs.Line.{fields_text, flag_text, names_text, regs_text, text_at, variable_text}
 use Rattle.listing.specs.Listing.{OthersStay, SetIsKnown, said_of}
 
 -- a type says the same under one more name of the place

@@ -5,7 +5,7 @@ use Rattle.std.proofs.Common.{append_assoc, add-one, drop-cons}
 use Rattle.std.proofs.lemmas.List.{append-nil}
 use Rattle.std.proofs.Math.ListN.{drop_of_length-le}
 use Rattle.idx_core.specs.declared.span.Span.{Span}
-use Rattle.page_core.specs.Names.{separator}
+use Rattle.idx_core.specs.Separator.{separator}
 use Rattle.t_types.specs.declared.types.TType.{TType}
 use Rattle.t_types.specs.Read.{file, tree}
 use Rattle.t_terms.specs.declared.block.Block.{Block}

@@ -3,6 +3,7 @@
 use Rattle.std.specs.Prelude.{◌≡◌, ℕ, suc, ◌-◌, nat_lt, List, [], ◌∷◌, ◌++◌, Option, Some, None, codes, decimal}
 use Rattle.std.specs.Prelude.{IsSome, drop, if◌then◌else◌, length, map, option_map, take}
 use Rattle.idx_core.specs.declared.span.Span.{Span}
+use Rattle.idx_core.specs.Separator.{separator}
 use Rattle.page_core.specs.Page.{dots}
 use Rattle.page_core.specs.Spot.{line_number}
 use Rattle.t_types.specs.Tree.{Ty, TFile, NoRegs, MoreRegs}
@@ -12,7 +13,6 @@ use Rattle.t_terms.specs.Spanned.{SBlock, SProg, plain_program}
 use Rattle.t_rules.specs.Known.{KnownAt}
 use Rattle.t_rules.specs.Rules.{Typed}
 use Rattle.t_check.specs.Walks.{IsKnownFile}
-use Rattle.page_core.specs.Names.{separator}
 use Rattle.t_trace.specs.Line.{text_at}
 
 -- ---- the rows of the text

@@ -7,7 +7,8 @@ use Rattle.t_types.specs.declared.types.TType.{TType}
 use Rattle.t_types.specs.Tree.{CodeTy, TupleTy, TFile, TFields}
 use Rattle.t_types.specs.Read.{tree, file, fields}
 use Rattle.t_terms.specs.declared.shown.Shown.{Shown}
-use Rattle.t_trace.specs.Line.{separator, names_text, flag_text, text_at, regs_text, fields_text, word_text}
+use Rattle.idx_core.specs.Separator.{separator}
+use Rattle.t_trace.specs.Line.{names_text, flag_text, text_at, regs_text, fields_text, word_text}
 use Rattle.t_trace.specs.Line.{words_text, line_text, AreWordsOf}
 use Rattle.idx_core.proofs.Lists.{item}
 

@@ -2,6 +2,7 @@
 -- type.
 use Rattle.std.specs.Prelude.{◌≡◌, ℕ, zero, suc, ◌+◌, ◌-◌, nat_lt, List, [], ◌∷◌, ◌++◌, Bool, true, false}
 use Rattle.std.specs.Prelude.{if◌then◌else◌, codes, decimal}
+use Rattle.idx_core.specs.Separator.{separator}
 use Rattle.t_types.specs.Read.{file as file_of}
 use Rattle.t_types.specs.Tree.{Ty, IntTy, VarTy, CodeTy, ExistsTy, TupleTy, TFile, NoRegs, MoreRegs, TFields, NoFields}
 use Rattle.t_types.specs.Tree.{MoreFields}
@@ -9,7 +10,6 @@ use Rattle.t_terms.specs.declared.shown.Shown.{Shown}
 use Rattle.t_terms.specs.declared.shown.Shown.TheVariants.{Int, Tuple, Label}
 use Rattle.t_trace.specs.declared.lines.Place.{Place}
 use Rattle.t_writer.specs.Lexeme.{number_text}
-pub use Rattle.idx_core.specs.Separator.{separator}
 
 -- a word: an integer, `@` and an address, `L` and the number of a block
 abbrev pub word_text : Shown → List ℕ

@@ -2,7 +2,8 @@
 ghost use Rattle.std.specs.Prelude.{◌≡◌, ◌+◌, ◌++◌, ◌≤◌, codes, decimal, length, IfOk, OnOk};
 ghost use Rattle.t_types.specs.Read.{tree, file};
 ghost use Rattle.t_types.specs.Read.{fields as fields_of};
-ghost use Rattle.t_trace.specs.Line.{variable_text, separator, names_text, flag_text, text_at, regs_text, fields_text};
+ghost use Rattle.idx_core.specs.Separator.{separator};
+ghost use Rattle.t_trace.specs.Line.{variable_text, names_text, flag_text, text_at, regs_text, fields_text};
 
 use idx_core::OutOfMemory;
 use std::alloc::Global;

@@ -14,7 +14,7 @@ use Rattle.f_grammar.specs.Machine.{table, LE, LP, LT, MoreParts, MoreFactors, M
 use Rattle.f_grammar.specs.Machine.{MakeInst, MakeArith, MakeNext, fits, part_after, parts_after, factors_after}
 use Rattle.f_grammar.specs.Machine.{sums_after, term_owed, fields_after, fields_tail, expr_after, sum_tail}
 use Rattle.f_grammar.specs.Machine.{commas_after, branches_after, LHidden, LNames, MakeLet, MakePack, MakeOpen}
-use Rattle.f_grammar.specs.Machine.{body_owed, hidden_after, names_after, assign_after, assign_owed}
+use Rattle.f_grammar.specs.Machine.{body_owed, hidden_after, two_names_after, assign_after, assign_owed}
 use Rattle.f_grammar.specs.declared.heads.Argument.{Argument}
 use Rattle.f_grammar.specs.declared.heads.Argument.TheVariants.{Part, Bracket}
 use Rattle.f_grammar.specs.ReadsTerms.{argument_of, argument_next, sign_of, sign_next}
@@ -181,11 +181,11 @@ not_bracket _ e = refl
 abbrev pub names_owed : Stack
 names_owed = Tm want.Name ∷ (Tm want.Comma ∷ (Tm want.Name ∷ (Tm want.RightBracket ∷ (Mark ∷ []))))
 
-pub after_names : (c : Kind) → fits want.LeftBracket c ≡ true → names_after c ≡ Some names_owed
+pub after_names : (c : Kind) → fits want.LeftBracket c ≡ true → two_names_after c ≡ Some names_owed
 after_names k.LeftBracket e = refl
 after_names _ e = absurd (cc)
 
-pub not_names : (c : Kind) → fits want.LeftBracket c ≡ false → names_after c ≡ None
+pub not_names : (c : Kind) → fits want.LeftBracket c ≡ false → two_names_after c ≡ None
 not_names k.LeftBracket e = absurd (cc)
 not_names _ e = refl
 

@@ -197,10 +197,10 @@ hidden_after k.LeftBracket = Some
     (Nt LT ∷ (Tm want.Comma ∷ (Nt LE ∷ (Tm want.RightBracket ∷ (Mark ∷ [])))))
 hidden_after _ = None
 
-abbrev pub names_after : Kind → Option Stack
-names_after k.LeftBracket = Some
+abbrev pub two_names_after : Kind → Option Stack
+two_names_after k.LeftBracket = Some
     (Tm want.Name ∷ (Tm want.Comma ∷ (Tm want.Name ∷ (Tm want.RightBracket ∷ (Mark ∷ [])))))
-names_after _ = None
+two_names_after _ = None
 
 abbrev pub fields_tail : Stack
 fields_tail = Do MakeFirst ∷ (Nt MoreFields ∷ (Tm want.RightAngle ∷ []))
@@ -290,7 +290,7 @@ after LParam c = param_after c
 after LBranches c = branches_after c
 after LFields c = fields_after c
 after LHidden c = hidden_after c
-after LNames c = names_after c
+after LNames c = two_names_after c
 after MoreParts c = parts_after c
 after MoreFactors c = factors_after c
 after MoreSums c = sums_after c

@@ -10,7 +10,7 @@ use Rattle.a_terms.specs.Typing.{declared, more_vars, types_of}
 use Rattle.a_terms.specs.Bound.{thirds}
 use Rattle.t_gen_rules.specs.Gen.{tys, small, boxed, unnest, stands, move, home, settle, over, uses, used, target}
 use Rattle.t_gen_rules.specs.Gen.{decl_code, tvars, later, owns, saved, above_saved, places_saved, call_code, above}
-use Rattle.t_gen_rules.specs.Gen.{spare, test_code}
+use Rattle.t_gen_rules.specs.Gen.{other_than, test_code}
 use Rattle.t_gen_rules.specs.Gen.{code, extras, rows, firsts, seconds, generated_blocks}
 use Rattle.pipeline.specs.Weights.{Weights, seq_weight, blocks_weight}
 use Rattle.pipeline.proofs.WeightsAllocated.{a_d, a_t, a_all}
@@ -73,7 +73,7 @@ module _ (w : Weights) where
       let x = of_unnest v r m (Then (T.Unpack r (small r m v)) rest) in omega (arith, x)
   of_decl (Malloc ts) t m r rest = refl
   of_decl (Init v i u) t m r rest =
-      let s = spare r t in
+      let s = other_than r t in
       let y = small s m u in
       let last : TSeq = Then (T.St r (i - 1) (home s y)) rest in
       let filled = unnest s m u (settle s y last) in

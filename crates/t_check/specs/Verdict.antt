@@ -87,9 +87,9 @@ IsPacked us n hidden t shape s (Ok m) =
 IsPacked us n hidden t shape s (Err f) = SaysWith us f (PackFaultWith n s hidden t shape)
 
 -- the register is an integer, or the fault of it
-abbrev pub IsInteger : List Ty → RegTypes → ℕ → Span → Result (Unit {0}) Refusal → Type 0
-IsInteger us g r s (Ok u) = g r ≡ Some IntTy
-IsInteger us g r s (Err f) = SaysWith us f (register g r s (λ t. integer t s nothing))
+abbrev pub IsIntegerIn : List Ty → RegTypes → ℕ → Span → Result (Unit {0}) Refusal → Type 0
+IsIntegerIn us g r s (Ok u) = g r ≡ Some IntTy
+IsIntegerIn us g r s (Err f) = SaysWith us f (register g r s (λ t. integer t s nothing))
 
 -- the number of the type and the flag of a field of the tuple in a register, or the first fault
 abbrev pub IsFieldOf : List Ty → ℕ → RegTypes → ℕ → ℕ → Span → Result (ℕ × Bool) Refusal → Type 0
@@ -194,9 +194,9 @@ IsData P us xs (Ok u) = DataAccepted P (plain_fields xs)
 IsData P us xs (Err f) = SaysWith us f (DataFaultWith P xs)
 
 -- the data are accepted, or their first fault
-abbrev pub IsHeap : TProg → List Ty → List SData → Result (Unit {0}) Refusal → Type 0
-IsHeap P us xs (Ok u) = HeapAccepted P (plain_heap xs)
-IsHeap P us xs (Err f) = SaysWith us f (HeapFaultWith P xs)
+abbrev pub AreTuples : TProg → List Ty → List SData → Result (Unit {0}) Refusal → Type 0
+AreTuples P us xs (Ok u) = HeapAccepted P (plain_heap xs)
+AreTuples P us xs (Err f) = SaysWith us f (HeapFaultWith P xs)
 
 -- the program is accepted, or its first fault
 abbrev pub IsProgram : SProg → List Ty → Result (Unit {0}) Refusal → Type 0

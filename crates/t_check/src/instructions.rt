@@ -9,7 +9,7 @@ ghost use Rattle.t_terms.specs.Tree.{Arith, Bnz, Halt, Ld, Malloc, Mov, Plain, R
 ghost use Rattle.t_terms.specs.Read.{base as base_tree, value, instr, end_of};
 ghost use Rattle.t_intern.specs.Grown.{Grown};
 ghost use Rattle.t_known.specs.Known.{known, IsSound};
-ghost use Rattle.t_check.specs.Verdict.{FormedAt, FormedInstr, FormedEnd, KnowsByNumber, EndedAt, StepsTo, IsInteger};
+ghost use Rattle.t_check.specs.Verdict.{FormedAt, FormedInstr, FormedEnd, KnowsByNumber, EndedAt, StepsTo, IsIntegerIn};
 ghost use Rattle.t_check.specs.Verdict.{IsFieldOf, IsStored};
 
 use crate::checker::Checker;
@@ -89,7 +89,7 @@ impl Checker<'_> {
     // Whether the register is an integer.
     fn check_int(&self, types: &Types, r: u64, span: Span) -> Result<(), Refusal>
         requires { IsSound types.now self.now.registers }
-        ensures { IsInteger types.now (known types.now self.now.registers) r span result }
+        ensures { IsIntegerIn types.now (known types.now self.now.registers) r span result }
     {
         match self.registers.find(r) {
             Some(entry) => {

@@ -9,7 +9,7 @@ ghost use Rattle.t_intern.specs.Grown.{Grown, IsNumber};
 ghost use Rattle.t_known.specs.Known.{IsEmpty, IsOfBlock};
 ghost use Rattle.t_check.specs.Verdict.{program_in, FormedBlock, FormedDatum, FormedData, KnowsByNumber, IsBlock};
 ghost use Rattle.t_check.specs.Verdict.{AreBlocks};
-ghost use Rattle.t_check.specs.Verdict.{IsDatum, IsData, IsHeap, IsLabelled, IsProgram};
+ghost use Rattle.t_check.specs.Verdict.{IsDatum, IsData, AreTuples, IsLabelled, IsProgram};
 
 use crate::checker::{Checker, Labelled};
 use idx_core::{OutOfMemory, Span};
@@ -53,7 +53,7 @@ fn check_heap(of: &Labelled, types: &mut Types, heap: &[Data]) -> Result<(), Ref
     requires heap { heap.now ≡ of.now.program.now.heap.items }
     requires labels { IsLabelled types.old of.now }
     ensures grown { Grown types.old types.new }
-    ensures heap { IsHeap (program_of of.now.program.now) types.new (spanned_heap heap.now) result }
+    ensures heap { AreTuples (program_of of.now.program.now) types.new (spanned_heap heap.now) result }
 {
     let checker = Checker {
         alloc: of.alloc,

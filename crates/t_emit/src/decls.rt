@@ -2,7 +2,8 @@
 ghost use Rattle.std.specs.Prelude.{◌≡◌, ℕ, true, Bool, Option, OnOk, IfOk};
 ghost use Rattle.t_terms.specs.Tree.{TSeq};
 ghost use Rattle.t_emit.specs.Code.{Grows, bare_var, both_used, both_names, kept, decl_by};
-ghost use Rattle.t_gen_rules.specs.Gen.{free as the_free, owner as the_owner, target as the_target, spare as the_spare};
+ghost use Rattle.t_gen_rules.specs.Gen.{free as the_free, owner as the_owner, target as the_target};
+ghost use Rattle.t_gen_rules.specs.Gen.{other_than};
 ghost use Rattle.a_terms.specs.NodeTrees.{a_value, a_values, is_decl, a_decl};
 ghost use Rattle.a_terms.specs.Tree.{ATm, Value as TheValue, Proj, Arith, Unpack, Init};
 ghost use Rattle.a_terms.specs.Arity.{AArity};
@@ -165,7 +166,7 @@ fn open(target: &Target, code: &mut Vec<(Instr, Span)>, v: &AValue) -> Result<()
 
 // The first register from `spare` on but rd.
 fn spare_besides(spare: u64, rd: u64) -> Result<u64, OutOfMemory>
-    ensures { IfOk result (λ s. s ≡ the_spare rd spare) }
+    ensures { IfOk result (λ s. s ≡ other_than rd spare) }
 {
     if rd == spare {
         return Ok(after(spare)?);

@@ -31,12 +31,12 @@ or_zero None = 0
 or_zero (Some r) = r
 
 -- the register in which variable n is wanted, or 0
-abbrev pub place_of : Wants → ℕ → ℕ
-place_of w n = or_zero (get nat_cmp w.registers (n + w.offset))
+abbrev pub wanted_place : Wants → ℕ → ℕ
+wanted_place w n = or_zero (get nat_cmp w.registers (n + w.offset))
 
 -- it is where the end of a term wants its variables
 abbrev pub Leads : Wants → a.ATm → Type 0
-Leads w e = (w.arguments ≡ arguments e) × ((n : ℕ) → place_of w n ≡ wanted e n)
+Leads w e = (w.arguments ≡ arguments e) × ((n : ℕ) → wanted_place w n ≡ wanted e n)
 
 -- the newest first
 abbrev pub newest : List Rest → List Rest

@@ -6,7 +6,7 @@ ghost use Rattle.a_terms.specs.Tree.{ATm, ADecl, ATys, Let, Call, Halt};
 ghost use Rattle.a_terms.specs.NodeTrees.{a_value, a_values, no_value};
 ghost use Rattle.calc_core.specs.Row.{IsSome, top, others};
 ghost use Rattle.t_gen_rules.specs.Gen.{names};
-ghost use Rattle.t_gen.specs.Uses.{or_zero, place_of, Leads};
+ghost use Rattle.t_gen.specs.Uses.{or_zero, wanted_place, Leads};
 
 use crate::told::Wants;
 use a_terms::AValue;
@@ -64,7 +64,7 @@ pub(crate) fn of_halt(alloc: Global, v: &AValue) -> Result<Wants, OutOfMemory>
 
 /// The register in which the last variable is wanted, or 0.
 pub(crate) fn last_wanted(wants: &Wants) -> u64
-    ensures { result ≡ place_of wants.now 0 }
+    ensures { result ≡ wanted_place wants.now 0 }
 {
     match wants.registers.get(&wants.offset) {
         Some(r) => *r,

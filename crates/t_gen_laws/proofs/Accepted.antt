@@ -1,6 +1,6 @@
 -- What is generated is accepted.
 use Rattle.std.proofs.Common.{◌≡◌, ℕ, suc, ◌+◌, List, [], ◌∷◌, ◌++◌, length, Some, None, refl, sym, ap, ◌∙◌, arith}
-use Rattle.std.proofs.Common.{inl, slice_get}
+use Rattle.std.proofs.Common.{slice_get}
 use Rattle.std.specs.Prelude.{Bool, true}
 use Rattle.a_terms.specs.Tree.{ATy, AInt, ATys, NoATys, MoreATys, AVal, Var, Num, Lab, Data, Apply, Pack, ADecl, Value}
 use Rattle.a_terms.specs.Tree.{Proj, Arith, Unpack, Malloc, Init, ATm, Let, Call, If0, Halt, ABlk, AConsts, AProg}
@@ -11,6 +11,7 @@ use Rattle.a_terms.specs.TypeLaws.{split_code, split_data, split_applied, Args-b
 use Rattle.a_terms.specs.Each.{AProp, AAll, VEach, VsEach, DEach, TEach, BsEach}
 use Rattle.a_terms.specs.Bound.{thirds}
 use Rattle.t_types.specs.Tree.{TupleTy, NoRegs, MoreFields}
+use Rattle.t_types.proofs.FitsLaws.{fits_equal, fits_same}
 use Rattle.t_types.specs.Fits.{RegTypes, lookup}
 use Rattle.t_terms.specs.Tree.{TSeq, Then, Ends, TBlock, TProg}
 use Rattle.t_terms.specs.Registers.{no_types}
@@ -54,7 +55,7 @@ module _ (p : AProg) (P : TProg) (labels : Labels p P) where
         ty (aput 0 h u),
         constant_has v (aput 0 h u) f.1 f.5,
         ap ty f.4,
-        inl (ty_put u 0 h),
+        fits_equal _ _ (ty_put u 0 h),
         ap ty (sym y),
         below_ty h 0 f.2,
         below_ty s 0 f.3,
@@ -63,7 +64,8 @@ module _ (p : AProg) (P : TProg) (labels : Labels p P) where
   data_ok : (x : AConsts) → TypedData p x → DataAccepted P (data_of x)
   data_ok [] a = tt
   data_ok (c ∷ cs) a =
-      ((ty c.kind, constant_has c.value c.kind a.0.0.fine a.0.0.is, inl refl, below_ty c.kind 0 a.0.1), data_ok cs a.1)
+      let t = ty c.kind in
+      ((t, constant_has c.value c.kind a.0.0.fine a.0.0.is, fits_same t, below_ty c.kind 0 a.0.1), data_ok cs a.1)
 
   pub tuples_ok : (xs : List AConsts) → TypedTuples p xs → HeapAccepted P (generated_heap xs)
   tuples_ok [] a = tt

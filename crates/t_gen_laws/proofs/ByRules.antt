@@ -18,7 +18,7 @@ use Rattle.t_types.specs.Tree.{Ty, NoRegs}
 use Rattle.t_terms.specs.Tree as T
 use Rattle.t_terms.specs.Tree.{TValue, TSeq, Then, Ends, TBlock}
 use Rattle.t_gen_rules.specs.Gen.{tys, reg, place, applied_to, small, unnest, settle, home, uses, uses_any}
-use Rattle.t_gen_rules.specs.Gen.{uses_decl, used, over, above, free, owner, target, spare, decl_code, tvars, code}
+use Rattle.t_gen_rules.specs.Gen.{uses_decl, used, over, above, free, owner, target, other_than, decl_code, tvars, code}
 use Rattle.t_gen_rules.specs.Gen.{header}
 use Rattle.t_gen_rules.specs.Gen.{block, extras, rows, constant, data_of, generated_blocks}
 use Rattle.t_gen_rules.specs.Gen.{generated_heap}
@@ -236,7 +236,7 @@ module _ (m : List ℕ) (e : ATm) (rest : TSeq) where
       (λ z. or_right (uses v n || uses w n) (after n) z) (or_cases (uses w n) (after n) y) in
       let far : (n : ℕ) → u n ≡ true → place m n < d = λ n y. (a n (more n y)).1 in
       let r = owner m v u e in
-      let s = spare r d in
+      let s = other_than r d in
       let own = spare_apart r d in
       let q = home s (small s m w) in
       let last = Then (T.St r (i - 1) q) rest in

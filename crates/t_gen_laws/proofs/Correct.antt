@@ -17,7 +17,7 @@ use Rattle.t_rules.specs.Erase.{ESeq, EThen, EJmp, EHalt, EAt, EStep, EGoes, no_
 use Rattle.t_rules.specs.Erase.{erase_datum, erase_block, erase_blocks, estep}
 use Rattle.t_rules.specs.ErasedRuns.{RunsErase, HaltsErased, StepsFirst}
 use Rattle.t_rules.specs.LawsTimes.{TimesWithinEntries}
-use Rattle.t_gen_laws.specs.Counting.{one, count, first_of, spare, share, share_of, credit, log_of, MadeOf}
+use Rattle.t_gen_laws.specs.Counting.{one, count, first_of, times_among, share, share_of, credit, log_of, MadeOf}
 use Rattle.t_gen_laws.specs.Correct.{FromMain, Keeps}
 use Rattle.t_gen_laws.specs.Rules.{nothing, Fields, Tuples, Generates}
 use Rattle.t_gen_laws.proofs.Leads.{LState, On, logged, lstep, so, after}
@@ -139,7 +139,7 @@ module _ (p : AProg) (main : ATm) (P : TProg) (by_rules : Generates p main P) (k
 
   -- the main term's block, and those of its third parts
   abbrev budget : ℕ
-  budget = one (k == 0) + spare k at (thirds main)
+  budget = one (k == 0) + times_among k at (thirds main)
 
   abbrev limit : List ℕ → ℕ
   limit = credit p.blocks (at + thirds main) k budget
@@ -152,7 +152,7 @@ module _ (p : AProg) (main : ATm) (P : TProg) (by_rules : Generates p main P) (k
 
   follows : (c : ℕ) → Follows B k limit begins c (meaning p main c)
   follows c =
-      let base : count k (0 ∷ []) + spare k at (thirds main) ≤ limit [] = omega arith in
+      let base : count k (0 ∷ []) + times_among k at (thirds main) ≤ limit [] = omega arith in
       subst (λ h. Follows B k limit (On (EAt h no_ewords (erase_block first)) (0 ∷ [])) c (meaning p main c))
       (sym (heap_word p.tuples P.heap by_rules.tuples))
       (term_runs p P.blocks (at + thirds main) k budget laid c
@@ -185,7 +185,7 @@ module _ (p : AProg) (main : ATm) (P : TProg) (by_rules : Generates p main P) (k
   counts_from m s e (Wrong log) ne f = absurd (ne log refl)
 
 -- the numbers of one block's third parts are its own
-spare_out : (k b n : ℕ) → (k < b) ⊎ (b + n ≤ k) → spare k b n ≡ 0
+spare_out : (k b n : ℕ) → (k < b) ⊎ (b + n ≤ k) → times_among k b n ≡ 0
 spare_out k b zero o = refl
 spare_out k b (suc n) o =
     let ne : k ≡ b → ⊥ = λ e. ⊎_elim (λ x. absurd (omega arith)) (λ x. absurd (omega arith)) o in
@@ -193,7 +193,7 @@ spare_out k b (suc n) o =
     let r = spare_out k (suc b) n (⊎_elim (λ x. inl (omega arith)) (λ x. inr (omega arith)) o) in
     omega (arith, z, r)
 
-spare_one : (k b n : ℕ) → spare k b n ≤ 1
+spare_one : (k b n : ℕ) → times_among k b n ≤ 1
 spare_one k b zero = omega arith
 spare_one k b (suc n) = ⊎_elim
     (λ e. let z : one (k == b) ≡ 1 = ap one (eq-eqb k b e) in let r = spare_out k (suc b) n (inl (omega arith)) in
@@ -220,7 +220,7 @@ first_apart (c ∷ bs) at (suc l) (suc j) b e x = first_apart bs (at + thirds c.
 module _ (bs : List ABlk) (at k l : ℕ) (b : ABlk) (past : length bs < at) (m : MadeOf bs at k l b) where
   share_here : share bs at k l ≤ 1
   share_here =
-      let s : share bs at k l ≡ one (k == suc l) + spare k (first_of bs at l) (thirds b.body) =
+      let s : share bs at k l ≡ one (k == suc l) + times_among k (first_of bs at l) (thirds b.body) =
       ap (share_of k l (first_of bs at l)) m.there in
       let w = slice_get_within bs l b m.there in
       let f = first_least bs at l in
@@ -261,7 +261,7 @@ module _ (bs : List ABlk) (at k l : ℕ) (b : ABlk) (past : length bs < at) (m :
   credit_most main e [] = omega arith
   credit_most main e (j ∷ log) = let r = credit_most main e log in let s = share_most j in omega (arith, r, s)
 
-  own_far : (n t : ℕ) → n ≡ suc (length bs) → at ≡ n + t → spare k n t ≡ 0
+  own_far : (n t : ℕ) → n ≡ suc (length bs) → at ≡ n + t → times_among k n t ≡ 0
   own_far n t e q =
       let w = slice_get_within bs l b m.there in
       let g = first_least bs at l in

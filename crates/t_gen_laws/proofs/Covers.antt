@@ -1,6 +1,6 @@
 -- What is known of the registers that hold the variables that are used.
 use Rattle.std.proofs.Common.{◌≡◌, ℕ, zero, suc, ◌+◌, ◌<◌, ◌≤◌, List, [], ◌∷◌, length, map, Option, Some, None, refl}
-use Rattle.std.proofs.Common.{sym, ap, ◌∙◌, subst, arith, cond, slice_get, inl, ⊎_elim}
+use Rattle.std.proofs.Common.{sym, ap, ◌∙◌, subst, arith, cond, slice_get, ⊎_elim}
 use Rattle.std.specs.Prelude.{◌≢◌, ◌==◌, nat_lt, option_map, Bool, true, false}
 use Rattle.std.proofs.lemmas.Bool.{eq-eqb, ne_eqb, eqb-true, cond_both, cond-true, cases_eq}
 use Rattle.std.proofs.lemmas.Option.{slice_get-map, slice_get_within}
@@ -10,7 +10,7 @@ use Rattle.a_terms.specs.Typing.{types_of}
 use Rattle.a_terms.specs.TypeLaws.{length_types_of}
 use Rattle.t_types.specs.Tree.{Ty, VarTy, TFile, NoRegs, MoreRegs, shift}
 use Rattle.t_types.specs.Fits.{Fits, FitsFile, RegTypes, lookup}
-use Rattle.t_types.proofs.FitsLaws.{fits_over}
+use Rattle.t_types.proofs.FitsLaws.{fits_over, fits_same}
 use Rattle.t_terms.specs.Registers.{with_reg, raised}
 use Rattle.t_gen_rules.specs.Gen.{ty, ty_args, place, over, insert, header, rows}
 use Rattle.t_gen_laws.proofs.Free.{top_place}
@@ -209,7 +209,7 @@ pub live_header : (m : List ℕ) (g : List ATy) (u : ℕ → Bool) → Apart m g
 live_header m g u a = λ n t y e.
     let lt = in_scope m g u n t a e in
     let le = top_place 0 m u n y in
-    (ty t, look_header m g u n t a.own y lt e, inl refl, omega (arith, le))
+    (ty t, look_header m g u n t a.own y lt e, fits_same (ty t), omega (arith, le))
 
 -- the arguments of a block, in the registers from 1 on
 args_live : (ts : ATys) (g : List ATy) (f : RegTypes) → Live f (rows (length g)) g (suc (length g)) (λ n. true) →
@@ -225,7 +225,7 @@ fits_own : (ts : ATys) (r : ℕ) (f : RegTypes) → ((q : ℕ) → r ≤ q → f
     FitsFile f (ty_args ts r)
 fits_own NoATys r f k = tt
 fits_own (MoreATys t ts) r f k = (
-  (ty t, k r (omega arith) ∙ look_same (lookup (ty_args ts (suc r))) r (ty t), inl refl),
+  (ty t, k r (omega arith) ∙ look_same (lookup (ty_args ts (suc r))) r (ty t), fits_same (ty t)),
   fits_own ts (suc r) f
       (λ q le. k q (omega arith) ∙ look_other (lookup (ty_args ts (suc r))) r q (ty t) (λ z. absurd (omega arith))),
 )

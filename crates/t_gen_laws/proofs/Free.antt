@@ -4,7 +4,8 @@ use Rattle.std.specs.Prelude.{◌==◌, nat_lt, Bool, true, ◌&&◌, not, lengt
 use Rattle.std.proofs.lemmas.Bool.{eq-eqb, eqb-true, ltb-true, ltb-false, cond_both, or_left, or_right, or_cases}
 use Rattle.std.proofs.lemmas.Bool.{and_from, and_parts, and_cases, not-true, true≢false as clash}
 use Rattle.a_terms.specs.Tree.{AVal, ATm, Let, Call, If0, Halt}
-use Rattle.t_gen_rules.specs.Gen.{place, top, busy, first_free, names, argument, wanted, arguments, picked, free, spare}
+use Rattle.t_gen_rules.specs.Gen.{place, top, busy, first_free, names, argument, wanted, arguments, picked, free}
+use Rattle.t_gen_rules.specs.Gen.{other_than}
 
 -- one register among them
 step : (b r : ℕ) (o : Bool) → (b ≤ cond (o && nat_lt b r) r b) × (o ≡ true → r ≤ cond (o && nat_lt b r) r b)
@@ -127,7 +128,7 @@ free_within k m u e lt more =
     picked_within (wanted e 0) (suc (arguments e)) k m u (omega arith) lt (omega (arith, w, more)) (omega (arith, more))
 
 -- a spare register is the given one or the next, and not r
-pub spare_apart : (r t : ℕ) → (t ≤ spare r t) × (spare r t ≤ suc t) × (r ≡ spare r t → ⊥)
+pub spare_apart : (r t : ℕ) → (t ≤ other_than r t) × (other_than r t ≤ suc t) × (r ≡ other_than r t → ⊥)
 spare_apart r t =
     cond_both (r == t) (suc t) t (λ s. (t ≤ s) × (s ≤ suc t) × (r ≡ s → ⊥))
     (λ c. let same = eqb-true r t c in (omega arith, omega arith, λ z. absurd (omega (arith, same, z))))

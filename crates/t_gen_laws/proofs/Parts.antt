@@ -1,5 +1,5 @@
 -- The blocks of the program and their further parts have the types of the program, and the property.
-use Rattle.std.proofs.Common.{ℕ, suc, ◌+◌, List, [], ◌∷◌, ◌++◌, length, refl, sym, ap, inl}
+use Rattle.std.proofs.Common.{ℕ, suc, ◌+◌, List, [], ◌∷◌, ◌++◌, length, refl, sym, ap}
 use Rattle.std.specs.Prelude.{◌==◌, nat_lt, Bool, true, cond, ◌||◌}
 use Rattle.std.proofs.lemmas.Bool.{cond_both, or_left, or_right}
 use Rattle.a_terms.specs.Tree.{ATy, ATys, NoATys, MoreATys, ATm, Let, Call, If0, Halt, ABlk, AProg, arity}
@@ -8,6 +8,7 @@ use Rattle.a_terms.specs.TypeLaws.{All-below, below_args, Args-below, declared_b
 use Rattle.a_terms.specs.Each.{AProp, AAll, TEach, BsEach}
 use Rattle.a_terms.specs.Bound.{thirds}
 use Rattle.t_types.specs.Tree.{Ty, TFile, NoRegs, MoreRegs, BelowFile}
+use Rattle.t_types.proofs.FitsLaws.{fits_same}
 use Rattle.t_types.specs.Fits.{lookup}
 use Rattle.t_terms.specs.Tree.{TBlock, TProg}
 use Rattle.t_gen_rules.specs.Gen.{ty, ty_args, uses, used, target, insert, header, extras, rows, firsts, seconds}
@@ -40,7 +41,7 @@ module _ (A : AProp) (N : ℕ → Type 0) (S : ATy → Type 0) (Q : TProp) (C : 
       let f = header (λ n. u (suc n)) m g in
       let rest = header_q k (λ n. u (suc n)) m g n s.1 in
       cond_both (u 0) (insert r (ty t) f) f (FileTypes Q k)
-      (λ c. insert_q k r (ty t) f (C.of_type k t (ty t) n s.0 (inl refl)) rest) (λ c. rest)
+      (λ c. insert_q k r (ty t) f (C.of_type k t (ty t) n s.0 (fits_same (ty t))) rest) (λ c. rest)
 
   module _ (p : AProg) (P : TProg) (labels : Labels p P) (ok : Args-below p) where
     -- the file and the sequence of each block

@@ -16,7 +16,7 @@ use Rattle.t_terms.specs.Tree.{TValue, TSeq, Then, Ends, TBlock}
 use Rattle.t_rules.specs.Erase.{ERegs, ELabel, EAt, ESeq, EThen, EJmp, EHalt, base_word, erase_value, erase_seq}
 use Rattle.t_rules.specs.Erase.{erase_block}
 use Rattle.t_gen_rules.specs.Gen.{reg, place, uses, used, tvars, rows, ty_args}
-use Rattle.t_gen_laws.specs.Counting.{one, count, first_of, spare, share_of, share, credit}
+use Rattle.t_gen_laws.specs.Counting.{one, count, first_of, times_among, share_of, share, credit}
 use Rattle.t_gen_laws.specs.Rules.{Held, holding, Comes, InOrder, Code, IsBlock, operands}
 use Rattle.t_gen_laws.proofs.Leads.{LState, On, lstep, after, Leads, Moves, leads_on, leads_step, moves_step}
 use Rattle.t_gen_laws.proofs.Lift.{HaltsAt}
@@ -67,18 +67,18 @@ length_push_all : (ws env : List AWord) → length (push_all ws env) ≡ length 
 length_push_all [] env = omega arith
 length_push_all (w ∷ ws) env = length_push_all ws (w ∷ env) ∙ omega arith
 
-pub spare_add : (k b n m : ℕ) → spare k b (n + m) ≡ spare k b n + spare k (b + n) m
+pub spare_add : (k b n m : ℕ) → times_among k b (n + m) ≡ times_among k b n + times_among k (b + n) m
 spare_add k b zero m =
     let x : m ≡ 0 + m = omega arith in
     let y : b ≡ b + 0 = omega arith in
-    let z = ap (λ i. spare k i m) y in
-    let u : spare k b (0 + m) ≡ spare k b m = ap (spare k b) (sym x) in
+    let z = ap (λ i. times_among k i m) y in
+    let u : times_among k b (0 + m) ≡ times_among k b m = ap (times_among k b) (sym x) in
     omega (arith, z, u)
 spare_add k b (suc n) m =
     let x : suc n + m ≡ suc (n + m) = omega arith in
     let y : suc b + n ≡ b + suc n = omega arith in
-    let z : spare k (suc b + n) m ≡ spare k (b + suc n) m = ap (λ i. spare k i m) y in
-    let u : spare k b (suc n + m) ≡ spare k b (suc (n + m)) = ap (spare k b) x in
+    let z : times_among k (suc b + n) m ≡ times_among k (b + suc n) m = ap (λ i. times_among k i m) y in
+    let u : times_among k b (suc n + m) ≡ times_among k b (suc (n + m)) = ap (times_among k b) x in
     let r = spare_add k (suc b) n m in
     omega (arith, z, u, r)
 
@@ -232,7 +232,7 @@ module _ (p : AProg) (P : List TBlock) (at0 k main : ℕ) (laid : Laid p P at0) 
   module _ (c : ℕ) (ih : Next-runs c) where
     pub term_runs : (e : ATm) (is : TSeq) (env : List AWord) (tv n : ℕ) (m : List ℕ) (g : List ATy) (h : AHeap)
         (log : List ℕ) (ρ : ERegs) (tlog : List ℕ) → Code P p tv m g n e is → length m ≡ length env →
-        Agree ρ m env (used e) → count k tlog + spare k n (thirds e) ≤ limit log →
+        Agree ρ m env (used e) → count k tlog + times_among k n (thirds e) ≤ limit log →
         Follows B k limit (at (heap h) ρ is tlog) c (term (calls p.blocks c) e env h log)
     term_runs (Let x e) is env tv n m g h log ρ tlog (r, d, next, rest, moves, does, stay, own, more) long agree le =
         let s = at (heap h) ρ is tlog in
@@ -277,7 +277,8 @@ module _ (p : AProg) (P : List TBlock) (at0 k main : ℕ) (laid : Laid p P at0) 
         let kept_b = agree_fewer t.regs m env (λ j. used a j || used b j) (used b)
         (λ j y. or_right (used a j) (used b j) y)
         kept in
-        let one_is : count k (n ∷ tlog) + spare k (suc n + thirds a) (thirds b) ≤ limit log = omega (arith, sum, le) in
+        let one_is : count k (n ∷ tlog) + times_among k (suc n + thirds a) (thirds b) ≤ limit log =
+        omega (arith, sum, le) in
         follows_on B k limit s (at (heap h) t.regs third.code (n ∷ tlog)) c _
         (leads_on B _ _ _ t.leads (leads_step B _ _ st))
         (term_runs b third.code env tv (suc n + thirds a) m g h log t.regs (n ∷ tlog) code_b long kept_b one_is)))
@@ -317,7 +318,7 @@ module _ (p : AProg) (P : List TBlock) (at0 k main : ℕ) (laid : Laid p P at0) 
       let len : length env ≡ arity b.args = length_push_all ws [] ∙ omega (arith, n) in
       let pushed = subst (λ d. Agree ρ (rows d) env (λ j. true)) len (agree_push ρ ws holds) in
       let agree = agree_fewer ρ (rows (arity b.args)) env (λ j. true) (used b.body) (λ j y. refl) pushed in
-      let sp : share p.blocks at0 k l ≡ one (k == suc l) + spare k first (thirds b.body) =
+      let sp : share p.blocks at0 k l ≡ one (k == suc l) + times_among k first (thirds b.body) =
       ap (share_of k l first) there in
       let long = length_rows (arity b.args) ∙ sym len in
       let body = term_runs c (calls_run c) b.body block.code env b.owes first (rows (arity b.args))

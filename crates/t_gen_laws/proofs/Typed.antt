@@ -1,6 +1,6 @@
 -- The generated code has the types of the program, and any property of them that is carried over.
 use Rattle.std.proofs.Common.{◌≡◌, ℕ, zero, suc, ◌+◌, ◌-◌, ◌<◌, ◌≤◌, List, [], ◌∷◌, ◌++◌, length, map, Some, refl, sym}
-use Rattle.std.proofs.Common.{ap, ◌∙◌, subst, arith, inl, inr, ⊎_elim, slice_get}
+use Rattle.std.proofs.Common.{ap, ◌∙◌, subst, arith, ⊎_elim, slice_get}
 use Rattle.std.specs.Prelude.{◌≢◌, ◌==◌, Bool, true, false, not, ◌&&◌, ◌||◌}
 use Rattle.std.proofs.lemmas.Bool.{eq-eqb, eqb-true, cond_both, cases_eq, or_cases, or_left, or_right, and_parts}
 use Rattle.std.proofs.lemmas.Bool.{and_cases, not-false as true_from_not}
@@ -16,13 +16,14 @@ use Rattle.a_terms.specs.Bound.{thirds}
 use Rattle.t_types.specs.Tree.{Ty, IntTy, CodeTy, ExistsTy, TupleTy, TFile}
 use Rattle.t_types.specs.Fields.{AField, field, filled, empty_fields}
 use Rattle.t_types.specs.Fits.{Fits, FitsFile, RegTypes}
-use Rattle.t_types.proofs.FitsLaws.{fields_fit_next, filled_fits, both_filled, field_fits}
+use Rattle.t_types.proofs.FitsLaws.{fields_fit_next, filled_fits, both_filled, field_fits, fits_same, fits_equal}
 use Rattle.t_terms.specs.Tree as T
 use Rattle.t_terms.specs.Tree.{TValue, TSeq, Then, Ends, TProg}
 use Rattle.t_terms.specs.Registers.{with_reg, raised}
 use Rattle.t_rules.specs.Rules as R
 use Rattle.t_gen_rules.specs.Gen.{ty, ty_args, ty_fields, tys, reg, applied_to, place, inside, small, boxed, unnest}
-use Rattle.t_gen_rules.specs.Gen.{stands, move, home, settle, uses, used, over, free, owner, target, spare, decl_code}
+use Rattle.t_gen_rules.specs.Gen.{stands, move, home, settle, uses, used, over, free, owner, target, other_than}
+use Rattle.t_gen_rules.specs.Gen.{decl_code}
 use Rattle.t_gen_rules.specs.Gen.{tvars, reads, later, owns, saved, above_saved, instead, places_saved, call_code}
 use Rattle.t_gen_rules.specs.Gen.{above}
 use Rattle.t_gen_rules.specs.Gen.{code, header, block, extras}
@@ -46,7 +47,7 @@ module _ (A : AProp) (N : ℕ → Type 0) (S : ATy → Type 0) (Q : TProp) (C : 
   to_q k t u a fit = C.of_type k t u (C.names k t a) (C.part k t a) fit
 
   pub own_q : (k : ℕ) (t : ATy) → A k t → Q k (ty t)
-  own_q k t a = to_q k t (ty t) a (inl refl)
+  own_q k t a = to_q k t (ty t) a (fits_same (ty t))
 
   pub all_q : (k : ℕ) (ts : ATys) → AAll A k ts → AllTypes Q k (tys ts)
   all_q k NoATys h = tt
@@ -130,7 +131,7 @@ module _ (A : AProp) (N : ℕ → Type 0) (S : ATy → Type 0) (Q : TProp) (C : 
           let c = takes_types p P labels ts v s t e in
           let same : u ≡ ty s =
           same_fits u (ty s) fit (λ fs y. code_no_tuple c.0 (ty_args c.1 1) fs (sym (ap ty c.2) ∙ y)) in
-          (ty t, applied_each k f x (MoreATys v ts) s t e z q qs (subst (HasEach Q P k f x) same h), inl refl)
+          (ty t, applied_each k f x (MoreATys v ts) s t e z q qs (subst (HasEach Q P k f x) same h), fits_same (ty t))
 
       module _ (k : ℕ) (g : List ATy) where
         unnest_each : (v : AVal) (t : ATy) (f : RegTypes) (m : List ℕ) (b s : ℕ) (rest : TSeq) →
@@ -144,19 +145,19 @@ module _ (A : AProp) (N : ℕ → Type 0) (S : ATy → Type 0) (Q : TProp) (C : 
         unnest_each (Num i) t f m b s rest c a e h go =
             let q = own_q k t (each_type k g (Num i) t h e) in
             let x = ap ty (sym (some_same AInt t e)) in
-            go f (ty t) (x, (ty t, x, q, q, tt)) (inl refl) (λ q ne. refl)
+            go f (ty t) (x, (ty t, x, q, q, tt)) (fits_same (ty t)) (λ q ne. refl)
         unnest_each (Lab l) t f m b s rest c a e h go =
             let q = own_q k t (each_type k g (Lab l) t h e) in
             let z = split_code (slice_get p.blocks l) t e in
             let lab = labels.blocks l z.0 z.1 in
             let same = sym (ap ty z.2) ∙ lab.2 in
-            go f (ty t) ((lab.0, lab.1, same), (ty t, (lab.0, lab.1, same), q, q, tt)) (inl refl) (λ q ne. refl)
+            go f (ty t) ((lab.0, lab.1, same), (ty t, (lab.0, lab.1, same), q, q, tt)) (fits_same (ty t)) (λ q ne. refl)
         unnest_each (Data n) t f m b s rest c a e h go =
             let q = own_q k t (each_type k g (Data n) t h e) in
             let z = split_data (slice_get p.tuples n) t e in
             let lab = labels.tuples n z.0 z.1 in
             let same = sym (ap ty z.2) ∙ lab.2 in
-            go f (ty t) ((lab.0, lab.1, same), (ty t, (lab.0, lab.1, same), q, q, tt)) (inl refl) (λ q ne. refl)
+            go f (ty t) ((lab.0, lab.1, same), (ty t, (lab.0, lab.1, same), q, q, tt)) (fits_same (ty t)) (λ q ne. refl)
         unnest_each (Apply v ts) t f m b s rest c a e h go =
             let q = own_q k t (each_type k g (Apply v ts) t h e) in
             let z = split_applied (type_of p g v) ts t e in
@@ -181,7 +182,7 @@ module _ (A : AProp) (N : ℕ → Type 0) (S : ATy → Type 0) (Q : TProp) (C : 
               below_ty hid k a.2,
               below_ty w k a.3,
             ) in
-            go f3 (ty t) (has, (u, z, own_q k hid he.1, q)) (inl refl) (λ q ne. o2 q ne ∙ o q ne)))
+            go f3 (ty t) (has, (u, z, own_q k hid he.1, q)) (fits_same (ty t)) (λ q ne. o2 q ne ∙ o q ne)))
 
         settled_each : (v : AVal) (t : ATy) (f : RegTypes) (m : List ℕ) (b s : ℕ) (rest : TSeq) →
             Live f m g b (uses v) → Fine p k g v → type_of p g v ≡ Some t → VEach A p k g v →
@@ -273,7 +274,7 @@ module _ (A : AProp) (N : ℕ → Type 0) (S : ATy → Type 0) (Q : TProp) (C : 
             let read = at_i.1 ∙ ap (λ z. Some (AField (ty a.2) z)) (at_i.2 refl) in
             let same = field_is i a.1 fs a.2 (type_of p g v) a.3.is a.4 a.5 in
             let q : Q k (ty a.2) = own_q k a.2 (subst (A k) same h.1) in
-            let fit2 : Fits (ty a.2) (ty (field_of i (type_of p g v))) = inl (ap ty (sym same)) in (
+            let fit2 = fits_equal (ty a.2) (ty (field_of i (type_of p g v))) (ap ty (sym same)) in (
               with_reg f2 r (ty a.2),
               (tup.0, ty a.2, there, read, refl),
               (ty a.2, (tup.0, ty a.2, there, read, refl), q),
@@ -304,7 +305,7 @@ module _ (A : AProp) (N : ℕ → Type 0) (S : ATy → Type 0) (Q : TProp) (C : 
               go (with_reg f3 to IntTy)
                   (next_live g f f3 m (Arith op v w) e AInt IntTy c
                   (λ n y. (let lt = below m (Arith op v w) e n y in o2 (place m n) (λ z. absurd (omega (arith, lt)))
-                  ∙ o (place m n) (λ z. absurd (omega (arith, lt))))) (inl refl)),
+                  ∙ o (place m n) (λ z. absurd (omega (arith, lt))))) refl),
             )))
         decl_each (Unpack v) e f m rest ap_ c a h go =
             let d = over m (used (Let (Unpack v) e)) in
@@ -328,7 +329,7 @@ module _ (A : AProp) (N : ℕ → Type 0) (S : ATy → Type 0) (Q : TProp) (C : 
             (λ n y. look_other f3 r (place m n) (ty a.0)
             (λ z. absurd (free_apart m (λ n. used e (suc n)) e n y z)))
             (live_shift f2 m g d (λ n. used e (suc n)) c2) in
-            let fit2 : Fits (ty a.0) (ty t) = inl (ap (λ s. ty (body_of s)) (sym a.1.is)) in
+            let fit2 = fits_equal (ty a.0) (ty t) (ap (λ s. ty (body_of s)) (sym a.1.is)) in
             let more : suc k ≡ k + 1 = omega arith in (
               f4,
               (ty a.0, each_has Q P k f2 (small r m v) (ExistsTy (ty a.0)) y, refl),
@@ -339,7 +340,7 @@ module _ (A : AProp) (N : ℕ → Type 0) (S : ATy → Type 0) (Q : TProp) (C : 
         decl_each (Malloc ts) e f m rest ap_ c a h go =
             let d = free m (λ n. used e (suc n)) e in
             let u = TupleTy (empty_fields (tys ts)) in
-            let fit : Fits u (ty (ATuple (aunset ts))) = inl (ap TupleTy (sym (ty_unset ts))) in (
+            let fit = fits_equal u (ty (ATuple (aunset ts))) (ap TupleTy (sym (ty_unset ts))) in (
               with_reg f d u,
               (refl, below_tys ts k a),
               (all_q k ts h.0, subst (λ fs. Q k (TupleTy fs)) (ty_unset ts) (own_q k (ATuple (aunset ts)) h.1)),
@@ -358,7 +359,7 @@ module _ (A : AProp) (N : ℕ → Type 0) (S : ATy → Type 0) (Q : TProp) (C : 
             let ft = subst (λ m. field (ty_fields fs) m ≡ Some (AField (ty a.2) (afield_flag fs a.1))) n
             (ty_field fs a.1 a.2 a.6) in
             let r = owner m v (λ n. uses w n || used e (suc n)) e in
-            let at = spare r d in
+            let at = other_than r d in
             let own = spare_apart r d in
             let at_w = home at (small at m w) in
             let last = T.St r (i - 1) at_w in
@@ -381,22 +382,9 @@ module _ (A : AProp) (N : ℕ → Type 0) (S : ATy → Type 0) (Q : TProp) (C : 
             let new : TupleTy (filled (ty_fields fs) (i - 1)) ≡ ty (ATuple (afilled fs a.1)) =
             ap (λ m. TupleTy (filled (ty_fields fs) m)) (sym n) ∙ ap TupleTy (sym (ty_filled fs a.1)) in
             let fit_new : Fits z (ty (ATuple (afilled fs a.1))) =
-            subst (Fits z) new
-            (inr (
-              filled tup.0 (i - 1),
-              filled (ty_fields fs) (i - 1),
-              refl,
-              refl,
-              both_filled tup.0 (ty_fields fs) (i - 1) tup.2,
-            )) in
+            subst (Fits z) new (both_filled tup.0 (ty_fields fs) (i - 1) tup.2) in
             let fit_old : Fits z (ty (ATuple fs)) =
-            inr (
-              filled tup.0 (i - 1),
-              ty_fields fs,
-              refl,
-              refl,
-              fields_fit_next (filled tup.0 (i - 1)) tup.0 (ty_fields fs) (filled_fits tup.0 (i - 1)) tup.2,
-            ) in
+            fields_fit_next (filled tup.0 (i - 1)) tup.0 (ty_fields fs) (filled_fits tup.0 (i - 1)) tup.2 in
             let qz : Q k z = to_q k (ATuple (afilled fs a.1)) z (subst (A k) after h.2) fit_new in
             let others : Live f4 m g d (λ n. used e (suc n)) = λ j t b x.
             (let b2 = or_right (uses v j || uses w j) (used e (suc j)) b in

@@ -1,6 +1,5 @@
 -- The generated code keeps the bounds on types.
-use Rattle.std.proofs.Common.{◌≡◌, ℕ, suc, ◌+◌, ◌≤◌, List, [], ◌∷◌, Some, None, refl, sym, ap, ap₂, ◌∙◌, arith, inl}
-use Rattle.std.proofs.Common.{inr}
+use Rattle.std.proofs.Common.{◌≡◌, ℕ, suc, ◌+◌, ◌≤◌, List, [], ◌∷◌, Some, None, refl, ap, ap₂, ◌∙◌, arith}
 use Rattle.std.specs.Prelude.{max, ◌==◌, cond, Bool, true, false, nat_lt, if◌then◌else◌}
 use Rattle.std.proofs.Math.Numerals.{add-one, add-two}
 use Rattle.std.proofs.lemmas.Bool.{cond_both}
@@ -11,7 +10,7 @@ use Rattle.a_terms.specs.Typing.{type_of, Fine, TypedData, TypedTuples}
 use Rattle.a_terms.specs.TypeLaws.{split_applied, args_below}
 use Rattle.a_terms.specs.Each.{AAll, VEach, CsEach, TuplesEach, areach, areaches, areach_fields, abinds, abinds_all}
 use Rattle.a_terms.specs.Each.{abinds_fields, AWithin}
-use Rattle.t_types.specs.Tree.{Ty, TFile, NoRegs, MoreRegs, TFields, NoFields, MoreFields}
+use Rattle.t_types.specs.Tree.{Ty, TupleTy, TFile, NoRegs, MoreRegs, TFields, NoFields, MoreFields}
 use Rattle.t_types.specs.Fits.{Fits, FieldsFit}
 use Rattle.t_terms.specs.Tree.{TProg}
 use Rattle.t_terms.specs.Registers.{no_types}
@@ -107,11 +106,9 @@ reach_fit (MoreFields t x fs) (MoreFields u y gs) h =
 reach_fit NoFields (MoreFields u y gs) h = absurd h
 reach_fit (MoreFields t x fs) NoFields h = absurd h
 
-fits_same : (u s : Ty) → Fits u s → (type_reach u ≡ type_reach s) × (tbinds u ≡ tbinds s)
-fits_same u s (inl e) = (ap type_reach e, ap tbinds e)
-fits_same u s (inr h) =
-    let r = reach_fit h.0 h.1 h.4 in
-    (ap type_reach h.2 ∙ ap (λ n. n + 1) r.0 ∙ sym (ap type_reach h.3), ap tbinds h.2 ∙ r.1 ∙ sym (ap tbinds h.3))
+reach_fits : (u s : Ty) → Fits u s → (type_reach u ≡ type_reach s) × (tbinds u ≡ tbinds s)
+reach_fits (TupleTy fs) (TupleTy gs) h = let r = reach_fit fs gs h in (ap (λ n. n + 1) r.0, r.1)
+reach_fits u s e = (ap type_reach e, ap tbinds e)
 
 -- the file of a header
 insert_most : (r : ℕ) (t : Ty) (f : TFile) (R B : ℕ) → type_reach t ≤ R → tbinds t ≤ B →
@@ -157,7 +154,7 @@ module _ (N R B : ℕ) where
     ints = λ k n. (omega arith, omega arith);
     shifted = λ t s.
         (let x = reach_shift t 1 0 in let y = binds_shift t 1 0 in (omega (arith, x, s.0), omega (arith, y, s.1)));
-    of_type = λ k t u n s f. (let z = fits_same u (ty t) f in let a = reach_ty t in let b = binds_ty t in
+    of_type = λ k t u n s f. (let z = reach_fits u (ty t) f in let a = reach_ty t in let b = binds_ty t in
         (n, omega (arith, z.0, a, s.0), omega (arith, z.1, b, s.1)));
     of_var = λ k i n. (n, omega arith, omega arith);
     of_third = λ k n u m g x y s. (let h = header_most u m g s in (x, omega (arith, h.0), omega (arith, h.1, y)));

@@ -15,7 +15,7 @@ use Rattle.t_types.specs.Tree.{Ty, IntTy, VarTy, CodeTy, ExistsTy, TupleTy, TFil
 use Rattle.t_types.specs.Tree.{shift_file, put_file, Below, BelowFile, BelowFields, BelowTypes}
 use Rattle.t_types.specs.TreeLaws.{types_part, types_each, file_over, file_each}
 use Rattle.t_types.specs.Fits.{Fits, FieldsFit, RegTypes}
-use Rattle.t_types.proofs.FitsLaws.{fields_fit_same}
+use Rattle.t_types.proofs.FitsLaws.{fields_fit_same, fits_cases}
 use Rattle.t_terms.specs.Tree as T
 use Rattle.t_terms.specs.Tree.{TBase, TValue, TProg}
 use Rattle.t_terms.specs.Registers.{no_types, inst_file}
@@ -69,12 +69,11 @@ below_header k u (r ∷ m) (t ∷ g) b =
 
 -- a type that fits another one
 pub same_fits : (u s : Ty) → Fits u s → ((fs : TFields) → s ≡ TupleTy fs → ⊥) → u ≡ s
-same_fits u s (inl e) other = e
-same_fits u s (inr h) other = absurd (other h.1 h.3)
+same_fits u s h other = elim (fits_cases u s h) [ inl e ↦ e | inr k ↦ absurd (other k.1 k.3) ]
 
 pub tuple_fits : (u : Ty) (fs : TFields) → Fits u (TupleTy fs) → (gs : TFields) × (u ≡ TupleTy gs) × FieldsFit gs fs
-tuple_fits u fs (inl e) = (fs, e, fields_fit_same fs)
-tuple_fits u fs (inr h) = let e = h.3 in let same : fs ≡ h.1 = cc in (h.0, h.2, subst (FieldsFit h.0) (sym same) h.4)
+tuple_fits (TupleTy gs) fs h = (gs, refl, h)
+tuple_fits u fs e = (fs, e, fields_fit_same fs)
 
 pub int_no_tuple : (fs : TFields) → IntTy ≡ TupleTy fs → ⊥
 int_no_tuple fs e = cc

@@ -24,7 +24,7 @@ use Rattle.t_terms.specs.Tree.{TValue, TSeq, Then, Ends, TBlock}
 use Rattle.t_terms.specs.Whole.{HasNoRegister, WellFormedValue, WellFormedSeq, WellFormedBlocks, WellFormedData}
 use Rattle.t_terms.specs.Whole.{WellFormedHeap, Whole}
 use Rattle.t_gen_rules.specs.Gen.{ty, ty_args, ty_fields, tys, place, inside, small, boxed, unnest, stands, move, home}
-use Rattle.t_gen_rules.specs.Gen.{settle, uses, used, top, over, arguments, free, owner, target, spare, decl_code}
+use Rattle.t_gen_rules.specs.Gen.{settle, uses, used, top, over, arguments, free, owner, target, other_than, decl_code}
 use Rattle.t_gen_rules.specs.Gen.{later}
 use Rattle.t_gen_rules.specs.Gen.{owns, saved, above_saved, instead, places_saved, call_code, above, tvars, code}
 use Rattle.t_gen_rules.specs.Gen.{insert}
@@ -281,7 +281,7 @@ module _ (prog : AProg) (p z : ℕ) (room : length prog.blocks < p) (all : lengt
       ((hr, x), omega arith, subst (λ q. WellFormedSeq p z q rest) more s)
   decl_whole k g m (Malloc ts) r t rest n ms hr ht ht2 le a s = ((hr, types_whole ts k a (omega arith)), omega arith, s)
   decl_whole k g m (Init v i w) r t rest n ms hr ht ht2 le a s =
-      let q = spare r t in
+      let q = other_than r t in
       let own = spare_apart r t in
       let hq : IsRegister q = (omega (arith, ht.0, own.0), omega (arith, ht2.1, own.1)) in
       let x = small_whole k g m v (ATuple a.0) q n ms hq (omega arith) a.3.fine a.3.is in

@@ -22,14 +22,14 @@ first_of (b ∷ bs) at zero = at
 first_of (b ∷ bs) at (suc l) = first_of bs (at + thirds b.body) l
 
 -- how often k stands among n numbers from b on
-abbrev pub spare : ℕ → ℕ → ℕ → ℕ
-spare k b zero = 0
-spare k b (suc n) = one (k == b) + spare k (suc b) n
+abbrev pub times_among : ℕ → ℕ → ℕ → ℕ
+times_among k b zero = 0
+times_among k b (suc n) = one (k == b) + times_among k (suc b) n
 
 -- how often block k can be entered for one entry of the allocated block l
 abbrev pub share_of : ℕ → ℕ → ℕ → Option ABlk → ℕ
 share_of k l first None = 0
-share_of k l first (Some b) = one (k == suc l) + spare k first (thirds b.body)
+share_of k l first (Some b) = one (k == suc l) + times_among k first (thirds b.body)
 
 -- the same of a program's blocks, whose first third part is block at
 abbrev pub share : List ABlk → ℕ → ℕ → ℕ → ℕ

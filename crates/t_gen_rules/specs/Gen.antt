@@ -206,8 +206,8 @@ target m (Malloc ts) e = free m (λ n. used e (suc n)) e
 target m (Init v i w) e = owner m v (λ n. uses w n || used e (suc n)) e
 
 -- the first register from t on but r
-abbrev pub spare : ℕ → ℕ → ℕ
-spare r t = cond (r == t) (suc t) t
+abbrev pub other_than : ℕ → ℕ → ℕ
+other_than r t = cond (r == t) (suc t) t
 
 -- a declaration, whose variable's register is r, where t and those after it hold nothing
 abbrev pub decl_code : ℕ → List ℕ → ℕ → ADecl → TSeq → TSeq
@@ -221,7 +221,7 @@ decl_code t m r (Arith o v w) rest =
 decl_code t m r (Unpack v) rest = unnest r m v (Then (T.Unpack r (small r m v)) rest)
 decl_code t m r (Malloc ts) rest = Then (T.Malloc r (tys ts)) rest
 decl_code t m r (Init v i w) rest =
-    let s = spare r t in
+    let s = other_than r t in
     let y = small s m w in
     unnest s m v (move r (small s m v) (unnest s m w (settle s y (Then (T.St r (i - 1) (home s y)) rest))))
 

@@ -1,10 +1,10 @@
 -- Labels and tuples by the numbers of their types.
-use Rattle.std.proofs.Common.{◌≡◌, ℕ, zero, suc, arith, ◌<◌, List, [], ◌∷◌, length, map, Bool, true, false, refl, sym}
+use Rattle.std.proofs.Common.{◌≡◌, ℕ, zero, suc, arith, ◌<◌, List, [], ◌∷◌, length, map, Bool, true, refl, sym}
 use Rattle.std.proofs.Common.{ap, ◌∙◌, get_or, subst, All}
 use Rattle.std.proofs.lemmas.List.{length-map}
 use Rattle.std.proofs.lemmas.List.Elements.{All-head, All-tail}
 use Rattle.t_types.specs.Tree.{Ty, IntTy, MoreFields}
-use Rattle.t_types.specs.Fields.{empty_fields}
+use Rattle.t_types.specs.Fields.{all_flagged}
 use Rattle.t_types.specs.Read.{tree}
 use Rattle.t_terms.specs.Read.{data_fields as data_of}
 use Rattle.t_terms.specs.Spanned.{plain_fields}
@@ -13,7 +13,7 @@ use Rattle.t_terms.specs.Labels.{data_fields}
 use Rattle.t_intern.specs.Grown.{Grown, IsNumber, AreNumbers}
 use Rattle.t_intern.specs.Nodes.{at, fields_at, FieldsBelow}
 use Rattle.t_intern.proofs.Growing.{grown_number, numbers_grown, number_at}
-use Rattle.t_known.specs.Labels.{Field, field_types, all_flagged, AreLabels}
+use Rattle.t_known.specs.Labels.{Field, field_types, AreLabels}
 use Rattle.t_known.specs.declared.labels.Labels.{Labels}
 
 -- fields that have all the same flag
@@ -25,10 +25,6 @@ all_at ts flag (n ∷ ns) = ap (MoreFields (at ts n) flag) (all_at ts flag ns)
 pub all_below : (m : ℕ) (flag : Bool) (ns : List ℕ) → All (λ n. n < m) ns → FieldsBelow m (map (λ n. (n, flag)) ns)
 all_below m flag [] h = tt
 all_below m flag (n ∷ ns) h = (All-head (λ n. n < m) n ns h, all_below m flag ns (All-tail (λ n. n < m) n ns h))
-
-pub empty_flagged : (ts : List Ty) → all_flagged false ts ≡ empty_fields ts
-empty_flagged [] = refl
-empty_flagged (t ∷ ts) = ap (MoreFields t false) (empty_flagged ts)
 
 pub data_flagged : (xs : List Field) → all_flagged true (field_types xs) ≡ data_fields (plain_fields (data_of xs))
 data_flagged [] = refl

@@ -1,7 +1,7 @@
 -- The types of a program's labels.
-use Rattle.std.specs.Prelude.{Bool, List, [], ◌∷◌, map}
+use Rattle.std.specs.Prelude.{List, map}
 use Rattle.idx_core.specs.declared.span.Span.{Span}
-use Rattle.t_types.specs.Tree.{Ty, IntTy, CodeTy, TFields, NoFields, MoreFields}
+use Rattle.t_types.specs.Tree.{Ty, IntTy, CodeTy}
 use Rattle.t_types.specs.Read.{tree, file}
 use Rattle.t_types.specs.declared.types.TType.{TType}
 use Rattle.t_terms.specs.Read.{spanned_data}
@@ -37,11 +37,6 @@ field_type x = tree x.1
 
 abbrev pub field_types : List Field → List Ty
 field_types xs = map field_type xs
-
--- fields of these types, each with this flag
-abbrev pub all_flagged : Bool → List Ty → TFields
-all_flagged flag [] = NoFields
-all_flagged flag (t ∷ ts) = MoreFields t flag (all_flagged flag ts)
 
 -- integers and the labels have these numbers
 pub record AreLabels (ts : List Ty) (p : TProgram) (l : Labels) : Type 0 where

@@ -7,7 +7,8 @@ ghost use Rattle.t_terms.specs.Spanned.{plain_fields};
 ghost use Rattle.t_terms.specs.Labels.{data_type};
 ghost use Rattle.t_intern.specs.Grown.{Grown, IsNumber, AreNumbers};
 ghost use Rattle.t_intern.specs.Spread.{types_at};
-ghost use Rattle.t_known.specs.Labels.{code_types, tuple_types, field_types, all_flagged, AreLabels};
+ghost use Rattle.t_types.specs.Fields.{all_flagged};
+ghost use Rattle.t_known.specs.Labels.{code_types, tuple_types, field_types, AreLabels};
 
 use crate::parts::intern;
 use idx_core::{OutOfMemory, Span};

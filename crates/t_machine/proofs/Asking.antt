@@ -11,7 +11,7 @@ use Rattle.t_machine.specs.Places.{PlaceList}
 use Rattle.t_machine.specs.Action.{Action, action, Arith, Bnz, Ld, Malloc, Mov, St, Jmp, Halt}
 use Rattle.t_machine.specs.Code.{IsInstr, IsEnd, Holds}
 use Rattle.t_machine.specs.Room.{asked, asked_next}
-use Rattle.t_machine.specs.State.{Shows}
+use Rattle.t_machine.specs.State.{Represents}
 use Rattle.t_collect.specs.declared.word.Word.{Word}
 use Rattle.t_machine.specs.declared.heap.Heap as declared
 use Rattle.t_machine.specs.declared.code.Code.{Code}
@@ -79,7 +79,7 @@ asked_state : (t : State) (h : EHeap) (g : ERegs) (c : ESeq) → EAt h g c ≡ e
 asked_state (At h1 g1 d) h g c e = let code : c ≡ erase_seq d = cc in ap asked_code code ∙ asked_seq h1 g1 d
 
 module _ (laws : ProgramLaws) (P : TProg) (whole : Whole P) (acc : Accepted P) (m : ℕ) (x : declared.Heap)
-    (ws : List Word) (code : Code) (at : ℕ) (s : Shows P m x ws code at) where
+    (ws : List Word) (code : Code) (at : ℕ) (s : Represents P m x ws code at) where
   pub asks : (o : Instruction) → slice_get code.instructions.items at ≡ Some o → (t : State) (q : Place) →
       After P m t q → asked o ≡ asked_next t
   asks o e t q run =

@@ -16,7 +16,7 @@ use Rattle.t_machine.specs.Laid.{size, sizes, Within}
 use Rattle.t_machine.specs.Along.{Ends, later}
 use Rattle.t_machine.specs.ProgramLaws.{ProgramLaws}
 use Rattle.t_machine.specs.Runs.{steps_made}
-use Rattle.t_machine.specs.State.{Shows}
+use Rattle.t_machine.specs.State.{Represents}
 use Rattle.t_machine.specs.Tables.{last_places, seq_table, blocks_table, table, AreCounts, FirstCounts}
 use Rattle.t_machine.specs.Tables.{CountsOn, HasTable, raised}
 use Rattle.t_machine.specs.declared.code.Code.{Code}
@@ -241,7 +241,7 @@ first_counts P m xs counts s p run =
 
 abbrev Shown : Heap → List Word → Code → ℕ → ℕ → Heap → List Word → ℕ → Type 0
 Shown x ws code at k y us to =
-    (P : TProg) → Whole P → Accepted P → (m : ℕ) → Shows P m x ws code at → Shows P (m + k) y us code to
+    (P : TProg) → Whole P → Accepted P → (m : ℕ) → Represents P m x ws code at → Represents P (m + k) y us code to
 
 pub on_none : (x : Heap) (ws : List Word) (code : Code) (at : ℕ) (xs : List ℕ) → CountsOn x ws code at 0 xs xs
 on_none x ws code at xs = record {
@@ -289,7 +289,7 @@ on_then x ws code at k j y us to xs ys zs shown first then' =
 
 -- where a machine stands for the same as before
 pub on_same : (x : Heap) (ws : List Word) (code : Code) (at k : ℕ) (y : Heap) (us : List Word) (xs ys : List ℕ) →
-    ((P : TProg) (m : ℕ) → Shows P m x ws code at → Shows P m y us code at) → CountsOn y us code at k xs ys →
+    ((P : TProg) (m : ℕ) → Represents P m x ws code at → Represents P m y us code at) → CountsOn y us code at k xs ys →
     CountsOn x ws code at k xs ys
 on_same x ws code at k y us xs ys same on = record {
   counts = λ P whole acc n m s counts. on.counts P whole acc n m (same P m s) counts;
@@ -351,7 +351,7 @@ counted_all x ws code at k n xs ys on is =
 
 pub counted_first : (x : Heap) (ws : List Word) (code : Code) (at k n : ℕ) (xs ys : List ℕ) →
     CountsOn x ws code at k xs ys → xs ≡ replicate n 0 → n ≡ length code.instructions.items →
-    (P : TProg) → Whole P → Accepted P → (m : ℕ) → Shows P m x ws code at → AreCounts P k (m + k) ys
+    (P : TProg) → Whole P → Accepted P → (m : ℕ) → Represents P m x ws code at → AreCounts P k (m + k) ys
 counted_first x ws code at k n xs ys on is count P whole acc m s =
     let all : n ≡ sizes (erase_blocks P) = count ∙ s.machine.laid.1 in
     let from : 0 + k ≡ k = omega arith in

@@ -18,7 +18,7 @@ use Rattle.t_machine.specs.Heap.{IsHeap}
 use Rattle.t_machine.specs.Numbers.{numbers, AreRising}
 use Rattle.t_machine.specs.ProgramLaws.{ProgramLaws}
 use Rattle.t_machine.specs.Runs.{filled, field_in, tuples_of, IsFieldAfter}
-use Rattle.t_machine.specs.State.{Shows, ShowsSome}
+use Rattle.t_machine.specs.State.{Represents, RepresentsSome}
 use Rattle.t_machine.specs.Words.{word, register_word, shown_word}
 use Rattle.t_machine.specs.declared.code.Code.{Code}
 use Rattle.t_machine.specs.declared.heap.Heap.{Heap}
@@ -39,7 +39,7 @@ filled_words ns None = refl
 filled_words ns (Some w) = filled_held ns w
 
 -- the numbers of what is kept rise
-pub some_rising : (x : Heap) (ws : List Word) (code : Code) (at : ℕ) → ∥ ShowsSome x ws code at ∥₁ →
+pub some_rising : (x : Heap) (ws : List Word) (code : Code) (at : ℕ) → ∥ RepresentsSome x ws code at ∥₁ →
     AreRising (numbers x)
 some_rising x ws code at some i j lt below =
     ∥∥₁_elim some le_prop (λ k. k.shows.erased.keeps.rising i j lt below)
@@ -57,7 +57,7 @@ kept_at x i a lt e =
     (i, in', get_or_default (numbers x) i a 0 in' ∙ e)
 
 module _ (laws : ProgramLaws) (P : TProg) (m : ℕ) (x : Heap) (ws : List Word) (code : Code) (at : ℕ)
-    (s : Shows P m x ws code at) (a j i : ℕ) (lt : i < length x.starts.items) (is : slice_index (numbers x) i ≡ a)
+    (s : Represents P m x ws code at) (a j i : ℕ) (lt : i < length x.starts.items) (is : slice_index (numbers x) i ≡ a)
     (r : Option Word)
     (read : (h : EHeap) → IsHeap x h → option_map word r ≡ option_and_then (λ t. slice_get t j) (slice_get h i)) where
   tuple : (t : List EWord) × (slice_get s.tuples i ≡ Some t)

@@ -16,7 +16,7 @@ use Rattle.t_machine.specs.Places.{PlaceList, register_place}
 use Rattle.t_machine.specs.Placing.{begin_at, IsBlockAt}
 use Rattle.t_machine.specs.Words.{register_word, shown_word, regs_of as held_in}
 use Rattle.t_machine.specs.Laid.{size, sizes, begins, Within}
-use Rattle.t_machine.specs.State.{Shows, ShowsSome}
+use Rattle.t_machine.specs.State.{Represents, RepresentsSome}
 use Rattle.t_machine.specs.Runs.{IsPlaceAfter, IsRegAfter}
 use Rattle.t_collect.specs.Kept.{numbered}
 use Rattle.t_collect.specs.Tuples.{starts_from, PointsBelow}
@@ -64,7 +64,7 @@ found_in n (c ∷ cs) (suc b) at lt le next less =
     (λ l. subst (λ k. at < begin_at (begins n (c ∷ cs)) k) one (next (omega (arith, l)))) (omega (arith, less))
 
 module _ (laws : ProgramLaws) (P : TProg) (m : ℕ) (x : Heap) (ws : List Word) (code : Code) (at : ℕ)
-    (s : Shows P m x ws code at) where
+    (s : Represents P m x ws code at) where
   blocks : List ESeq
   blocks = erase_blocks P
 
@@ -148,7 +148,7 @@ points_prop n (Empty m) = Unit-prop
 
 -- what holds of a machine, whichever program it stands for
 module _ (laws : ProgramLaws) (x : Heap) (ws : List Word) (code : Code) (at : ℕ)
-    (some : ∥ ShowsSome x ws code at ∥₁) where
+    (some : ∥ RepresentsSome x ws code at ∥₁) where
   pub some_there : 0 < length code.entries.items
   some_there = ∥∥₁_elim some le_prop (λ k. some_blocks laws k.program k.steps x ws code at k.shows)
 

@@ -31,7 +31,7 @@ use Rattle.t_machine.specs.Numbers.{numbers}
 use Rattle.t_machine.specs.Code.{IsCode, all_moved}
 use Rattle.t_machine.specs.Pairs.{ArePairs}
 use Rattle.t_machine.specs.Laid.{IsLaid}
-use Rattle.t_machine.specs.State.{Shows}
+use Rattle.t_machine.specs.State.{Represents}
 use Rattle.t_collect.specs.declared.word.Word.{Word}
 use Rattle.t_collect.specs.declared.word.Word.TheVariants.{Int, Address, Label, Empty}
 use Rattle.t_machine.specs.declared.heap.Heap.{Heap}
@@ -135,7 +135,8 @@ pub begins : ProgramLaws → (P : TProg) (x : Heap) (ws : List Word) (code : Cod
     ArePlaces code.places → IsHeap x (erase_heap P) → IsFresh x →
     AllStarted (starts_from 0 (erase_heap P)) (cells_of x.cells) →
     AllStarted (starts_from 0 (erase_heap P)) (all_moved code.instructions.items) →
-    ws ≡ replicate (length code.places) (Empty 0) → slice_get code.entries.items 0 ≡ Some at → Shows P 0 x ws code at
+    ws ≡ replicate (length code.places) (Empty 0) → slice_get code.entries.items 0 ≡ Some at →
+    Represents P 0 x ws code at
 begins laws P x ws code at some is laid paired places heap fresh in_heap in_code words entry =
     let b = first_there P.blocks some in
     let S = starts_from 0 (erase_heap P) in
@@ -188,7 +189,7 @@ pub starts : ProgramLaws → (p : TProgram) → 1 ≤ length (blocks_of p.blocks
     → (ss : List ℕ) → ss ≡ starts_from 0 (tuples_of tuples) → AllStarted ss (cells_of x.cells) →
     AllStarted ss (all_moved code.instructions.items)
     → (xs : List Word) → xs ≡ [] → (k : ℕ) → k ≡ 0 → (ws : List Word) → ws ≡ take n xs ++ replicate (n - k) (Empty 0) →
-    (at : ℕ) → at ≡ get_or code.entries.items 0 at → Shows (program p) 0 x ws code at
+    (at : ℕ) → at ≡ get_or code.entries.items 0 at → Represents (program p) 0 x ws code at
 starts laws p some lent same code is laid paired places n count x tuples all heap fresh ss are in_heap in_code xs none k
     none_kept ws
     words at entry =

@@ -36,22 +36,22 @@ PlacesAreReadBack =
     (cs : List ESeq) (b c i j at : ℕ) → Within 0 cs b i at → Within 0 cs c j at → (b ≡ c) × (i ≡ j)
 
 -- the register stands in the operand, the instruction, the block, one of the blocks
-abbrev pub InBase : TBase → ℕ → Type 0
-InBase (Reg q) r = r ≡ q
-InBase _ r = ⊥
+abbrev pub InOperand : TBase → ℕ → Type 0
+InOperand (Reg q) r = r ≡ q
+InOperand _ r = ⊥
 
-abbrev pub InInstr : EInstr → ℕ → Type 0
-InInstr (EArith op d s b) r = (r ≡ d) ⊎ ((r ≡ s) ⊎ InBase b r)
-InInstr (EBnz s b) r = (r ≡ s) ⊎ InBase b r
-InInstr (ELd d s n) r = (r ≡ d) ⊎ (r ≡ s)
-InInstr (EMalloc d n) r = r ≡ d
-InInstr (EMov d b) r = (r ≡ d) ⊎ InBase b r
-InInstr (ESt d n s) r = (r ≡ d) ⊎ (r ≡ s)
+abbrev pub InInstruction : EInstr → ℕ → Type 0
+InInstruction (EArith op d s b) r = (r ≡ d) ⊎ ((r ≡ s) ⊎ InOperand b r)
+InInstruction (EBnz s b) r = (r ≡ s) ⊎ InOperand b r
+InInstruction (ELd d s n) r = (r ≡ d) ⊎ (r ≡ s)
+InInstruction (EMalloc d n) r = r ≡ d
+InInstruction (EMov d b) r = (r ≡ d) ⊎ InOperand b r
+InInstruction (ESt d n s) r = (r ≡ d) ⊎ (r ≡ s)
 
 -- `halt` reads register 1
 abbrev pub InBlock : ESeq → ℕ → Type 0
-InBlock (EThen i c) r = InInstr i r ⊎ InBlock c r
-InBlock (EJmp b) r = InBase b r
+InBlock (EThen i c) r = InInstruction i r ⊎ InBlock c r
+InBlock (EJmp b) r = InOperand b r
 InBlock EHalt r = r ≡ 1
 
 abbrev pub InBlocks : List ESeq → ℕ → Type 0

@@ -9,7 +9,7 @@ use Rattle.t_rules.specs.Machine.{State, Place, Spot, After, HaltedAfter, HaltsW
 use Rattle.t_rules.specs.LawsSound.{regs_of}
 use Rattle.t_rules.specs.Erase.{EWord, EInt, EAddress, ELabel, EEmpty, EHeap, ERegs, EState, EAt, erase, erase_regs}
 use Rattle.t_machine.specs.Words.{shown_word, regs_of as held_in}
-use Rattle.t_machine.specs.State.{Shows}
+use Rattle.t_machine.specs.State.{Represents}
 use Rattle.t_collect.specs.Kept.{numbered}
 use Rattle.t_machine.specs.Numbers.{numbers}
 use Rattle.t_machine.specs.declared.machine.Machine.{Machine}
@@ -18,7 +18,7 @@ use Rattle.t_machine.specs.declared.machine.Ran.TheVariants.{Halted, Spent, NoMe
 
 -- the machine stands for P after m steps
 abbrev pub Stands : TProg → ℕ → Machine → Type 0
-Stands P m x = Shows P m x.heap x.registers.items x.code x.at
+Stands P m x = Represents P m x.heap x.registers.items x.code x.at
 
 -- the words of the machine's registers, where a tuple has the number that it has in the program's states
 abbrev pub words_in : Machine → ERegs

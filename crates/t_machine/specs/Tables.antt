@@ -9,7 +9,7 @@ use Rattle.t_rules.specs.Machine.{State, Place, After}
 use Rattle.t_rules.specs.Times.{is_spot, Times}
 use Rattle.t_rules.specs.Erase.{ESeq, EThen, EJmp, EHalt, erase_blocks}
 use Rattle.t_collect.specs.declared.word.Word.{Word}
-use Rattle.t_machine.specs.State.{Shows}
+use Rattle.t_machine.specs.State.{Represents}
 use Rattle.t_machine.specs.declared.code.Code.{Code}
 use Rattle.t_machine.specs.declared.heap.Heap.{Heap}
 
@@ -50,7 +50,7 @@ FirstCounts =
 -- A machine with this heap, these words and at this place makes k steps, and a table that told of the last n steps
 -- before them tells of these too afterwards: from xs to ys, in which there are k more in all.
 pub record CountsOn (x : Heap) (ws : List Word) (code : Code) (at k : ℕ) (xs ys : List ℕ) : Type 0 where
-  pub counts : (P : TProg) → Whole P → Accepted P → (n m : ℕ) → Shows P m x ws code at → AreCounts P n m xs →
+  pub counts : (P : TProg) → Whole P → Accepted P → (n m : ℕ) → Represents P m x ws code at → AreCounts P n m xs →
       AreCounts P (n + k) (m + k) ys
   pub sum : sum ys ≡ sum xs + k
 

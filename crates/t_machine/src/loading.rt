@@ -15,7 +15,7 @@ ghost use Rattle.t_machine.specs.Words.{word};
 ghost use Rattle.t_machine.specs.Places.{Extends};
 ghost use Rattle.t_machine.specs.Action.{action, data_word, moved_data};
 ghost use Rattle.t_machine.specs.Code.{IsBase, IsNumber, IsTarget, IsInstr, IsEnd, IsCode, all_moved};
-ghost use Rattle.t_machine.specs.Laid.{size, begins, Adds, InBase, InInstr, InBlock, IsLaid, IsNamed};
+ghost use Rattle.t_machine.specs.Laid.{size, begins, Adds, InOperand, InInstruction, InBlock, IsLaid, IsNamed};
 ghost use Rattle.t_machine.specs.Lowering.{IsFilled};
 ghost use Rattle.t_machine.specs.Pairs.{ArePairs};
 ghost use Rattle.t_machine.specs.Room.{most_tuples, most_fields, SameCaps, IsUncapped};
@@ -210,7 +210,7 @@ fn load_instr(
     requires { (p : ℕ) × (n : ℕ) × WellFormedInstr p (length starts.now) n (instr_tree i.now) }
     ensures same { IfOk result (λ o. IsInstr places.new entries.now (action o) (erase_instr (instr_tree i.now))) }
     ensures kept { OnOk result (Extends places.old places.new) }
-    ensures named { OnOk result (Adds places.old places.new (InInstr (erase_instr (instr_tree i.now)))) }
+    ensures named { OnOk result (Adds places.old places.new (InInstruction (erase_instr (instr_tree i.now)))) }
     ensures started { IfOk result (λ o. Started starts.now (moved_data (action o))) }
 {
     match i {
@@ -245,7 +245,7 @@ fn load_instr(
 fn load_read(places: &mut Places, rd: u64, rs: u64, field: u64) -> Result<Instruction, OutOfMemory>
     ensures same { IfOk result (λ o. (es : List ℕ) → IsInstr places.new es (action o) (ELd rd rs field)) }
     ensures kept { OnOk result (Extends places.old places.new) }
-    ensures named { OnOk result (Adds places.old places.new (InInstr (ELd rd rs field))) }
+    ensures named { OnOk result (Adds places.old places.new (InInstruction (ELd rd rs field))) }
     ensures no_data { IfOk result (λ o. moved_data (action o) ≡ Word.Empty 0) }
 {
     let rd = places.place(rd)?;
@@ -258,7 +258,7 @@ fn load_read(places: &mut Places, rd: u64, rs: u64, field: u64) -> Result<Instru
 fn load_write(places: &mut Places, rd: u64, field: u64, rs: u64) -> Result<Instruction, OutOfMemory>
     ensures same { IfOk result (λ o. (es : List ℕ) → IsInstr places.new es (action o) (ESt rd field rs)) }
     ensures kept { OnOk result (Extends places.old places.new) }
-    ensures named { OnOk result (Adds places.old places.new (InInstr (ESt rd field rs))) }
+    ensures named { OnOk result (Adds places.old places.new (InInstruction (ESt rd field rs))) }
     ensures no_data { IfOk result (λ o. moved_data (action o) ≡ Word.Empty 0) }
 {
     let rd = places.place(rd)?;
@@ -278,7 +278,8 @@ fn load_move(
     ensures same { IfOk result (λ o. (es : List ℕ) →
         IsInstr places.new es (action o) (EMov rd (erase_value (value_tree v.now)))) }
     ensures kept { OnOk result (Extends places.old places.new) }
-    ensures named { OnOk result (Adds places.old places.new (InInstr (EMov rd (erase_value (value_tree v.now))))) }
+    ensures named { OnOk result (Adds places.old places.new
+        (InInstruction (EMov rd (erase_value (value_tree v.now))))) }
     ensures started { IfOk result (λ o. Started starts.now (moved_data (action o))) }
 {
     let rd = places.place(rd)?;
@@ -310,7 +311,7 @@ fn load_value(places: &mut Places, starts: &[u32], v: &Value) -> Result<Operand,
     requires { (p : ℕ) × (n : ℕ) × WellFormedValue p (length starts.now) n (value_tree v.now) }
     ensures same { IfOk result (λ o. IsBase places.new o (erase_value (value_tree v.now))) }
     ensures kept { OnOk result (Extends places.old places.new) }
-    ensures named { OnOk result (Adds places.old places.new (InBase (erase_value (value_tree v.now)))) }
+    ensures named { OnOk result (Adds places.old places.new (InOperand (erase_value (value_tree v.now)))) }
     ensures started { IfOk result (λ o. Started starts.now (data_word o)) }
 {
     match base_of(v) {
@@ -331,7 +332,7 @@ fn load_value(places: &mut Places, starts: &[u32], v: &Value) -> Result<Operand,
 fn load_number(places: &mut Places, v: &Value) -> Result<Number, OutOfMemory>
     ensures same { IfOk result (λ o. IsNumber places.new o (erase_value (value_tree v.now))) }
     ensures kept { OnOk result (Extends places.old places.new) }
-    ensures named { OnOk result (Adds places.old places.new (InBase (erase_value (value_tree v.now)))) }
+    ensures named { OnOk result (Adds places.old places.new (InOperand (erase_value (value_tree v.now)))) }
 {
     match base_of(v) {
         Base::Reg(r) => {
@@ -348,7 +349,7 @@ fn load_number(places: &mut Places, v: &Value) -> Result<Number, OutOfMemory>
 fn load_target(places: &mut Places, entries: &[usize], v: &Value) -> Result<Target, OutOfMemory>
     ensures same { IfOk result (λ o. IsTarget places.new entries.now o (erase_value (value_tree v.now))) }
     ensures kept { OnOk result (Extends places.old places.new) }
-    ensures named { OnOk result (Adds places.old places.new (InBase (erase_value (value_tree v.now)))) }
+    ensures named { OnOk result (Adds places.old places.new (InOperand (erase_value (value_tree v.now)))) }
 {
     match base_of(v) {
         Base::Reg(r) => {

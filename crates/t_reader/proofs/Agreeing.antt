@@ -11,7 +11,7 @@ use Rattle.t_text.specs.Raw.{RawBase, RReg, RNum, RLabel, RawValue, RPlain, RPac
 use Rattle.t_text.specs.Raw.{RMov, RSt, RUnpack, RawEnd, RJmp, RHalt, RawBlock, RawDatum, RawData, RawItem, BlockItem}
 use Rattle.t_text.specs.Raw.{DataItem, item_name}
 use Rattle.t_text.specs.Names.{Labels, spelled, or_first, bind, type_of, types_of, base_of, value_of, instr_of, body_of}
-use Rattle.t_text.specs.Names.{end_of, names_after, names_after_all, block_of, datum_of, data_of}
+use Rattle.t_text.specs.Names.{end_of, scope_after, scope_after_all, block_of, datum_of, data_of}
 use Rattle.t_text.specs.NameFaults.{only_if, type_faults, types_faults, base_faults, value_faults, instr_faults}
 use Rattle.t_text.specs.NameFaults.{body_faults, end_faults, block_faults, data_faults, item_faults}
 use Rattle.t_reader.specs.Labelled.{NameTheSame}
@@ -40,7 +40,7 @@ module _ (text : List ℕ) (ls ms : Labels) (same : NameTheSame ls ms) where
   body_same a [] = refl
   body_same a (i ∷ is) =
       ap₂ (λ (x : TInstr) (xs : List (TInstr × Span)). (x, i.1) ∷ xs) (instr_same a i.0)
-      (body_same (names_after text i.0 a) is)
+      (body_same (scope_after text i.0 a) is)
 
   end_same : (a : List Name) (e : RawEnd) → end_of text ls a e ≡ end_of text ms a e
   end_same a (RJmp v) = ap Jmp (value_same a v)
@@ -50,7 +50,7 @@ module _ (text : List ℕ) (ls ms : Labels) (same : NameTheSame ls ms) where
   block_same b =
       rw (
         body_same (bind text b.names []) b.body,
-        end_same (names_after_all text b.body (bind text b.names [])) b.last.0,
+        end_same (scope_after_all text b.body (bind text b.names [])) b.last.0,
       ) refl
 
   -- and its faults
@@ -77,7 +77,7 @@ module _ (text : List ℕ) (ls ms : Labels) (same : NameTheSame ls ms) where
   body_faults_same a [] = refl
   body_faults_same a (i ∷ is) =
       ap₂ (λ (x y : List (TCode × Span)). x ++ y) (instr_faults_same a i.0)
-      (body_faults_same (names_after text i.0 a) is)
+      (body_faults_same (scope_after text i.0 a) is)
 
   end_faults_same : (a : List Name) (e : RawEnd) → end_faults text ls a e ≡ end_faults text ms a e
   end_faults_same a (RJmp v) = value_faults_same a v
@@ -87,7 +87,7 @@ module _ (text : List ℕ) (ls ms : Labels) (same : NameTheSame ls ms) where
   block_faults_same b =
       rw (
         body_faults_same (bind text b.names []) b.body,
-        end_faults_same (names_after_all text b.body (bind text b.names [])) b.last.0,
+        end_faults_same (scope_after_all text b.body (bind text b.names [])) b.last.0,
       ) refl
 
   -- data tuples

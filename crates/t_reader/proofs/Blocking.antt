@@ -8,7 +8,7 @@ use Rattle.t_terms.specs.declared.instr.Instr.{Instr}
 use Rattle.t_terms.specs.declared.instr.End.{End}
 use Rattle.t_text.specs.Raw.{raw_regs}
 use Rattle.t_terms.specs.Read as read
-use Rattle.t_text.specs.Names.{Labels, bind, file_of, body_of, end_of, block_of, names_after_all}
+use Rattle.t_text.specs.Names.{Labels, bind, file_of, body_of, end_of, block_of, scope_after_all}
 use Rattle.t_text.specs.NameFaults.{regs_faults, body_faults, end_faults, block_faults}
 use Rattle.t_shapes.specs.declared.raw_types.RawType.{RawType}
 use Rattle.t_shapes.specs.RawTypes.{raw_reg}
@@ -34,7 +34,7 @@ module _ (text : List ℕ) (ls : Labels) (b : RawBlock) (ns : List Span) (p : ns
     block_2_stop s h = rw (← p, ← n, ← q, ← r) (stop_right _ _ s d.1 (stop_left _ _ s (rw d.0 at h)))
 
     module _ (e : List Name) (body : Vec (Instr × Span) Global)
-        (g : (e ≡ names_after_all text (map raw_step xs) c) × (body_faults text ls c (map raw_step xs) ≡ [])
+        (g : (e ≡ scope_after_all text (map raw_step xs) c) × (body_faults text ls c (map raw_step xs) ≡ [])
         × (read.body body.items ≡ body_of text ls c (map raw_step xs))) where
       pub block_3_stop : (s : TFault) → StopsAt (end_faults text ls e (raw_end b.last.0)) s →
           StopsAt (block_faults text ls (raw_block b)) s

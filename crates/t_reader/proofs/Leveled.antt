@@ -7,7 +7,7 @@ use Rattle.idx_core.specs.Names.{Name}
 use Rattle.idx_core.specs.Levels.{level_of, SetsLevel}
 use Rattle.idx_core.proofs.Leveled.{level_within}
 use Rattle.indexmap.specs.IndexMap.{IndexMap, UpdatesBy}
-use Rattle.t_text.specs.Names.{is_among, place_of}
+use Rattle.t_text.specs.Names.{is_among, index_in}
 use Rattle.t_reader.specs.Levels.{kept_level}
 
 -- a name without a level is not there
@@ -22,15 +22,15 @@ no_level x (n ∷ ns) e = by_test (bytes_eq x n) (no_level x ns) e
 
 -- one with a level is there, as many places from the innermost as the level is below the highest
 pub place_by_level : (x : Name) (ns : List Name) → 0 < level_of x ns →
-    (is_among x ns ≡ true) × (place_of x ns ≡ length ns - level_of x ns)
+    (is_among x ns ≡ true) × (index_in x ns ≡ length ns - level_of x ns)
 place_by_level x [] l = absurd (omega (arith, l))
 place_by_level x (n ∷ ns) l = by_test (bytes_eq x n) (place_by_level x ns) l
   where
     by_test : (b : Bool) →
-        (0 < level_of x ns → (is_among x ns ≡ true) × (place_of x ns ≡ length ns - level_of x ns)) →
+        (0 < level_of x ns → (is_among x ns ≡ true) × (index_in x ns ≡ length ns - level_of x ns)) →
         0 < (if b then 1 + length ns else level_of x ns) →
         ((b || is_among x ns) ≡ true)
-        × ((if not b then 1 + place_of x ns else 0) ≡ length (n ∷ ns) - (if b then 1 + length ns else level_of x ns))
+        × ((if not b then 1 + index_in x ns else 0) ≡ length (n ∷ ns) - (if b then 1 + length ns else level_of x ns))
     by_test true h q = (refl, omega arith)
     by_test false h q = let p = h q in let w = level_within x ns in (p.0, omega (arith, p.1, w))
 

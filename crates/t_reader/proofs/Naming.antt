@@ -12,7 +12,7 @@ use Rattle.t_types.specs.Read.{tree, flag, file, types}
 use Rattle.t_types.proofs.Trees.{tree_Tuple, tree_Code}
 use Rattle.t_terms.specs.declared.fault.TCode.TheVariants.{T06}
 use Rattle.t_text.specs.Raw.{RCode, raw_regs, raw_fields}
-use Rattle.t_text.specs.Names.{spelled, is_among, place_of, bind, type_of, file_of, fields_of, types_of}
+use Rattle.t_text.specs.Names.{spelled, is_among, index_in, bind, type_of, file_of, fields_of, types_of}
 use Rattle.t_text.specs.NameFaults.{type_faults, regs_faults, fields_faults, types_faults}
 use Rattle.t_shapes.specs.declared.raw_types.RawType.{RawType}
 use Rattle.t_shapes.specs.declared.raw_types.RawType.TheVariants as R
@@ -38,7 +38,7 @@ module _ (text : List ℕ) (a : List Name) (ty : RawType) where
   name_stop s e f = ([], rw (e, f) refl)
 
   pub name_whole : (s : Span) (i : ℕ) → ty ≡ R.Name s → (is_among (spelled text s) a ≡ true)
-      × (place_of (spelled text s) a ≡ i) → Done text a ty a (T.Var i)
+      × (index_in (spelled text s) a ≡ i) → Done text a ty a (T.Var i)
   name_whole s i e f = (refl, rw (e, f.0) refl, rw (e, f.1) refl)
 
   module _ (names : Vec Span Global) (f : RawFile) (ns : List Span) (rs : List (ℕ × Span × RawType))

@@ -14,8 +14,8 @@ use Rattle.t_terms.specs.declared.value.Value.TheVariants as V
 use Rattle.t_terms.specs.declared.instr.Instr.{Instr}
 use Rattle.t_terms.specs.Tree.{TBase, TInstr, Pack}
 use Rattle.t_terms.specs.Read as read
-use Rattle.t_text.specs.Names.{Labels, spelled, named_by, types_of, base_of, value_of, instr_of, body_of, names_after}
-use Rattle.t_text.specs.Names.{names_after_all}
+use Rattle.t_text.specs.Names.{Labels, spelled, named_by, types_of, base_of, value_of, instr_of, body_of, scope_after}
+use Rattle.t_text.specs.Names.{scope_after_all}
 use Rattle.t_text.specs.NameFaults.{type_faults, types_faults, base_faults, value_faults, instr_faults, body_faults}
 use Rattle.t_shapes.specs.declared.raw_types.RawType.{RawType}
 use Rattle.t_shapes.specs.RawTypes.{raw}
@@ -98,7 +98,7 @@ module _ (text : List ℕ) (ls : Labels) (a : List Name) (pack : RawPack) where
 -- a body, of which the instructions from k on are left
 pub record BodyLeft (text : List ℕ) (ls : Labels) (a : List Name) (xs : List (RawInstr × Span)) (k : ℕ) (b : List Name)
     (made : List (Instr × Span)) : Type 0 where
-  pub names : names_after_all text (map raw_step xs) a ≡ names_after_all text (map raw_step (drop k xs)) b
+  pub names : scope_after_all text (map raw_step xs) a ≡ scope_after_all text (map raw_step (drop k xs)) b
   pub faults : body_faults text ls a (map raw_step xs) ≡ body_faults text ls b (map raw_step (drop k xs))
   pub trees : body_of text ls a (map raw_step xs) ≡ read.body made ++ body_of text ls b (map raw_step (drop k xs))
 
@@ -113,7 +113,7 @@ module _ (text : List ℕ) (ls : Labels) (a : List Name) (xs : List (RawInstr ×
   module _ (k : ℕ) (b : List Name) (made : List (Instr × Span)) (x : RawInstr × Span) (l : k < length xs)
       (i : x ≡ get_or xs k x) (h : BodyLeft text ls a xs k b made) where
     at_step : body_faults text ls a (map raw_step xs) ≡ instr_faults text ls b (raw_instr x.0)
-        ++ body_faults text ls (names_after text (raw_instr x.0) b) (map raw_step (drop (k + 1) xs))
+        ++ body_faults text ls (scope_after text (raw_instr x.0) b) (map raw_step (drop (k + 1) xs))
     at_step = h.faults ∙ rw (next_item xs k x i l) refl
 
     pub body_stop : (s : TFault) → StopsAt (instr_faults text ls b (raw_instr x.0)) s →
@@ -121,7 +121,7 @@ module _ (text : List ℕ) (ls : Labels) (a : List Name) (xs : List (RawInstr ×
     body_stop s f = rw at_step (stop_left _ _ s f)
 
     pub body_next : (c : List Name) (t : Instr) (more : List (Instr × Span)) →
-        (c ≡ names_after text (raw_instr x.0) b) × (instr_faults text ls b (raw_instr x.0) ≡ [])
+        (c ≡ scope_after text (raw_instr x.0) b) × (instr_faults text ls b (raw_instr x.0) ≡ [])
         × (read.instr t ≡ instr_of text ls b (raw_instr x.0)) → more ≡ made ++ (t, x.1) ∷ [] →
         BodyLeft text ls a xs (k + 1) c more
     body_next c t more d m = record {
@@ -141,7 +141,7 @@ module _ (text : List ℕ) (ls : Labels) (a : List Name) (xs : List (RawInstr ×
 
   pub body_whole : (k : ℕ) (b : List Name) (made : List (Instr × Span)) → length xs ≤ k →
       BodyLeft text ls a xs k b made →
-      (b ≡ names_after_all text (map raw_step xs) a) × (body_faults text ls a (map raw_step xs) ≡ [])
+      (b ≡ scope_after_all text (map raw_step xs) a) × (body_faults text ls a (map raw_step xs) ≡ [])
       × (read.body made ≡ body_of text ls a (map raw_step xs))
   body_whole k b made l h =
       let n : drop k xs ≡ [] = drop_of_length-le xs l in

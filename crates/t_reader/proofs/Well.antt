@@ -24,9 +24,9 @@ use Rattle.t_text.specs.Raw.{RawTy, RInt, RName, RCode, RSome, RTuple, RawRegs, 
 use Rattle.t_text.specs.Raw.{NoRawFields, MoreRawFields, RawBase, RReg, RNum, RLabel, RawValue, RPlain, RPack, RawInstr}
 use Rattle.t_text.specs.Raw.{RArith, RBnz, RLd, RMalloc, RMov, RSt, RUnpack, RawEnd, RJmp, RHalt, RawBlock, RawDatum}
 use Rattle.t_text.specs.Raw.{RawItem, BlockItem, DataItem, blocks_in, data_in}
-use Rattle.t_text.specs.Names.{Labels, named_by, or_first, spelled, is_among, place_of, bind, insert_reg, type_of}
-use Rattle.t_text.specs.Names.{file_of, fields_of, types_of, base_of, value_of, instr_of, body_of, end_of, names_after}
-use Rattle.t_text.specs.Names.{names_after_all, labels_of, block_of, datum_of, data_of, program_of}
+use Rattle.t_text.specs.Names.{Labels, named_by, or_first, spelled, is_among, index_in, bind, insert_reg, type_of}
+use Rattle.t_text.specs.Names.{file_of, fields_of, types_of, base_of, value_of, instr_of, body_of, end_of, scope_after}
+use Rattle.t_text.specs.Names.{scope_after_all, labels_of, block_of, datum_of, data_of, program_of}
 use Rattle.t_text.specs.NameFaults.{only_if, type_faults, regs_faults, fields_faults, types_faults, base_faults}
 use Rattle.t_text.specs.NameFaults.{value_faults, instr_faults, body_faults, end_faults, block_faults, datum_faults}
 use Rattle.t_text.specs.NameFaults.{data_faults, items_faults, program_faults}
@@ -49,12 +49,12 @@ no_fault : (b : Bool) (c : TCode) (s : Span) → only_if b c s ≡ [] → b ≡ 
 no_fault true c s e = absurd (cc)
 no_fault false c s e = refl
 
-place_within : (x : Name) (ns : List Name) → is_among x ns ≡ true → place_of x ns < length ns
+place_within : (x : Name) (ns : List Name) → is_among x ns ≡ true → index_in x ns < length ns
 place_within x [] e = absurd (cc)
 place_within x (n ∷ ns) e = by_test (bytes_eq x n) (place_within x ns) e
   where
-    by_test : (b : Bool) → (is_among x ns ≡ true → place_of x ns < length ns) → (b || is_among x ns) ≡ true →
-        (if not b then 1 + place_of x ns else 0) < length (n ∷ ns)
+    by_test : (b : Bool) → (is_among x ns ≡ true → index_in x ns < length ns) → (b || is_among x ns) ≡ true →
+        (if not b then 1 + index_in x ns else 0) < length (n ∷ ns)
     by_test true h q = omega arith
     by_test false h q = let l = h q in omega arith
 
@@ -192,7 +192,7 @@ well_instr text p q ls w a (RSt rd i rs) h e = h
 well_instr text p q ls w a (RUnpack n rd v) h e = (h.0, well_value text p q ls w a v h.1 e)
 
 -- the number of names after an instruction, read and resolved
-after_length : (text : List ℕ) (i : RawInstr) (a : List Name) → length (names_after text i a) ≡ after_raw i (length a)
+after_length : (text : List ℕ) (i : RawInstr) (a : List Name) → length (scope_after text i a) ≡ after_raw i (length a)
 after_length text (RArith op rd rs v) a = refl
 after_length text (RBnz r v) a = refl
 after_length text (RLd rd rs i) a = refl
@@ -219,20 +219,20 @@ well_end text p q ls w a RHalt h e = tt
 well_seq : (text : List ℕ) (p q : ℕ) (ls : Labels) (w : NamesBelow p q ls) (a : List Name)
     (is : List (RawInstr × Span)) (last : RawEnd) → FitsSteps (length a) is →
     FitsEnd (after_steps is (length a)) last → body_faults text ls a is ≡ [] →
-    end_faults text ls (names_after_all text is a) last ≡ [] →
-    WellFormedSeq p q (length a) (seq_of (body_of text ls a is) (end_of text ls (names_after_all text is a) last))
+    end_faults text ls (scope_after_all text is a) last ≡ [] →
+    WellFormedSeq p q (length a) (seq_of (body_of text ls a is) (end_of text ls (scope_after_all text is a) last))
 well_seq text p q ls w a [] last h g e f = well_end text p q ls w a last g f
 well_seq text p q ls w a (i ∷ is) last h g e f =
     let l = after_length text i.0 a in
     let s = after_same text ls a i.0 (length a) in
-    let same : length (names_after text i.0 a) ≡ tree.names_after (instr_of text ls a i.0) (length a) = l ∙ sym s in (
+    let same : length (scope_after text i.0 a) ≡ tree.names_after (instr_of text ls a i.0) (length a) = l ∙ sym s in (
       well_instr text p q ls w a i.0 h.0 (none_left _ _ e),
       rw s h.1,
       subst (λ (n : ℕ).
           WellFormedSeq p q n
-          (seq_of (body_of text ls (names_after text i.0 a) is)
-          (end_of text ls (names_after_all text is (names_after text i.0 a)) last))) same
-          (well_seq text p q ls w (names_after text i.0 a) is last (subst (λ (n : ℕ). FitsSteps n is) (sym l) h.2)
+          (seq_of (body_of text ls (scope_after text i.0 a) is)
+          (end_of text ls (scope_after_all text is (scope_after text i.0 a)) last))) same
+          (well_seq text p q ls w (scope_after text i.0 a) is last (subst (λ (n : ℕ). FitsSteps n is) (sym l) h.2)
           (subst (λ (n : ℕ). FitsEnd (after_steps is n) last) (sym l) g) (none_right _ _ e) f),
     )
 
@@ -248,7 +248,7 @@ well_block text p q ls w b h e =
       subst (λ (n : ℕ).
           WellFormedSeq p q n
           (seq_of (body_of text ls (bind text b.names []) b.body)
-          (end_of text ls (names_after_all text b.body (bind text b.names [])) b.last.0))) l
+          (end_of text ls (scope_after_all text b.body (bind text b.names [])) b.last.0))) l
           (well_seq text p q ls w (bind text b.names []) b.body b.last.0
           (subst (λ (n : ℕ). FitsSteps n b.body) (sym l) h.2)
           (subst (λ (n : ℕ). FitsEnd (after_steps b.body n) b.last.0) (sym l) h.3) (none_left _ _ f)

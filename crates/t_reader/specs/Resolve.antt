@@ -16,7 +16,7 @@ use Rattle.t_text.specs.Tokens.{IsCut}
 use Rattle.t_terms.specs.Tree.{TBase, Label, Data}
 use Rattle.t_text.specs.Raw.{RawBlock, RawData, RawItem, BlockItem, DataItem, item_name}
 use Rattle.t_text.specs.Grammar.{Program, assembly_grammar}
-use Rattle.t_text.specs.Names.{Labels, spelled, is_among, place_of, named_by}
+use Rattle.t_text.specs.Names.{Labels, spelled, is_among, index_in, named_by}
 use Rattle.t_text.specs.NameFaults.{only_if, item_faults}
 use Rattle.t_text.specs.Text.{most_open}
 use Rattle.t_reader.specs.Labelled.{is_target}
@@ -29,7 +29,7 @@ StopsAt faults (Refused code span) = (rest : List (TCode × Span)) × (faults �
 -- the place of a name among names, or none exactly where it is not there
 abbrev pub IsFound : Name → List Name → Option ℕ → Type 0
 IsFound x names None = is_among x names ≡ false
-IsFound x names (Some i) = (is_among x names ≡ true) × (place_of x names ≡ i)
+IsFound x names (Some i) = (is_among x names ≡ true) × (index_in x names ≡ i)
 
 -- whether a label is that of an item before the one that this is
 abbrev pub stands_before : Name → Labels → TBase → Bool

@@ -3,7 +3,7 @@ ghost use Rattle.std.specs.Prelude.{◌≡◌, List, [], map, MatchResult};
 ghost use Rattle.t_types.specs.Read.{tree};
 ghost use Rattle.t_terms.specs.Tree.{Pack};
 ghost use Rattle.t_text.specs.Names.{base_of, value_of, instr_of, body_of, end_of, block_of, datum_of, data_of};
-ghost use Rattle.t_text.specs.Names.{names_after, names_after_all};
+ghost use Rattle.t_text.specs.Names.{scope_after, scope_after_all};
 ghost use Rattle.t_text.specs.NameFaults.{base_faults, value_faults, instr_faults, body_faults, end_faults};
 ghost use Rattle.t_text.specs.NameFaults.{block_faults, datum_faults, data_faults};
 ghost use Rattle.t_terms.specs.Read as read;
@@ -120,7 +120,7 @@ pub fn instr_in<'a>(
     scope: &mut Scope<'a>,
 ) -> Result<Instr, TFault>
     ensures { MatchResult result
-        (λ i. (scope.new ≡ names_after text.now (raw_instr instr.now) scope.old)
+        (λ i. (scope.new ≡ scope_after text.now (raw_instr instr.now) scope.old)
         × (instr_faults text.now labels.now scope.old (raw_instr instr.now) ≡ [])
         × (read.instr i ≡ instr_of text.now labels.now scope.old (raw_instr instr.now)))
         (λ e. StopsAt (instr_faults text.now labels.now scope.old (raw_instr instr.now)) e) }
@@ -166,7 +166,7 @@ pub fn body_in<'a>(
     scope: &mut Scope<'a>,
 ) -> Result<Vec<(Instr, Span)>, TFault>
     ensures { MatchResult result
-        (λ is. (scope.new ≡ names_after_all text.now (map raw_step body.now) scope.old)
+        (λ is. (scope.new ≡ scope_after_all text.now (map raw_step body.now) scope.old)
         × (body_faults text.now labels.now scope.old (map raw_step body.now) ≡ [])
         × (read.body is.items ≡ body_of text.now labels.now scope.old (map raw_step body.now)))
         (λ e. StopsAt (body_faults text.now labels.now scope.old (map raw_step body.now)) e) }

@@ -19,7 +19,7 @@ use Rattle.t_rules.specs.Machine.{IntWord, AddressWord, start_heap, Next, Spot, 
 use Rattle.t_rules.specs.HeapTypes.{start_types}
 use Rattle.t_rules.specs.Erase.{EInt, EAddress, erase_heap, erase_blocks, EHaltedWith}
 use Rattle.t_rules.specs.ErasedRuns.{EOn, erun, begun}
-use Rattle.t_rules.proofs.Rows.{span, block, no_fit, start, step}
+use Rattle.t_rules.proofs.Rows.{span, block, start, step}
 
 abbrev datum : TValue → Ty → Span → SDatum
 datum v t s = record { value = v; ty = t; span = s }
@@ -51,10 +51,10 @@ through_data_accepted = (
   (refl, refl),
   (
     (
-      (IntTy, refl, inl refl, tt),
-      ((TupleTy (MoreFields IntTy true NoFields), (_, refl, refl), inl refl, search arith), tt),
+      (IntTy, refl, refl, tt),
+      ((TupleTy (MoreFields IntTy true NoFields), (_, refl, refl), (refl, (λ e. e), tt), search arith), tt),
     ),
-    (((IntTy, refl, inl refl, tt), tt), tt),
+    (((IntTy, refl, refl, tt), tt), tt),
   ),
   (
     (
@@ -121,7 +121,7 @@ word_of_another_type_fault : ProgramFaultWith word_of_another_type T13 (span 16 
     (Some (Types (TupleTy NoFields) IntTy 0))
 unfolding told few
 word_of_another_type_fault =
-    inr ((refl, refl), inl (inl (inl (inr (_, refl, inl (no_fit _ _ (λ e. cc) (λ fs gs e k. cc), (refl, refl)))))))
+    inr ((refl, refl), inl (inl (inl (inr (_, refl, inl ((λ e. cc), (refl, refl)))))))
 
 -- A number takes no types.
 -- tal 2 | D0: data <5[int] : int> | L0: code[]{}. halt[int]
@@ -150,7 +150,7 @@ unfolding told few
 word_of_no_package_fault =
     inr (
       (refl, refl),
-      inl (inl (inl (inl (inr (_, refl, inl (no_fit _ _ (λ e. cc) (λ fs gs e k. cc), (refl, refl))))))),
+      inl (inl (inl (inl (inr (_, refl, inl ((λ e. cc), (refl, refl))))))),
     )
 
 -- The first block is checked before the data, and the data before the blocks.

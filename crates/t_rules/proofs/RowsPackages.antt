@@ -1,6 +1,6 @@
 -- Worked programs with packages that are accepted, their runs and answers. The comment above each is its text, with a
 -- bar for a line end; its places are those of the bytes of that text.
-use Rattle.std.proofs.Common.{true, [], ◌∷◌, refl, inl, arith}
+use Rattle.std.proofs.Common.{true, [], ◌∷◌, refl, arith}
 use Rattle.std.specs.Prelude.{pos}
 use Rattle.t_types.specs.Tree.{IntTy, VarTy, CodeTy, ExistsTy, TupleTy, NoRegs, MoreRegs, NoFields, MoreFields}
 use Rattle.t_terms.specs.Tree.{Reg, Int, Label, Plain, Pack, Ld, Malloc, Mov, St, Unpack, Jmp, Halt}
@@ -47,20 +47,20 @@ object_accepted = (
           (IntTy, refl, refl),
           (
             _,
-            (_, _, _, _, refl, refl, refl, inl refl, refl),
+            (_, _, _, _, refl, refl, refl, refl, refl),
             (
               _,
               (CodeTy 0 (MoreRegs 1 IntTy NoRegs), (_, refl, refl), refl),
               (
                 _,
-                (_, _, _, _, refl, refl, refl, inl refl, refl),
+                (_, _, _, _, refl, refl, refl, refl, refl),
                 (
                   _,
                   (
                     ExistsTy
                         (TupleTy (MoreFields (VarTy 0) true
                         (MoreFields (CodeTy 0 (MoreRegs 1 (VarTy 0) NoRegs)) true NoFields))),
-                    (_, _, refl, refl, inl refl, refl, search arith, search arith),
+                    (_, _, refl, refl, (refl, (λ e. e), (refl, (λ e. e), tt)), refl, search arith, search arith),
                     refl,
                   ),
                   (
@@ -69,7 +69,7 @@ object_accepted = (
                     (
                       _,
                       (_, _, refl, refl, refl),
-                      (_, (_, _, refl, refl, refl), (_, refl, ((VarTy 0, refl, inl refl), tt))),
+                      (_, (_, _, refl, refl, refl), (_, refl, ((VarTy 0, refl, refl), tt))),
                     ),
                   ),
                 ),
@@ -128,9 +128,9 @@ package_unpacked_accepted = (
           (
             _,
             _,
-            (_, _, refl, refl, inl refl, refl, search arith, search arith),
+            (_, _, refl, refl, refl, refl, search arith, search arith),
             refl,
-            inl refl,
+            refl,
             refl,
             search arith,
             search arith,
@@ -183,7 +183,7 @@ unpack_in_code_accepted = (
         (IntTy, refl, refl),
         (
           _,
-          (ExistsTy (VarTy 0), (_, _, refl, refl, inl refl, refl, search arith, search arith), refl),
+          (ExistsTy (VarTy 0), (_, _, refl, refl, refl, refl, search arith, search arith), refl),
           (
             _,
             (CodeTy 0 (MoreRegs 2 IntTy NoRegs), (_, refl, refl), refl),
@@ -191,8 +191,8 @@ unpack_in_code_accepted = (
               _,
               (1, _, (_, refl, refl), omega arith, refl, search arith),
               (
-                (ExistsTy (VarTy 0), refl, inl refl),
-                ((IntTy, refl, inl refl), ((CodeTy 0 (MoreRegs 2 IntTy NoRegs), refl, inl refl), tt)),
+                (ExistsTy (VarTy 0), refl, refl),
+                ((IntTy, refl, refl), ((CodeTy 0 (MoreRegs 2 IntTy NoRegs), refl, refl), tt)),
               ),
             ),
           ),
@@ -200,7 +200,7 @@ unpack_in_code_accepted = (
       ),
     ),
     (
-      (search arith, (_, (_, refl, refl), (_, refl, ((VarTy 1, refl, inl refl), tt)))),
+      (search arith, (_, (_, refl, refl), (_, refl, ((VarTy 1, refl, refl), tt)))),
       ((search arith, (_, (IntTy, refl, refl), refl)), tt),
     ),
   ),

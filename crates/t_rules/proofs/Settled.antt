@@ -1,14 +1,15 @@
 -- Each program is accepted, or has a first fault: what the rules ask can be decided.
 use Rattle.std.proofs.Common.{◌≡◌, ℕ, zero, suc, ◌<◌, ◌≤◌, Bool, true, false, IsTrue, List, [], ◌∷◌, length, Option}
-use Rattle.std.proofs.Common.{Some, None, refl, ap, ap₂, subst, arith, ◌⊎◌, inl, inr, slice_get}
+use Rattle.std.proofs.Common.{Some, None, refl, ap, subst, arith, ◌⊎◌, inl, inr, slice_get}
 use Rattle.std.proofs.lemmas.Bool.{cases_lt, cases_order}
 use Rattle.idx_core.specs.declared.span.Span.{Span}
-use Rattle.t_types.specs.Tree.{Ty, IntTy, VarTy, CodeTy, ExistsTy, TupleTy, TFile, NoRegs, MoreRegs, TFields, NoFields}
+use Rattle.t_types.specs.Tree.{Ty, IntTy, CodeTy, TupleTy, TFile, NoRegs, MoreRegs, TFields, NoFields}
 use Rattle.t_types.specs.Tree.{MoreFields, put, BelowTypes}
 use Rattle.t_types.specs.WellFormed.{WellFormedTypes}
 use Rattle.t_types.proofs.Scope.{well_formed_below, regs_below}
 use Rattle.t_types.specs.Fields.{AField, field, filled, empty_fields}
 use Rattle.t_types.specs.Fits.{FieldsFit, Fits, FitsFile, RegTypes, lookup}
+use Rattle.t_types.specs.Props.{same, same_file}
 use Rattle.t_terms.specs.Tree.{TBase, Reg, Int, Label, Data, TValue, Plain, Pack, TInstr, Arith, Bnz, Ld, Malloc, Mov}
 use Rattle.t_terms.specs.Tree.{St, Unpack, TEnd, Jmp, Halt, TProg, names_after}
 use Rattle.t_terms.specs.Spanned.{SBlock, SDatum, SData, seq_of, plain, plain_datum, plain_fields, plain_heap}
@@ -63,57 +64,12 @@ flag_same true false = inr (λ e. cc)
 flag_same false true = inr (λ e. cc)
 
 -- types are equal or not
-mutual
-  ty_same : (t u : Ty) → Decided (t ≡ u)
-  ty_same IntTy IntTy = inl refl
-  ty_same IntTy (VarTy j) = inr (λ e. cc)
-  ty_same IntTy (CodeTy m g) = inr (λ e. cc)
-  ty_same IntTy (ExistsTy u) = inr (λ e. cc)
-  ty_same IntTy (TupleTy gs) = inr (λ e. cc)
-  ty_same (VarTy i) IntTy = inr (λ e. cc)
-  ty_same (VarTy i) (VarTy j) = by_equal (number_same i j) (λ e. ap VarTy e) (λ differ e. differ (cc))
-  ty_same (VarTy i) (CodeTy m g) = inr (λ e. cc)
-  ty_same (VarTy i) (ExistsTy u) = inr (λ e. cc)
-  ty_same (VarTy i) (TupleTy gs) = inr (λ e. cc)
-  ty_same (CodeTy n f) IntTy = inr (λ e. cc)
-  ty_same (CodeTy n f) (VarTy j) = inr (λ e. cc)
-  ty_same (CodeTy n f) (CodeTy m g) =
-      both (number_same n m) (file_same f g) (λ x y. ap₂ CodeTy x y) (λ differ e. differ (cc))
-      (λ differ e. differ (cc))
-  ty_same (CodeTy n f) (ExistsTy u) = inr (λ e. cc)
-  ty_same (CodeTy n f) (TupleTy gs) = inr (λ e. cc)
-  ty_same (ExistsTy t) IntTy = inr (λ e. cc)
-  ty_same (ExistsTy t) (VarTy j) = inr (λ e. cc)
-  ty_same (ExistsTy t) (CodeTy m g) = inr (λ e. cc)
-  ty_same (ExistsTy t) (ExistsTy u) = by_equal (ty_same t u) (λ e. ap ExistsTy e) (λ differ e. differ (cc))
-  ty_same (ExistsTy t) (TupleTy gs) = inr (λ e. cc)
-  ty_same (TupleTy fs) IntTy = inr (λ e. cc)
-  ty_same (TupleTy fs) (VarTy j) = inr (λ e. cc)
-  ty_same (TupleTy fs) (CodeTy m g) = inr (λ e. cc)
-  ty_same (TupleTy fs) (ExistsTy u) = inr (λ e. cc)
-  ty_same (TupleTy fs) (TupleTy gs) = by_equal (fields_same fs gs) (λ e. ap TupleTy e) (λ differ e. differ (cc))
+decided : {A : Type 0} → Dec A → Decided A
+decided (yes a) = inl a
+decided (no a) = inr a
 
-  file_same : (f g : TFile) → Decided (f ≡ g)
-  file_same NoRegs NoRegs = inl refl
-  file_same NoRegs (MoreRegs r u g) = inr (λ e. cc)
-  file_same (MoreRegs q t f) NoRegs = inr (λ e. cc)
-  file_same (MoreRegs q t f) (MoreRegs r u g) =
-      both (number_same q r)
-      (both (ty_same t u) (file_same f g) (λ x y. ap₂ (λ a b. MoreRegs q a b) x y) (λ differ e. differ (cc))
-      (λ differ e. differ (cc)))
-      (λ x y. subst (λ n. MoreRegs q t f ≡ MoreRegs n u g) x y) (λ differ e. differ (cc))
-      (λ differ e. differ (let a : t ≡ u = cc in let b : f ≡ g = cc in ap₂ (λ x y. MoreRegs q x y) a b))
-
-  fields_same : (fs gs : TFields) → Decided (fs ≡ gs)
-  fields_same NoFields NoFields = inl refl
-  fields_same NoFields (MoreFields u y gs) = inr (λ e. cc)
-  fields_same (MoreFields t x fs) NoFields = inr (λ e. cc)
-  fields_same (MoreFields t x fs) (MoreFields u y gs) =
-      both (flag_same x y)
-      (both (ty_same t u) (fields_same fs gs) (λ a b. ap₂ (λ c d. MoreFields c x d) a b) (λ differ e. differ (cc))
-      (λ differ e. differ (cc)))
-      (λ a b. subst (λ z. MoreFields t x fs ≡ MoreFields u z gs) a b) (λ differ e. differ (cc))
-      (λ differ e. differ (let a : t ≡ u = cc in let b : fs ≡ gs = cc in ap₂ (λ c d. MoreFields c x d) a b))
+ty_same : (t u : Ty) → Decided (t ≡ u)
+ty_same t u = decided (same t u)
 
 -- a type fits another or not
 flag_fits : (own flag : Bool) → Decided (IsTrue flag → IsTrue own)
@@ -130,30 +86,9 @@ fields_fit (MoreFields t own fs) (MoreFields u flag gs) =
     both (flag_fits own flag) (fields_fit fs gs) (λ x y. (x, y)) (λ differ h. differ h.0) (λ differ h. differ h.1) in
     both (ty_same t u) rest (λ x y. (x, y.0, y.1)) (λ differ h. differ h.0) (λ differ h. differ (h.1, h.2))
 
-abbrev FitAsTuples : Ty → Ty → Type 0
-FitAsTuples t u = (fs : TFields) × (gs : TFields) × (t ≡ TupleTy fs) × (u ≡ TupleTy gs) × FieldsFit fs gs
-
-as_tuples : (t u : Ty) → Decided (FitAsTuples t u)
-as_tuples (TupleTy fs) (TupleTy gs) =
-    by_equal (fields_fit fs gs) (λ h. (fs, gs, refl, refl, h))
-    (λ differ h. let e1 = h.2 in let e2 = h.3 in let a : h.0 ≡ fs = cc in let b : h.1 ≡ gs = cc in
-    differ (subst (FieldsFit fs) b (subst (λ z. FieldsFit z h.1) a h.4)))
-as_tuples (TupleTy fs) IntTy = inr (λ h. let e = h.3 in cc)
-as_tuples (TupleTy fs) (VarTy j) = inr (λ h. let e = h.3 in cc)
-as_tuples (TupleTy fs) (CodeTy m g) = inr (λ h. let e = h.3 in cc)
-as_tuples (TupleTy fs) (ExistsTy u) = inr (λ h. let e = h.3 in cc)
-as_tuples IntTy u = inr (λ h. let e = h.2 in cc)
-as_tuples (VarTy i) u = inr (λ h. let e = h.2 in cc)
-as_tuples (CodeTy n f) u = inr (λ h. let e = h.2 in cc)
-as_tuples (ExistsTy t) u = inr (λ h. let e = h.2 in cc)
-
 pub fits : (t u : Ty) → Decided (Fits t u)
-fits t u = by_same (ty_same t u) (as_tuples t u)
-  where
-    by_same : Decided (t ≡ u) → Decided (FitAsTuples t u) → Decided (Fits t u)
-    by_same (inl e) x = inl (inl e)
-    by_same (inr differ) (inl h) = inl (inr h)
-    by_same (inr differ) (inr tuples) = inr (λ h. elim h [ inl e ↦ differ e | inr k ↦ tuples k ])
+fits (TupleTy fs) (TupleTy gs) = fields_fit fs gs
+fits t u = ty_same t u
 
 -- a register is known by a type that fits, or not
 known_fits : (g : RegTypes) (r : ℕ) (t : Ty) → Decided (KnownFits g r t)
@@ -303,7 +238,7 @@ module _ (P : TProg) where
 -- the first block takes nothing, or T20 stands
 nothing_owed : (b : SBlock) → Decided (FirstTakesNothing (plain b ∷ []))
 nothing_owed b =
-    both (number_same b.owes 0) (file_same b.file NoRegs) (λ x y. (x, y)) (λ differ h. differ h.0)
+    both (number_same b.owes 0) (decided (same_file b.file NoRegs)) (λ x y. (x, y)) (λ differ h. differ h.0)
     (λ differ h. differ h.1)
 
 pub accepted_or_fault : AcceptedOrFault

@@ -7,6 +7,7 @@ use Rattle.std.proofs.lemmas.Bool.{eq-eqb, eqb-true, ne_eqb, cases_lt, cases_eq,
 use Rattle.idx_core.specs.Over.{At}
 use Rattle.t_types.specs.Tree.{Ty, TupleTy, TFile, NoRegs, MoreRegs, TFields, MoreFields, over_file, shift, shift_file}
 use Rattle.t_types.specs.Fields.{AField, field, filled}
+use Rattle.t_types.proofs.FitsLaws.{fits_same}
 use Rattle.t_types.specs.Fits.{FitsFile, RegTypes, lookup}
 use Rattle.t_terms.specs.Registers.{with_reg, raised}
 use Rattle.t_spill_rules.specs.Spill.{sp, sp_regs, frame, with_if, without_if, high_part, low_part, split, frame_reg}
@@ -149,7 +150,7 @@ fits_more g r t low (MoreRegs q u x) le h k =
 pub fits_self : (x : TFile) → Ascends x → FitsFile (lookup x) x
 fits_self NoRegs h = tt
 fits_self (MoreRegs r t x) h = (
-  (t, look_same (lookup x) r t, inl refl),
+  (t, look_same (lookup x) r t, fits_same t),
   fits_more (lookup x) r t r x (omega arith) h (fits_self x (rises_ascends r x h)),
 )
 
@@ -270,7 +271,7 @@ pub fits_split : (m : ℕ) (k g : RegTypes) (x : TFile) →
     g (frame_reg m) ≡ Some (TupleTy (frame (high_part m (sp_regs m x)))) → FitsFile g (split m (sp_regs m x))
 fits_split m k g x low h e =
     fits_low m k g x (MoreRegs (frame_reg m) (TupleTy (frame (high_part m (sp_regs m x)))) NoRegs) low h
-    ((TupleTy (frame (high_part m (sp_regs m x))), e, inl refl), tt)
+    ((TupleTy (frame (high_part m (sp_regs m x))), e, fits_same (TupleTy (frame (high_part m (sp_regs m x))))), tt)
 
 -- fields that are filled, in front of others
 abbrev pub prefix : List Ty → TFields → TFields

@@ -1,6 +1,6 @@
 -- Frames and slots in the typing of the spilled program: operands are read, frames are made, words are put away.
 use Rattle.std.proofs.Common.{◌≡◌, ℕ, zero, suc, ◌+◌, ◌-◌, ◌≤◌, true, false, List, [], ◌∷◌, ◌++◌, length}
-use Rattle.std.proofs.Common.{map, Some, refl, sym, ap, ap₂, ◌∙◌, subst, arith, inl, ⊎_elim, slice_get}
+use Rattle.std.proofs.Common.{map, Some, refl, sym, ap, ap₂, ◌∙◌, subst, arith, ⊎_elim, slice_get}
 use Rattle.std.specs.Prelude.{◌≢◌, option_map}
 use Rattle.std.proofs.lemmas.Bool.{cases_eq}
 use Rattle.std.proofs.lemmas.List.{length-map, length-append}
@@ -8,7 +8,7 @@ use Rattle.t_types.specs.Tree.{Ty, CodeTy, TupleTy, TFile, NoRegs, MoreRegs, TFi
 use Rattle.t_types.specs.Tree.{MoreFields, put, BelowFile, BelowTypes}
 use Rattle.t_types.specs.Fields.{AField, field, filled, empty_fields}
 use Rattle.t_types.specs.Fits.{Fits, FitsFile, RegTypes, lookup}
-use Rattle.t_types.proofs.FitsLaws.{filled_field}
+use Rattle.t_types.proofs.FitsLaws.{filled_field, fits_same}
 use Rattle.t_terms.specs.Tree.{TBase, Reg, Int, Label, Data, TValue, Plain, Pack, Mov}
 use Rattle.t_terms.specs.Tree.{TSeq, Then, TBlock, TData, TProg}
 use Rattle.t_terms.specs.Registers.{with_reg}
@@ -249,7 +249,7 @@ module _ (m : ℕ) (P Q : TProg) (labels : Labels m P Q) (tuples : Tuples m P Q)
             look_same g (slot_reg m) w,
             refl,
             look_other g (slot_reg m) (first_reg m) w (λ z. absurd (omega arith)) ∙ t1,
-            inl refl,
+            fits_same (sp m u),
             refl,
           ),
           go g2
@@ -271,7 +271,7 @@ module _ (m : ℕ) (P Q : TProg) (labels : Labels m P Q) (tuples : Tuples m P Q)
       let g2 : RegTypes = with_reg g (slot_reg m) (TupleTy (filled room.0 (suc j))) in
       let two : g2 (slot_reg m) ≡ Some w = look_same g (slot_reg m) w in (
         g2,
-        (fs, sp m u, room.2.0.0, sp m u, room.1, room.2.0.1, t1, inl refl, refl),
+        (fs, sp m u, room.2.0.0, sp m u, room.1, room.2.0.1, t1, fits_same (sp m u), refl),
         go g2
             (defined_at m (record { homes = homes; used = suc j }) rd u k k2 g2 (InSlot (suc j))
             (filled room.0 (suc j), two, filled_field room.0 (suc j) (sp m u) room.2.0.0 room.2.0.1)

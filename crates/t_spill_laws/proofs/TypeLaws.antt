@@ -1,5 +1,5 @@
 -- Types: what is spilled of a type keeps shift, put and fits.
-use Rattle.std.proofs.Common.{◌≡◌, ℕ, zero, suc, ◌+◌, ◌-◌, ◌==◌, inl, inr, List, [], ◌∷◌, map, Some, refl, ap, ap₂}
+use Rattle.std.proofs.Common.{◌≡◌, ℕ, zero, suc, ◌+◌, ◌-◌, ◌==◌, List, [], ◌∷◌, map, Some, refl, ap, ap₂}
 use Rattle.std.proofs.Common.{◌∙◌}
 use Rattle.std.proofs.Common.{sym}
 use Rattle.std.specs.Prelude.{Bool, true, false, nat_lt, if◌then◌else◌}
@@ -11,6 +11,7 @@ use Rattle.t_types.specs.Tree.{BelowFile}
 use Rattle.t_types.specs.Tree.{BelowFields, BelowTypes}
 use Rattle.t_types.specs.TreeLaws.{types_part, types_over, file_over}
 use Rattle.t_types.specs.Fields.{AField, field, filled, empty_fields}
+use Rattle.t_types.proofs.FitsLaws.{fits_equal}
 use Rattle.t_types.specs.Fits.{FieldsFit, Fits}
 use Rattle.t_terms.specs.Registers.{inst_file}
 use Rattle.t_terms.specs.Tree.{TData}
@@ -137,9 +138,8 @@ fields_fit_sp m NoFields (MoreFields u flag gs) h = h
 fields_fit_sp m (MoreFields t own fs) NoFields h = h
 
 pub fits_sp : (m : ℕ) (t u : Ty) → Fits t u → Fits (sp m t) (sp m u)
-fits_sp m t u (inl e) = inl (ap (sp m) e)
-fits_sp m t u (inr h) =
-    inr (sp_fields m h.0, sp_fields m h.1, ap (sp m) h.2, ap (sp m) h.3, fields_fit_sp m h.0 h.1 h.4)
+fits_sp m (TupleTy fs) (TupleTy gs) h = fields_fit_sp m fs gs h
+fits_sp m t u e = fits_equal (sp m t) (sp m u) (ap (sp m) e)
 
 pub field_sp : (m : ℕ) (fs : TFields) (i : ℕ) (t : Ty) (flag : Bool) → field fs i ≡ Some (AField t flag) →
     field (sp_fields m fs) i ≡ Some (AField (sp m t) flag)

@@ -510,7 +510,7 @@ entry_ok m Q P (b ∷ bs) labels h =
       (
         MoreRegs (frame_reg m) (TupleTy NoFields) NoRegs,
         (sp_block m P b, labels b refl, ap₂ CodeTy (sym h.0) (sym none)),
-        ((TupleTy NoFields, look_same (lookup NoRegs) (frame_reg m) (TupleTy NoFields), inl refl), tt),
+        ((TupleTy NoFields, look_same (lookup NoRegs) (frame_reg m) (TupleTy NoFields), tt), tt),
       ),
     )
 

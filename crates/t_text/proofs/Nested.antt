@@ -27,8 +27,8 @@ use Rattle.t_text.specs.Grammar.{open_Rs, open_Fs, open_Ts, open_V, open_I, open
 use Rattle.t_text.specs.Grammar.{open_Blocks, open_W, open_Ds, open_Tuple, open_Item, open_Items, open_Program}
 use Rattle.t_text.specs.Grammar.{assembly_grammar}
 use Rattle.t_text.specs.GrammarTable.{table, Val, OfItems}
-use Rattle.t_text.specs.Names.{insert_reg, type_of, file_of, fields_of, types_of, value_of, instr_of, names_after}
-use Rattle.t_text.specs.Names.{names_after_all, body_of, end_of, block_of, datum_of, data_of, program_of, labels_of}
+use Rattle.t_text.specs.Names.{insert_reg, type_of, file_of, fields_of, types_of, value_of, instr_of, scope_after}
+use Rattle.t_text.specs.Names.{scope_after_all, body_of, end_of, block_of, datum_of, data_of, program_of, labels_of}
 use Rattle.t_text.specs.Names.{Labels, bind, spelled}
 use Rattle.t_text.specs.Text.{most_open, Stands, StandsFor, KeepsLimit}
 use Rattle.t_text.proofs.Complete.{read_shape}
@@ -176,10 +176,10 @@ module _ (text : List ℕ) where
     end_same a RHalt = refl
 
     seq_same : (a : List Name) (is : List (RawInstr × Span)) (e : RawEnd) →
-        seq_nesting (seq_of (body_of text ls a is) (end_of text ls (names_after_all text is a) e))
+        seq_nesting (seq_of (body_of text ls a is) (end_of text ls (scope_after_all text is a) e))
         ≡ max (raw_body is) (raw_end e)
     seq_same a [] e = end_same a e ∙ omega arith
-    seq_same a (i ∷ is) e = ap₂ max (instr_same a i.0) (seq_same (names_after text i.0 a) is e) ∙ omega arith
+    seq_same a (i ∷ is) e = ap₂ max (instr_same a i.0) (seq_same (scope_after text i.0 a) is e) ∙ omega arith
 
     blocks_same : (bs : List RawBlock) → blocks_nesting (plain_blocks (map (block_of text ls) bs)) ≡ raw_blocks bs
     blocks_same [] = refl

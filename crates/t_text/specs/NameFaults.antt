@@ -9,7 +9,7 @@ use Rattle.t_text.specs.Raw.{RawTy, RInt, RName, RCode, RSome, RTuple, RawRegs, 
 use Rattle.t_text.specs.Raw.{NoRawFields, MoreRawFields, RawBase, RReg, RNum, RLabel, RawValue, RPlain, RPack}
 use Rattle.t_text.specs.Raw.{RawInstr, RArith, RBnz, RLd, RMalloc, RMov, RSt, RUnpack, RawEnd, RJmp, RHalt, RawBlock}
 use Rattle.t_text.specs.Raw.{RawDatum, RawItem, BlockItem, DataItem, item_name}
-use Rattle.t_text.specs.Names.{Labels, spelled, is_among, bind, named_by, names_after, names_after_all, labels_of}
+use Rattle.t_text.specs.Names.{Labels, spelled, is_among, bind, named_by, scope_after, scope_after_all, labels_of}
 
 -- a fault at a place, where there is one
 abbrev pub only_if : Bool → TCode → Span → List (TCode × Span)
@@ -58,7 +58,7 @@ instr_faults text ls a (RUnpack n rd v) = value_faults text ls a v
 
 abbrev pub body_faults : List ℕ → Labels → List Name → List (RawInstr × Span) → List (TCode × Span)
 body_faults text ls a [] = []
-body_faults text ls a (i ∷ is) = instr_faults text ls a i.0 ++ body_faults text ls (names_after text i.0 a) is
+body_faults text ls a (i ∷ is) = instr_faults text ls a i.0 ++ body_faults text ls (scope_after text i.0 a) is
 
 abbrev pub end_faults : List ℕ → Labels → List Name → RawEnd → List (TCode × Span)
 end_faults text ls a (RJmp v) = value_faults text ls a v
@@ -68,7 +68,7 @@ abbrev pub block_faults : List ℕ → Labels → RawBlock → List (TCode × Sp
 block_faults text ls b =
     regs_faults text (bind text b.names []) [] b.file ++
     (body_faults text ls (bind text b.names []) b.body
-    ++ end_faults text ls (names_after_all text b.body (bind text b.names [])) b.last.0)
+    ++ end_faults text ls (scope_after_all text b.body (bind text b.names [])) b.last.0)
 
 -- a data tuple stands under no type names
 abbrev pub datum_faults : List ℕ → Labels → RawDatum → List (TCode × Span)

@@ -22,8 +22,8 @@ spelled text s = slice_range text s.start s.end
 abbrev pub is_among : Name → List Name → Bool
 is_among x names = list_any (bytes_eq x) names
 
-abbrev pub place_of : Name → List Name → ℕ
-place_of x names = position_or_len (bytes_eq x) names
+abbrev pub index_in : Name → List Name → ℕ
+index_in x names = position_or_len (bytes_eq x) names
 
 -- the names in scope, innermost first, where a list binds more: its last name is the innermost
 abbrev pub bind : List ℕ → List Span → List Name → List Name
@@ -40,7 +40,7 @@ insert_reg r t (MoreRegs q u file) =
 abbrev mutual
   pub type_of : List ℕ → List Name → RawTy → Ty
   type_of text a RInt = IntTy
-  type_of text a (RName s) = VarTy (place_of (spelled text s) a)
+  type_of text a (RName s) = VarTy (index_in (spelled text s) a)
   type_of text a (RCode ns rs) = CodeTy (length ns) (file_of text (bind text ns a) rs)
   type_of text a (RSome n t) = ExistsTy (type_of text (spelled text n ∷ a) t)
   type_of text a (RTuple fs) = TupleTy (fields_of text a fs)
@@ -90,17 +90,17 @@ instr_of text ls a (RSt rd i rs) = St rd i rs
 instr_of text ls a (RUnpack n rd v) = Unpack rd (value_of text ls a v)
 
 -- an unpack binds a name in the rest of its block
-abbrev pub names_after : List ℕ → RawInstr → List Name → List Name
-names_after text (RUnpack n rd v) a = spelled text n ∷ a
-names_after text _ a = a
+abbrev pub scope_after : List ℕ → RawInstr → List Name → List Name
+scope_after text (RUnpack n rd v) a = spelled text n ∷ a
+scope_after text _ a = a
 
-abbrev pub names_after_all : List ℕ → List (RawInstr × Span) → List Name → List Name
-names_after_all text [] a = a
-names_after_all text (i ∷ is) a = names_after_all text is (names_after text i.0 a)
+abbrev pub scope_after_all : List ℕ → List (RawInstr × Span) → List Name → List Name
+scope_after_all text [] a = a
+scope_after_all text (i ∷ is) a = scope_after_all text is (scope_after text i.0 a)
 
 abbrev pub body_of : List ℕ → Labels → List Name → List (RawInstr × Span) → List (TInstr × Span)
 body_of text ls a [] = []
-body_of text ls a (i ∷ is) = (instr_of text ls a i.0, i.1) ∷ body_of text ls (names_after text i.0 a) is
+body_of text ls a (i ∷ is) = (instr_of text ls a i.0, i.1) ∷ body_of text ls (scope_after text i.0 a) is
 
 abbrev pub end_of : List ℕ → Labels → List Name → RawEnd → TEnd
 end_of text ls a (RJmp v) = Jmp (value_of text ls a v)
@@ -112,7 +112,7 @@ block_of text ls b = record {
   owes = length b.names;
   file = file_of text (bind text b.names []) b.file;
   body = body_of text ls (bind text b.names []) b.body;
-  last = end_of text ls (names_after_all text b.body (bind text b.names [])) b.last.0;
+  last = end_of text ls (scope_after_all text b.body (bind text b.names [])) b.last.0;
   last_span = b.last.1;
 }
 

@@ -1,14 +1,32 @@
 -- Laws of fits: it is an order, it goes through each walk, and fields are found and filled through it.
-use Rattle.std.proofs.Common.{◌≡◌, ℕ, zero, suc, Bool, true, false, List, [], ◌∷◌, Some, inl, inr, refl, ap, ap₂, ◌∙◌}
-use Rattle.std.proofs.Common.{IsTrue}
+use Rattle.std.proofs.Common.{◌≡◌, ℕ, zero, suc, Bool, true, false, List, [], ◌∷◌, Some, refl, ap, ap₂, ◌∙◌}
+use Rattle.std.proofs.Common.{IsTrue, ◌⊎◌, inl, inr, subst, sym}
 use Rattle.idx_core.specs.Over.{At}
-use Rattle.t_types.specs.Tree.{Ty, TFields, NoFields, MoreFields, over, over_fields, over_types}
+use Rattle.t_types.specs.Tree.{Ty, TupleTy, TFields, NoFields, MoreFields, over, over_fields, over_types}
 use Rattle.t_types.specs.Fields.{AField, field, filled, empty_fields}
 use Rattle.t_types.specs.Fits.{FieldsFit, Fits}
 
 pub fields_fit_same : (fs : TFields) → FieldsFit fs fs
 fields_fit_same NoFields = tt
 fields_fit_same (MoreFields t flag fs) = (refl, (λ x. x), fields_fit_same fs)
+
+-- a type fits itself, and where one fits another they are the same or are tuple types
+pub fits_same : (t : Ty) → Fits t t
+fits_same (TupleTy fs) = fields_fit_same fs
+fits_same t = refl
+
+pub fits_equal : (t u : Ty) → t ≡ u → Fits t u
+fits_equal t u e = subst (Fits t) e (fits_same t)
+
+pub fits_tuples : (t u : Ty) (fs gs : TFields) → t ≡ TupleTy fs → u ≡ TupleTy gs → FieldsFit fs gs → Fits t u
+fits_tuples t u fs gs a b h = subst (λ z. Fits z u) (sym a) (subst (Fits (TupleTy fs)) (sym b) h)
+
+abbrev pub FitAsTuples : Ty → Ty → Type 0
+FitAsTuples t u = (fs : TFields) × (gs : TFields) × (t ≡ TupleTy fs) × (u ≡ TupleTy gs) × FieldsFit fs gs
+
+pub fits_cases : (t u : Ty) → Fits t u → (t ≡ u) ⊎ FitAsTuples t u
+fits_cases (TupleTy fs) (TupleTy gs) h = inr (fs, gs, refl, refl, h)
+fits_cases t u e = inl e
 
 pub fields_fit_next : (a b c : TFields) → FieldsFit a b → FieldsFit b c → FieldsFit a c
 fields_fit_next NoFields NoFields c h k = k
@@ -57,15 +75,8 @@ fields_fit_over f d NoFields (MoreFields u y gs) h = h
 fields_fit_over f d (MoreFields t x fs) NoFields h = h
 
 pub fits_over : (f : At Ty) (d : ℕ) (t u : Ty) → Fits t u → Fits (over f d t) (over f d u)
-fits_over f d t u (inl e) = inl (ap (over f d) e)
-fits_over f d t u (inr h) =
-    inr (
-      over_fields f d h.0,
-      over_fields f d h.1,
-      ap (over f d) h.2,
-      ap (over f d) h.3,
-      fields_fit_over f d h.0 h.1 h.4,
-    )
+fits_over f d (TupleTy fs) (TupleTy gs) h = fields_fit_over f d fs gs h
+fits_over f d t u e = fits_equal (over f d t) (over f d u) (ap (over f d) e)
 
 pub field_over : (f : At Ty) (d : ℕ) (fs : TFields) (i : ℕ) (t : Ty) (flag : Bool) →
     field fs i ≡ Some (AField t flag) → field (over_fields f d fs) i ≡ Some (AField (over f d t) flag)

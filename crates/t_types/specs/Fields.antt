@@ -18,7 +18,11 @@ filled NoFields i = NoFields
 filled (MoreFields t flag fs) zero = MoreFields t true fs
 filled (MoreFields t flag fs) (suc i) = MoreFields t flag (filled fs i)
 
--- fields of these types, all flags 0
+-- fields of these types, each with this flag
+abbrev pub all_flagged : Bool → List Ty → TFields
+all_flagged flag [] = NoFields
+all_flagged flag (t ∷ ts) = MoreFields t flag (all_flagged flag ts)
+
+-- the same with all flags 0
 abbrev pub empty_fields : List Ty → TFields
-empty_fields [] = NoFields
-empty_fields (t ∷ ts) = MoreFields t false (empty_fields ts)
+empty_fields ts = all_flagged false ts

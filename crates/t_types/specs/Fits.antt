@@ -1,5 +1,5 @@
 -- Which type fits which (own choice: flags may be forgotten, and registers left over).
-use Rattle.std.specs.Prelude.{◌≡◌, ℕ, IsTrue, nat_eq, cond, Option, Some, None, ◌⊎◌}
+use Rattle.std.specs.Prelude.{◌≡◌, ℕ, IsTrue, nat_eq, cond, Option, Some, None}
 use Rattle.t_types.specs.Tree.{Ty, TupleTy, TFile, NoRegs, MoreRegs, TFields, NoFields, MoreFields}
 
 -- equal types in turn, and a flag is 1 only where the own is 1
@@ -9,9 +9,10 @@ FieldsFit (MoreFields t own fs) (MoreFields u flag gs) = (t ≡ u) × (IsTrue fl
 FieldsFit NoFields (MoreFields u flag gs) = ⊥
 FieldsFit (MoreFields t own fs) NoFields = ⊥
 
--- an equal type fits; a tuple type fits a tuple type that its fields fit
+-- a tuple type fits a tuple type that its fields fit; another type fits where it is the same
 abbrev pub Fits : Ty → Ty → Type 0
-Fits t u = (t ≡ u) ⊎ ((fs : TFields) × (gs : TFields) × (t ≡ TupleTy fs) × (u ≡ TupleTy gs) × FieldsFit fs gs)
+Fits (TupleTy fs) (TupleTy gs) = FieldsFit fs gs
+Fits t u = t ≡ u
 
 -- what is known of the registers: a type for some of them
 abbrev pub RegTypes : Type 0

@@ -2,6 +2,7 @@ pub mod Bounds
 pub mod Fields
 pub mod Fits
 pub mod Laws
+pub mod Props
 pub mod Read
 pub mod Tree
 pub mod TreeLaws

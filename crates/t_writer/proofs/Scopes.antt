@@ -6,7 +6,7 @@ use Rattle.std.proofs.lemmas.Slice.Eq.{bytes_eq-Decides}
 use Rattle.std.proofs.lemmas.Fmt.{decimal_injective}
 use Rattle.idx_core.specs.Names.{Name}
 use Rattle.t_terms.specs.Tree.{Label, Data}
-use Rattle.t_text.specs.Names.{Labels, is_among, place_of, named_by}
+use Rattle.t_text.specs.Names.{Labels, is_among, index_in, named_by}
 
 abbrev pub type_name : ℕ → Name
 type_name n = 84 ∷ decimal n
@@ -66,7 +66,7 @@ other_number b m n e q =
 -- a name is found at its place
 pub record Found (x : Name) (names : List Name) (i : ℕ) : Type 0 where
   pub among : is_among x names ≡ true
-  pub at : place_of x names ≡ i
+  pub at : index_in x names ≡ i
 
 found_first : (x y : Name) (ns : List Name) → bytes_eq x y ≡ true → Found x (y ∷ ns) 0
 found_first x y ns e = record { among = rw e refl; at = rw e refl }

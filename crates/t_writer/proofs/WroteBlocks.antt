@@ -12,7 +12,7 @@ use Rattle.t_terms.specs.Tree as tree_of
 use Rattle.t_terms.specs.Spanned.{seq_of, plain, plain_blocks}
 use Rattle.t_text.specs.Raw.{RawInstr, RawEnd, RawBlock, RawItem, BlockItem, block_items}
 use Rattle.t_text.specs.Grammar.{Is, is_none, is_more, End, Block, b_block, Blocks, bs_more, it_block, Items, its_more}
-use Rattle.t_text.specs.Names.{spelled, bind, names_after_all, body_of, end_of, block_of, Labels, item_labels}
+use Rattle.t_text.specs.Names.{spelled, bind, scope_after_all, body_of, end_of, block_of, Labels, item_labels}
 use Rattle.t_text.specs.NameFaults.{body_faults, end_faults, block_faults, items_faults}
 use Rattle.t_terms.specs.Whole.{WellFormedSeq, WellFormedBlock, WellFormedBlocks}
 use Rattle.t_writer.specs.Ints.{SeqFits, BlocksFit}
@@ -49,10 +49,10 @@ module _ (text : List ℕ) (p q : ℕ) (few : p ≤ 2 ^ 64) (small : q ≤ 2 ^ 6
     extend : (u : List Token) (is : List (RawInstr × Span)) → Is u is → Is (u ++ code) (is ++ body)
     ends : End tail last
     fine : (b : Bool) → Fine (seq_written d c) b
-    means : seq_of (body_of text names (scope d) body) (end_of text names (names_after_all text body (scope d)) last.0)
+    means : seq_of (body_of text names (scope d) body) (end_of text names (scope_after_all text body (scope d)) last.0)
         ≡ c
     none : body_faults text names (scope d) body ≡ []
-    none_last : end_faults text names (names_after_all text body (scope d)) last.0 ≡ []
+    none_last : end_faults text names (scope_after_all text body (scope d)) last.0 ≡ []
 
   wrote_seq : (i d : ℕ) (c : TSeq) → d ≤ max_names → WellFormedSeq p q d c → SeqFits c →
       Written text i (seq_written d c) → WroteSeq i d c

@@ -20,7 +20,7 @@ use Rattle.t_text.specs.Raw.{RMov, RSt, RUnpack, RawEnd, RJmp, RHalt, Piece, end
 use Rattle.t_text.specs.Grammar.{tok, N, n_reg, n_plain, n_negative, n_label, V, v_base, v_apply, v_pack, IsOp, is_add}
 use Rattle.t_text.specs.Grammar.{is_sub, is_mul, I, i_arith, i_bnz, i_ld, i_malloc_none, i_malloc, i_mov, i_st}
 use Rattle.t_text.specs.Grammar.{i_unpack, End, e_jmp, e_halt}
-use Rattle.t_text.specs.Names.{Labels, spelled, named_by, base_of, value_of, instr_of, names_after, end_of}
+use Rattle.t_text.specs.Names.{Labels, spelled, named_by, base_of, value_of, instr_of, scope_after, end_of}
 use Rattle.t_text.specs.NameFaults.{base_faults, value_faults, instr_faults, end_faults}
 use Rattle.t_terms.specs.Whole.{WellFormedBase, WellFormedValue, WellFormedInstr, WellFormedEnd}
 use Rattle.t_writer.specs.Ints.{IntFits, BaseFits, ValueFits, InstrFits, EndFits}
@@ -212,7 +212,7 @@ module _ (text : List ℕ) (p q : ℕ) (few : p ≤ 2 ^ 64) (small : q ≤ 2 ^ 6
     pub fine : Fine (instr_written d x) true
     pub means : instr_of text labels (scope d) raw.0 ≡ x
     pub none : instr_faults text labels (scope d) raw.0 ≡ []
-    pub after : names_after text raw.0 (scope d) ≡ scope (tree_of.names_after x d)
+    pub after : scope_after text raw.0 (scope d) ≡ scope (tree_of.names_after x d)
 
   pub wrote_instr : (i d : ℕ) (x : TInstr) → d ≤ max_names → WellFormedInstr p q d x → InstrFits x →
       Written text i (instr_written d x) → WroteInstr i d x

@@ -8,7 +8,7 @@ use Rattle.t_types.specs.Tree.{Ty, IntTy, VarTy, CodeTy, ExistsTy, TupleTy, TFil
 use Rattle.t_types.specs.Tree.{MoreFields}
 use Rattle.t_types.specs.Fields.{field}
 use Rattle.t_types.specs.Fits.{lookup, FieldsFit, Fits}
-use Rattle.t_types.proofs.FitsLaws.{fields_fit_same}
+use Rattle.t_types.proofs.FitsLaws.{fields_fit_same, fits_cases, fits_equal}
 use Rattle.t_types.specs.WellFormed.{WellFormed, RegsAbove, WellFormedFields}
 use Rattle.type_path.specs.Paths.{Path, place, and_then, follow, IsFirst, or_else, inside}
 use Rattle.type_path.specs.Assembly.{Part, Whole, FlagOf, type_head, head, type_of_field, flag_of_field, type_into}
@@ -552,18 +552,21 @@ fits_taken (MoreFields t x fs) (MoreFields u y gs) h =
 
 asked_fits : (wanted found : Ty) → asked wanted found ≡ found → Fits found wanted
 asked_fits (TupleTy fs) (TupleTy gs) e =
-    let same : taken true fs gs ≡ gs = cc in inr (gs, fs, refl, refl, taken_fits fs gs same)
-asked_fits wanted found e = inl (sym e)
+    let same : taken true fs gs ≡ gs = cc in taken_fits fs gs same
+asked_fits wanted found e = fits_equal found wanted (sym e)
 
 same_asked : (t : Ty) → asked t t ≡ t
 same_asked (TupleTy fs) = ap TupleTy (fits_taken fs fs (fields_fit_same fs))
 same_asked t = refl
 
 fits_asked : (wanted found : Ty) → Fits found wanted → asked wanted found ≡ found
-fits_asked wanted found (inl e) = subst (λ w. asked w found ≡ found) e (same_asked found)
-fits_asked wanted found (inr h) =
-    subst (λ w. asked w found ≡ found) (sym h.3)
-    (subst (λ f. asked (TupleTy h.1) f ≡ f) (sym h.2) (ap TupleTy (fits_taken h.1 h.0 h.4)))
+fits_asked (TupleTy fs) (TupleTy gs) h = ap TupleTy (fits_taken fs gs h)
+fits_asked wanted found h =
+    elim (fits_cases found wanted h) [
+      | inl e ↦ subst (λ w. asked w found ≡ found) e (same_asked found)
+      | inr k ↦ subst (λ w. asked w found ≡ found) (sym k.3)
+          (subst (λ f. asked (TupleTy k.1) f ≡ f) (sym k.2) (ap TupleTy (fits_taken k.1 k.0 k.4)))
+    ]
 
 pub misfit_none : (wanted found : Ty) → misfit wanted found ≡ None ↔ Fits found wanted
 misfit_none wanted found = (

@@ -3,7 +3,7 @@ use Rattle.t_types.specs.Tree.{Ty, TupleTy}
 use Rattle.t_intern.specs.Grown.{IsNumber}
 use Rattle.t_intern.specs.Spread.{types_at}
 use Rattle.t_intern.proofs.Growing.{grown_next}
-use Rattle.t_known.specs.Labels.{all_flagged}
+use Rattle.t_types.specs.Fields.{all_flagged}
 use Rattle.t_known.proofs.Numbering.{data_flagged}
 use Rattle.t_known.proofs.labels.number_tuple.Goals as goal
 

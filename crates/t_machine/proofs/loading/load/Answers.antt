@@ -10,7 +10,7 @@ use Rattle.t_machine.specs.Code.{all_moved}
 use Rattle.t_collect.specs.Tuples.{starts_from}
 use Rattle.t_machine.specs.Heap.{AllStarted}
 use Rattle.t_machine.specs.Laid.{IsLaid, IsNamed}
-use Rattle.t_machine.specs.State.{Shows}
+use Rattle.t_machine.specs.State.{Represents}
 use Rattle.t_machine.proofs.Starting.{tuples_of, starts}
 use Rattle.t_terms.specs.Whole.{WellFormedBlocks, WellFormedHeap}
 use Rattle.t_machine.proofs.There.{data_count}
@@ -90,7 +90,7 @@ returns-clause-stands c =
     c.new-registers.result.items c.new-registers.ensures.items _
     c.new-registers.ensures.len c.resize.new.self.items c.in_ok-resize.ensures.items c.index-at.result.now
     c.index-at.ensures in
-    subst (λ (q : TProgram). Shows (program q) 0 c.in_ok-heap.heap c.resize.new.self.items c.in_ok-code.code
+    subst (λ (q : TProgram). Represents (program q) 0 c.in_ok-heap.heap c.resize.new.self.items c.in_ok-code.code
     c.index-at.result.now) c.program-program.ensures.same shows
 
 pub returns-clause-laid : goal.returns-clause-laid

@@ -8,7 +8,7 @@ use Rattle.t_terms.specs.declared.instr.Instr.{Instr}
 use Rattle.t_rules.specs.Erase.{erase_instr, erase_end, erase_seq}
 use Rattle.t_machine.specs.Action.{action}
 use Rattle.t_machine.specs.Code.{IsInstr, IsEnd, HoldsBlocks}
-use Rattle.t_machine.specs.Laid.{size, sizes, begins, InInstr, InBlock, Adds}
+use Rattle.t_machine.specs.Laid.{size, sizes, begins, InInstruction, InBlock, Adds}
 use Rattle.t_machine.specs.Lowering.{IsLoaded}
 use Rattle.t_machine.specs.declared.code.Instruction.{Instruction}
 use Rattle.t_machine.proofs.Laying.{size_of_end, adds_none, adds_both}
@@ -69,7 +69,7 @@ loop-step-preserved c =
     let counts : size all ≡ length inv.done + suc (size (erase_seq (seq_of (body (drop (i + 1) xs)) e))) =
     subst (λ (ys : List (Instr × Span)). size all ≡ length inv.done + size (erase_seq (seq_of (body ys) e))) next
     inv.counted in
-    let parts : (r : ℕ) → InInstr (erase_instr (instr x.0)) r ⊎ InBlock
+    let parts : (r : ℕ) → InInstruction (erase_instr (instr x.0)) r ⊎ InBlock
     (erase_seq (seq_of (body (drop (i + 1) xs)) e)) r → InBlock all r =
     subst (λ (ys : List (Instr × Span)). (r : ℕ) → InBlock (erase_seq (seq_of (body ys) e)) r →
     InBlock all r) next inv.part in
@@ -85,7 +85,8 @@ loop-step-preserved c =
         counted = omega (arith, counts, length-append inv.done (o ∷ []));
         part = λ r h. parts r (inr h);
         named = adds_both c.args.code.now.places l.code.places p (InBlock all)
-            (InInstr (erase_instr (instr x.0))) (InBlock all) inv.named c.in_ok-instruction.ensures.named (λ r h. h)
+            (InInstruction (erase_instr (instr x.0))) (InBlock all) inv.named
+            c.in_ok-instruction.ensures.named (λ r h. h)
             (λ r h. parts r (inl h));
       };
       started = λ before.

@@ -4,7 +4,7 @@ use Rattle.t_rules.specs.Erase.{erase_instr}
 use Rattle.t_terms.specs.declared.instr.Instr.{Instr}
 use Rattle.t_machine.specs.Action.{Action}
 use Rattle.t_machine.specs.Code.{IsInstr}
-use Rattle.t_machine.specs.Laid.{InInstr, Adds}
+use Rattle.t_machine.specs.Laid.{InInstruction, Adds}
 use Rattle.t_terms.specs.Whole.{WellFormedInstr}
 use Rattle.t_machine.proofs.loading.load_instr.Goals as goal
 
@@ -42,23 +42,23 @@ returns-in_ok-v-in-Arith-clause-same c =
 pub returns-in-Mov-clause-named : goal.returns-in-Mov-clause-named
 returns-in-Mov-clause-named c =
     subst (λ (i : Instr). OnOk c.load_move.result
-    (Adds c.args.places.now c.load_move.new.places (InInstr (erase_instr (instr_tree i))))) (sym c.in-Mov.is)
+    (Adds c.args.places.now c.load_move.new.places (InInstruction (erase_instr (instr_tree i))))) (sym c.in-Mov.is)
     c.load_move.ensures.named
 
 pub returns-in-Unpack-clause-named : goal.returns-in-Unpack-clause-named
 returns-in-Unpack-clause-named c =
     subst (λ (i : Instr). OnOk c.load_move-in-Unpack.result
-    (Adds c.args.places.now c.load_move-in-Unpack.new.places (InInstr (erase_instr (instr_tree i)))))
+    (Adds c.args.places.now c.load_move-in-Unpack.new.places (InInstruction (erase_instr (instr_tree i)))))
     (sym c.in-Unpack.is) c.load_move-in-Unpack.ensures.named
 
 pub returns-in-Ld-clause-named : goal.returns-in-Ld-clause-named
 returns-in-Ld-clause-named c =
     subst (λ (i : Instr). OnOk c.load_read.result
-    (Adds c.args.places.now c.load_read.new.places (InInstr (erase_instr (instr_tree i))))) (sym c.in-Ld.is)
+    (Adds c.args.places.now c.load_read.new.places (InInstruction (erase_instr (instr_tree i))))) (sym c.in-Ld.is)
     c.load_read.ensures.named
 
 pub returns-in-St-clause-named : goal.returns-in-St-clause-named
 returns-in-St-clause-named c =
     subst (λ (i : Instr). OnOk c.load_write.result
-    (Adds c.args.places.now c.load_write.new.places (InInstr (erase_instr (instr_tree i))))) (sym c.in-St.is)
+    (Adds c.args.places.now c.load_write.new.places (InInstruction (erase_instr (instr_tree i))))) (sym c.in-St.is)
     c.load_write.ensures.named

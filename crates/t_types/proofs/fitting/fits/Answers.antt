@@ -1,5 +1,5 @@
-use Rattle.std.proofs.Common.{inr}
 use Rattle.t_types.proofs.Trees.{tree_is_tuple}
+use Rattle.t_types.proofs.FitsLaws.{fits_tuples}
 use Rattle.t_types.proofs.FitPlaces.{tuples_fit}
 use Rattle.t_types.proofs.fitting.fits.Goals as goal
 
@@ -7,4 +7,5 @@ pub returns-in-Tuple-Tuple : goal.returns-in-Tuple-Tuple
 returns-in-Tuple-Tuple c =
     let a = tree_is_tuple _ _ _ c.in-Tuple-Tuple.is-0 c.deref.ensures.value in
     let b = tree_is_tuple _ _ _ c.in-Tuple-Tuple.is-1 c.deref-in-Tuple-Tuple.ensures.value in
-    ((λ h. inr (_, _, a, b, c.fields_fit.ensures.0 h)), (λ h. c.fields_fit.ensures.1 (tuples_fit _ _ _ _ a b h)))
+    let is = c.fields_fit.ensures in
+    ((λ h. fits_tuples _ _ _ _ a b (is.0 h)), (λ h. is.1 (tuples_fit _ _ _ _ a b h)))

@@ -3,7 +3,7 @@ use Rattle.t_types.specs.Tree.{Ty, shift}
 use Rattle.t_known.specs.declared.refusal.Refusal.{Refusal}
 use Rattle.t_intern.specs.Nodes.{at}
 use Rattle.t_known.specs.Known.{known, own}
-use Rattle.t_check.specs.Verdict.{IsInteger}
+use Rattle.t_check.specs.Verdict.{IsIntegerIn}
 use Rattle.t_check.proofs.Loads.{no_int}
 use Rattle.t_known.proofs.Sets.{int_marked, unmarked_int}
 use Rattle.t_check.proofs.checker.Checker.check_int.Goals as goal
@@ -21,6 +21,7 @@ returns-else-is_int c =
     let k = c.args.self.now.registers in
     let e = c.in-Some.entry in
     let found = c.in-Some.ensures.found ts c.requires in
-    subst (λ (r : Result (Unit {0}) Refusal). IsInteger ts (known ts k) c.args.r c.args.span r) (sym c.refused.ensures)
+    subst (λ (r : Result (Unit {0}) Refusal). IsIntegerIn ts (known ts k) c.args.r c.args.span r)
+    (sym c.refused.ensures)
     (no_int (known ts k) c.args.r (k.names - e.names) c.args.span (own ts e) found.0
     (λ h. true≢false (sym (c.if-is_int.ensures.1 (unmarked_int ts e.marks (at ts e.ty) h)))))

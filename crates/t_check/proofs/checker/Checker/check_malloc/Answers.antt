@@ -7,11 +7,10 @@ use Rattle.t_intern.specs.Spread.{types_at}
 use Rattle.t_intern.proofs.Growing.{grown_next}
 use Rattle.t_types.specs.Bounds.{Bounded}
 use Rattle.t_known.specs.Known.{known}
-use Rattle.t_known.specs.Labels.{all_flagged}
+use Rattle.t_types.specs.Fields.{all_flagged}
 use Rattle.t_check.proofs.Blocks.{types_below}
 use Rattle.t_rules.proofs.Depth.{empty_shallow}
 use Rattle.t_known.proofs.Noting.{noted_since, sound_grown}
-use Rattle.t_known.proofs.Numbering.{empty_flagged}
 use Rattle.t_check.proofs.checker.Checker.check_malloc.Goals as goal
 
 pub tuple_of-requires : goal.tuple_of-requires
@@ -30,8 +29,7 @@ returns-clause-step c = λ s.
     let grown = grown_next ts us vs c.in_ok-fields.ensures.grown c.in_ok-n.ensures.grown in
     let same = ap (λ (ns : List ℕ). types_at us ns) c.deref.ensures.value ∙ c.in_ok-fields.ensures.numbers.0 in
     let number = c.in_ok-n.ensures.number in
-    let is =
-    number.1 ∙ ap (λ (xs : List Ty). TupleTy (all_flagged false xs)) same ∙ ap TupleTy (empty_flagged fields) in
+    let is = number.1 ∙ ap (λ (xs : List Ty). TupleTy (all_flagged false xs)) same in
     let noted = c.in_ok-note.ensures vs (sound_grown ts vs grown k sound) number.0
     (subst (Bounded k.names) (sym is) (empty_shallow k.names fields c.requires.fields)) in
     let since = noted_since ts vs k c.note.new.self c.args.rd (at vs c.in_ok-n.n) grown sound noted in (

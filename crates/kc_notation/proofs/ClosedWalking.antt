@@ -12,7 +12,7 @@ use Rattle.c_terms.specs.Stream.{CNd, MTuple, MEnd, MApply, MPack, MName, MProj,
 use Rattle.c_terms.specs.Stream.{MCall, MIf, MElse, MHalt, cwidth, clin_v, clin_vs, clin_d, clin_t}
 use Rattle.c_terms.specs.Scope.{CScoped, CScoped_d, CScoped_v, CScoped_vs}
 use Rattle.c_terms.specs.Typing.{cargs_onto}
-use Rattle.let_types.specs.Closed.{decl_type, names_behind, value_type, value_types}
+use Rattle.let_types.specs.Closed.{decl_type, names_behind, types_behind, value_type, value_types}
 use Rattle.let_types.specs.Known.{Frame, Known, declare, enter, entry_of, last_type, named, nothing, own, put}
 use Rattle.let_types.specs.Parts.{applied_type, field_type, held_type, opened_type}
 use Rattle.let_types.proofs.Knowing.{but_last_snoc, with_frames, with_names}
@@ -20,7 +20,7 @@ use Rattle.kc_notation.specs.declared.page.Scope.{Scope}
 use Rattle.let_types.specs.TypeTexts.{type_text, types_text}
 use Rattle.kc_notation.specs.ClosedNotation.{applied_text, bound_text, c_text, decl_note, declared_text, head_text}
 use Rattle.let_types.specs.TypeTexts.{note_text}
-use Rattle.kc_notation.specs.ClosedNotation.{term_text, types_behind, value_text, values_after}
+use Rattle.kc_notation.specs.ClosedNotation.{term_text, value_text, values_after}
 use Rattle.kc_notation.specs.ClosedWalk.{Lines, Sheet, scope_of, with_text, with_values, push, gathered, past, shut}
 use Rattle.kc_notation.specs.ClosedWalk.{name_note}
 use Rattle.kc_notation.specs.ClosedWalk.{step, walk, blank}
@@ -242,12 +242,16 @@ module _ (b : Bool) where
         let p = sheet text n k bs ls in
         let w = value_text b n m k v in
         let t = opened_type (value_type g v) in
+        let more : n + 1 ≡ suc n = omega arith in
         of_value v m g (MUnpack m ∷ rest) κ p s h
         ∙ named_as (MUnpack m) κ (push p w) rest m (n + 1) (opened_type (last_type n (put κ (seen m n g v)))) t h.long
         (ap opened_type (last_is κ.body.names m n g h κ.body.values v s))
         ∙ ap (λ x. walk b rest (declare m (n + 1) t κ) (sheet x (n + 1) k bs ls)) (unpack_line text (margin k)
         (codes "let ") (codes "[") (type_name n) (codes ", ") (value_name m) (note_text b (n + 1) t) (codes "]")
         (codes " = ") (codes "unpack ") w (codes "\n"))
+        ∙ ap (λ j. walk b rest (declare m j t κ) (sheet (text ++ (margin k ++ codes "let "
+        ++ bound_text n m (note_text b j t) (CUnpack v) ++ codes " = " ++ declared_text b n m k (CUnpack v)
+        ++ codes "\n")) j k bs ls)) more
     of_decl (CCell v) m n k g text bs ls rest κ s h =
         let p = sheet text n k bs ls in
         let w = value_text b n m k v in

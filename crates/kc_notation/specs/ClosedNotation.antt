@@ -8,7 +8,7 @@ use Rattle.c_terms.specs.C.{CVals, NoCVals, MoreCVals, CDecl, CName, CProj, CAri
 use Rattle.c_terms.specs.C.{CUnpack, CCell, CGet, CSet, CTm, CLet, CCall, CIf}
 use Rattle.c_terms.specs.C.{CHalt, ccount}
 use Rattle.c_terms.specs.Typing.{cargs_onto}
-use Rattle.let_types.specs.Closed.{decl_type, names_behind}
+use Rattle.let_types.specs.Closed.{decl_type, names_behind, types_behind}
 use Rattle.let_types.specs.TypeTexts.{note_text, type_text, types_text}
 
 -- the arguments of a code with their types, with so many before them
@@ -28,23 +28,8 @@ applied_text n (MoreCTys t ts) = codes "[" ++ types_text n (MoreCTys t ts) ++ co
 
 -- what is declared, of a name that has m names around it, with a text behind the name
 abbrev pub bound_text : ℕ → ℕ → List ℕ → CDecl → List ℕ
-bound_text n m note (CName v) = value_name m ++ note
-bound_text n m note (CProj i v) = value_name m ++ note
-bound_text n m note (CArith op v w) = value_name m ++ note
 bound_text n m note (CUnpack v) = codes "[" ++ type_name n ++ codes ", " ++ value_name m ++ note ++ codes "]"
-bound_text n m note (CCell v) = value_name m ++ note
-bound_text n m note (CGet v) = value_name m ++ note
-bound_text n m note (CSet v w) = value_name m ++ note
-
--- how many type names there are behind a declaration
-abbrev pub types_behind : ℕ → CDecl → ℕ
-types_behind n (CName v) = n
-types_behind n (CProj i v) = n
-types_behind n (CArith op v w) = n
-types_behind n (CUnpack v) = n + 1
-types_behind n (CCell v) = n
-types_behind n (CGet v) = n
-types_behind n (CSet v w) = n
+bound_text n m note _ = value_name m ++ note
 
 -- what stands behind the name that a declaration gives, where the types of the names are g: the type that typing gives
 -- it

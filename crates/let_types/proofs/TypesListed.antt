@@ -1,7 +1,7 @@
 -- Types that a loop goes over, and what is written of them.
 use Rattle.std.proofs.Common.{◌≡◌, ◌≤◌, ◌<◌, ℕ, suc, ◌+◌, ◌-◌, Bool, true, false, List, [], ◌∷◌, ◌++◌, length, drop}
 use Rattle.std.proofs.Common.{get_or, refl, sym, ◌∙◌, ap, subst, arith, append_assoc, codes, ◌&&◌}
-use Rattle.std.proofs.Common.{◌||◌}
+use Rattle.std.proofs.Common.{◌||◌, ◌==◌, true≢false}
 use Rattle.std.proofs.lemmas.List.{append-nil}
 use Rattle.std.proofs.Math.ListN.{drop_of_length-le}
 use Rattle.page_core.specs.Names.{separator, type_names}
@@ -9,7 +9,7 @@ use Rattle.c_terms.specs.C.{CTys, TCTuple, TCCode}
 use Rattle.c_terms.specs.Read.{ctree, ctys}
 use Rattle.calc_core.specs.declared.types.CoreType.{CoreType as CType}
 use Rattle.let_types.specs.TypeTexts.{names_variable, one_names_variable, type_text, types_after, closure_code}
-use Rattle.let_types.specs.TypeTexts.{others_text, takes_hidden, are_closure}
+use Rattle.let_types.specs.TypeTexts.{applied_text, others_text, takes_hidden, types_text, are_closure}
 use Rattle.idx_core.proofs.Lists.{next_item}
 
 -- the variable is named by the next type, or is not
@@ -91,3 +91,10 @@ no_closure [] h = refl
 no_closure (t ∷ []) h = and_false (takes_hidden (ctree t))
 no_closure (t ∷ u ∷ []) h = absurd (h refl)
 no_closure (t ∷ u ∷ v ∷ ts) h = and_false (takes_hidden (ctree t))
+
+-- types behind a value
+pub applied_done : (n : ℕ) (us : List CType) (b : Bool) (t1 t2 t3 : List ℕ) → b ≡ (length us == 0) → b ≡ false →
+    t1 ≡ codes "[" → t2 ≡ t1 ++ types_text n (ctys us) → t3 ≡ t2 ++ codes "]" → t3 ≡ applied_text n (ctys us)
+applied_done n [] b t1 t2 t3 e f e1 e2 e3 = let clash : true ≡ false = sym e ∙ f in absurd (true≢false clash)
+applied_done n (u ∷ us) b t1 t2 t3 e f e1 e2 e3 =
+    e3 ∙ ap (λ (s : List ℕ). s ++ codes "]") (e2 ∙ ap (λ (s : List ℕ). s ++ types_text n (ctys (u ∷ us))) e1)

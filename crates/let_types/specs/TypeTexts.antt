@@ -25,12 +25,8 @@ abbrev mutual
   one_names_variable v (MoreCTys t ts) = names_variable v t || one_names_variable v ts
 
 abbrev pub is_variable : ℕ → CTy → Bool
-is_variable v TCInt = false
 is_variable v (TCVar i) = i == v
-is_variable v (TCTuple ts) = false
-is_variable v (TCCode owes args) = false
-is_variable v (TCExists t) = false
-is_variable v (TCRef t) = false
+is_variable v _ = false
 
 -- whether the variable v is the first of several types, and no other one names it
 abbrev pub only_first : ℕ → CTys → Bool
@@ -40,12 +36,8 @@ only_first v (MoreCTys t ts) = is_variable v t && not (one_names_variable v ts)
 -- whether a type is that of a code whose first argument is the variable that is 0 outside of it, and no other argument
 -- names that
 abbrev pub takes_hidden : CTy → Bool
-takes_hidden TCInt = false
-takes_hidden (TCVar i) = false
-takes_hidden (TCTuple ts) = false
 takes_hidden (TCCode owes args) = only_first owes args
-takes_hidden (TCExists t) = false
-takes_hidden (TCRef t) = false
+takes_hidden _ = false
 
 -- whether these are the variable 0 alone
 abbrev pub is_hidden : CTys → Bool
@@ -59,12 +51,8 @@ are_closure NoCTys = false
 are_closure (MoreCTys t ts) = takes_hidden t && is_hidden ts
 
 abbrev pub is_closure : CTy → Bool
-is_closure TCInt = false
-is_closure (TCVar i) = false
 is_closure (TCTuple ts) = are_closure ts
-is_closure (TCCode owes args) = false
-is_closure (TCExists t) = false
-is_closure (TCRef t) = false
+is_closure _ = false
 
 -- the text of a type inside n type names, and of several with so many before them. `some b. <code[as](b, ts), b>` is
 -- `closure[as](ts)` where ts don't name b, which takes a name all the same
@@ -85,25 +73,17 @@ abbrev mutual
 
   -- the text of a closure, of what stands behind `some`, inside the name of what is hidden too
   pub closure_text : ℕ → CTy → List ℕ
-  closure_text n TCInt = []
-  closure_text n (TCVar i) = []
   closure_text n (TCTuple ts) = closure_fields n ts
-  closure_text n (TCCode owes args) = []
-  closure_text n (TCExists t) = []
-  closure_text n (TCRef t) = []
+  closure_text n _ = []
 
   pub closure_fields : ℕ → CTys → List ℕ
   closure_fields n NoCTys = []
   closure_fields n (MoreCTys t ts) = closure_code n t
 
   pub closure_code : ℕ → CTy → List ℕ
-  closure_code n TCInt = []
-  closure_code n (TCVar i) = []
-  closure_code n (TCTuple ts) = []
   closure_code n (TCCode owes args) =
       codes "closure" ++ type_names n owes ++ codes "(" ++ others_text (n + owes) args ++ codes ")"
-  closure_code n (TCExists t) = []
-  closure_code n (TCRef t) = []
+  closure_code n _ = []
 
   -- all but the first
   pub others_text : ℕ → CTys → List ℕ
@@ -117,3 +97,15 @@ types_text n ts = types_after 0 n ts
 abbrev pub note_text : Bool → ℕ → CTy → List ℕ
 note_text true n t = codes ": " ++ type_text n t
 note_text false n t = []
+
+-- what stands behind a value that is applied to types
+abbrev pub applied_text : ℕ → CTys → List ℕ
+applied_text n NoCTys = []
+applied_text n ts = codes "[" ++ types_text n ts ++ codes "]"
+
+-- what stands in front of a package's value, and behind it
+abbrev pub pack_front : ℕ → CTy → List ℕ
+pack_front n h = codes "pack [" ++ (type_text n h ++ codes ", ")
+
+abbrev pub pack_behind : ℕ → CTy → List ℕ
+pack_behind n s = codes "] as " ++ type_text n s

@@ -3,12 +3,13 @@ ghost use Rattle.std.specs.Prelude.{◌≡◌, ◌++◌, ◌+◌, drop, codes, I
 ghost use Rattle.page_core.specs.Names.{type_name, type_names};
 ghost use Rattle.c_terms.specs.Read.{ctree, ctys};
 ghost use Rattle.let_types.specs.TypeTexts.{type_text, types_text, types_after, closure_text, closure_fields};
-ghost use Rattle.let_types.specs.TypeTexts.{closure_code};
+ghost use Rattle.let_types.specs.TypeTexts.{applied_text, closure_code, pack_behind, pack_front};
 
 use crate::closures::is_closure;
 use c_terms::CType;
 use idx_core::{OutOfMemory, sum};
 use page_core::{write_separator, write_type_name, write_type_names};
+use std::alloc::Global;
 
 // What a code or a closure begins with, up to its arguments, and how many type names are around these.
 fn write_owed(text: &mut Vec<u8>, word: &[u8], depth: u64, owes: u64) -> Result<u64, OutOfMemory>
@@ -126,4 +127,36 @@ pub fn write_types(text: &mut Vec<u8>, ts: &[CType], depth: u64) -> Result<(), O
     ensures { OnOk result (text.new.items ≡ text.old.items ++ types_text depth (ctys ts.now)) }
 {
     write_from(text, ts, 0, depth)
+}
+
+/// What stands behind a value that is applied to types. An error is as that of `write_type`.
+pub fn types_applied(alloc: Global, ts: &[CType], depth: u64) -> Result<Vec<u8>, OutOfMemory>
+    ensures { IfOk result (λ text. text.items ≡ applied_text depth (ctys ts.now)) }
+{
+    if ts.is_empty() {
+        return Ok(Vec::new(alloc));
+    }
+    let mut text = Vec::from_slice(alloc, b"[")?;
+    write_types(&mut text, ts, depth)?;
+    text.extend_from_slice(b"]")?;
+    Ok(text)
+}
+
+/// What stands in front of the value in a package. An error is as that of `write_type`.
+pub fn before_packed(alloc: Global, hidden: &CType, depth: u64) -> Result<Vec<u8>, OutOfMemory>
+    ensures { IfOk result (λ text. text.items ≡ pack_front depth (ctree hidden.now)) }
+{
+    let mut text = Vec::from_slice(alloc, b"pack [")?;
+    write_type(&mut text, hidden, depth)?;
+    text.extend_from_slice(b", ")?;
+    Ok(text)
+}
+
+/// What stands behind it. An error is as that of `write_type`.
+pub fn behind_packed(alloc: Global, shape: &CType, depth: u64) -> Result<Vec<u8>, OutOfMemory>
+    ensures { IfOk result (λ text. text.items ≡ pack_behind depth (ctree shape.now)) }
+{
+    let mut text = Vec::from_slice(alloc, b"] as ")?;
+    write_type(&mut text, shape, depth)?;
+    Ok(text)
 }

@@ -5,16 +5,11 @@ use Rattle.std.specs.Prelude.{ℕ, suc, ◌+◌, ◌-◌, Bool, List, [], ◌∷
 use Rattle.c_terms.specs.C.{CTy, CTys, MoreCTys, NoCTys, ccount}
 use Rattle.c_terms.specs.Typing.{cargs_onto}
 pub use Rattle.let_types.specs.TypeTexts.{note_text}
-use Rattle.let_types.specs.TypeTexts.{type_text, types_text}
+use Rattle.let_types.specs.TypeTexts.{applied_text, pack_behind, pack_front, type_text, types_text}
 use Rattle.h_terms.specs.H.{HApply, HArith, HBlk, HBlks, HCall, HCell, HDecl, HGet, HHalt, HIf, HInt, HLabel, HLet}
 use Rattle.h_terms.specs.H.{HName, HPack, HProj, HSet, HTm, HTuple, HUnpack, HVal, HVals, HVar, MoreHVals, NoHVals}
 use Rattle.let_types.specs.Hoisted.{decl_type, names_behind, types_behind}
 use Rattle.page_core.specs.Names.{margin, number, op_sign, separator, type_name, type_names, value_name}
-
--- the types that a value is applied to, where there are any
-abbrev pub applied_text : ℕ → CTys → List ℕ
-applied_text n NoCTys = []
-applied_text n (MoreCTys t ts) = codes "[" ++ (types_text n (MoreCTys t ts) ++ codes "]")
 
 abbrev mutual
   -- a value inside n type names and m value names
@@ -25,8 +20,7 @@ abbrev mutual
   value_text n m (HTuple vs) = codes "<" ++ (values_text 0 n m vs ++ codes ">")
   value_text n m (HApply v ts) = value_text n m v ++ applied_text n ts
   value_text n m (HPack hidden v shape) =
-      codes "pack ["
-      ++ (type_text n hidden ++ (codes ", " ++ (value_text n m v ++ (codes "] as " ++ type_text n shape))))
+      pack_front n hidden ++ (value_text n m v ++ pack_behind n shape)
 
   -- values, where i stand before them
   pub values_text : ℕ → ℕ → ℕ → HVals → List ℕ

@@ -3,6 +3,7 @@ pub mod Listed
 pub mod Pages
 mod ClosedRows
 pub mod Sheets
+mod Texts
 pub mod ClosedStepping
 pub mod Turns
 pub mod ClosedWalking

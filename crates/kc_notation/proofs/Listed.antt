@@ -1,13 +1,13 @@
 -- Types that a loop goes over, and what is written of them.
-use Rattle.std.proofs.Common.{◌≡◌, ◌≤◌, ◌<◌, ℕ, suc, ◌+◌, ◌-◌, List, [], ◌∷◌, ◌++◌, length, drop}
+use Rattle.std.proofs.Common.{◌≡◌, ◌≤◌, ◌<◌, ℕ, suc, ◌+◌, ◌-◌, List, ◌∷◌, ◌++◌, length, drop}
 use Rattle.std.proofs.Common.{get_or, sym, ◌∙◌, ap, subst, arith, append_assoc, codes}
 use Rattle.std.proofs.lemmas.List.{append-nil}
 use Rattle.std.proofs.Math.ListN.{drop_of_length-le}
 use Rattle.page_core.specs.Names.{separator, value_name}
-use Rattle.kc_notation.specs.ClosedNotation.{arguments_after, applied_text}
+use Rattle.kc_notation.specs.ClosedNotation.{arguments_after}
 use Rattle.c_terms.specs.Read.{ctree, ctys}
 use Rattle.calc_core.specs.declared.types.CoreType.{CoreType as CType}
-use Rattle.let_types.specs.TypeTexts.{type_text, types_text}
+use Rattle.let_types.specs.TypeTexts.{type_text}
 use Rattle.idx_core.proofs.Lists.{next_item}
 
 regroup₅ : (a b c d e f : List ℕ) → ((((a ++ b) ++ c) ++ d) ++ e) ++ f ≡ a ++ (b ++ c ++ d ++ e ++ f)
@@ -32,16 +32,6 @@ pub arguments_done : (n : ℕ) (ts : List CType) (i : ℕ) (text whole : List �
 arguments_done n ts i text whole le h =
     sym (append-nil text)
     ∙ subst (λ xs. text ++ arguments_after i n (ctys xs) ≡ whole) (drop_of_length-le ts le) h
-
-bracketed : (a t b old t1 t2 t3 : List ℕ) → t1 ≡ old ++ a → t2 ≡ t1 ++ t → t3 ≡ t2 ++ b → t3 ≡ old ++ (a ++ t ++ b)
-bracketed a t b old t1 t2 t3 e f g = rw (g, f, e) (simp append_assoc)
-
--- types behind a value, where there are some
-pub applied_done : (n : ℕ) (ts : List CType) (old t1 t2 t3 : List ℕ) → 0 < length ts → t1 ≡ old ++ codes "[" →
-    t2 ≡ t1 ++ types_text n (ctys ts) → t3 ≡ t2 ++ codes "]" → t3 ≡ old ++ applied_text n (ctys ts)
-applied_done n [] old t1 t2 t3 long e f g = absurd (omega (arith, long))
-applied_done n (t ∷ ts) old t1 t2 t3 long e f g =
-    bracketed (codes "[") (types_text n (ctys (t ∷ ts))) (codes "]") old t1 t2 t3 e f g
 
 -- pieces of a line, one after the other
 pub line_of : (m l a c v n e t0 t1 t2 t3 t4 t5 : List ℕ) → t0 ≡ m ++ l → t1 ≡ t0 ++ a → t2 ≡ t1 ++ c → t3 ≡ t2 ++ v →

@@ -2,4 +2,5 @@ pub mod ClosedNotation
 pub mod Standing
 pub mod ClosedWalk
 pub mod CpsNotation
+pub mod Notation
 pub mod CpsWalk

@@ -149,7 +149,7 @@ module _ (b : Bool) where
               ap (λ (t : List ℕ). called.body.text ++ t)
               (gather_all b g n m k (length (stack ss [])) vs [] (codes ")\n")
               (let h = stack_length ss [] in omega (arith, h)))
-              ∙ call_text text (margin k) (value_text b g n m k f) (codes "[") (types_text n 0 ts) (codes "](")
+              ∙ call_text text (margin k) (value_text b g n m k f) (codes "[") (types_text n ts) (codes "](")
               (values_after b g 0 n m k vs) (codes ")\n");
           branches = refl;
         }

@@ -1,23 +1,9 @@
--- How types, and the first lines of codes, are written in continuation-passing style (own choice). A type inside n type
--- names names its variable i as the type name with n - 1 - i others around it.
-use Rattle.std.specs.Prelude.{ℕ, ◌+◌, ◌-◌, Bool, true, false, List, [], ◌++◌, codes}
-use Rattle.k_terms.specs.K.{KTy, KTys, TKInt, TKVar, TKTuple, TKCode, TKExists, TKRef, NoKTys, MoreKTys}
-use Rattle.page_core.specs.Names.{value_name, type_name, type_names, separator}
-
-abbrev mutual
-  pub type_text : ℕ → KTy → List ℕ
-  type_text n TKInt = codes "int"
-  type_text n (TKVar i) = type_name (n - 1 - i)
-  type_text n (TKTuple ts) = codes "<" ++ types_text n 0 ts ++ codes ">"
-  type_text n (TKCode owes args) =
-      codes "code" ++ type_names n owes ++ codes "(" ++ types_text (n + owes) 0 args ++ codes ")"
-  type_text n (TKExists t) = codes "some " ++ type_name n ++ codes ". " ++ type_text (n + 1) t
-  type_text n (TKRef t) = codes "ref " ++ type_text n t
-
-  -- types behind i others
-  pub types_text : ℕ → ℕ → KTys → List ℕ
-  types_text n i NoKTys = []
-  types_text n i (MoreKTys t ts) = separator i ++ type_text n t ++ types_text n (i + 1) ts
+-- How the first lines of codes are written in continuation-passing style (own choice). A type inside n type names names
+-- its variable i as the type name with n - 1 - i others around it.
+use Rattle.std.specs.Prelude.{ℕ, ◌+◌, Bool, true, false, List, [], ◌++◌, codes}
+use Rattle.k_terms.specs.K.{KTy, KTys, NoKTys, MoreKTys}
+pub use Rattle.let_types.specs.TypeTexts.{plain_text as type_text, plain_texts as types_text}
+use Rattle.page_core.specs.Names.{value_name, type_names, separator}
 
 -- the arguments of a code, behind i others; the first of all has m value names around it
 abbrev pub arguments_text : ℕ → ℕ → ℕ → KTys → List ℕ

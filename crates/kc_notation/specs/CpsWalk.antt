@@ -20,7 +20,7 @@ packed p hidden shape =
     (codes "] as " ++ type_text p.body.scope.types shape)
 
 abbrev pub call : Sheet → KTys → Sheet
-call p ts = called (line p (begun p []) (codes "[" ++ (types_text p.body.scope.types 0 ts ++ codes "](")))
+call p ts = called (line p (begun p []) (codes "[" ++ (types_text p.body.scope.types ts ++ codes "](")))
 
 -- a code begins
 abbrev pub enter : Sheet → ℕ → ℕ → KTys → Sheet

@@ -20,8 +20,8 @@ type_text Open = K.type_text
 type_text Closed = C.type_text
 
 abbrev pub types_text : Body → ℕ → Tys → List ℕ
-types_text Open n ts = K.types_text n 0 ts
-types_text Closed n ts = C.types_text n ts
+types_text Open = K.types_text
+types_text Closed = C.types_text
 
 -- what stands behind a name that is given to a value of this type, where types are shown
 abbrev pub note_text : Body → Bool → ℕ → Ty → List ℕ

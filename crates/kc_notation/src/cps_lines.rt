@@ -7,9 +7,10 @@ ghost use Rattle.kc_notation.specs.CpsNotation.{note_text};
 ghost use Rattle.kc_notation.specs.CpsWalk.{call, enter, noted, packed};
 
 use crate::Page;
-use crate::cps_types::{code_line, write_type, write_types};
+use crate::cps_types::code_line;
 use idx_core::{OutOfMemory, sum};
 use k_terms::KType;
+use let_types::{write_any, write_plain_types};
 use std::alloc::Global;
 
 // What stands behind a name of this type, inside so many type names.
@@ -19,7 +20,7 @@ fn note_of(alloc: Global, typed: bool, ty: &KType, depth: u64) -> Result<Vec<u8>
     let mut note = Vec::new(alloc);
     if typed {
         note.extend_from_slice(b": ")?;
-        write_type(&mut note, ty, depth)?;
+        write_any(&mut note, ty, depth, false)?;
     }
     Ok(note)
 }
@@ -47,11 +48,11 @@ fn package(page: &mut Page, hidden: &KType, shape: &KType) -> Result<(), OutOfMe
     let depth = page.body.scope.types;
     let mut front = Vec::new(page.alloc);
     front.extend_from_slice(b"pack [")?;
-    write_type(&mut front, hidden, depth)?;
+    write_any(&mut front, hidden, depth, false)?;
     front.extend_from_slice(b", ")?;
     let mut behind = Vec::new(page.alloc);
     behind.extend_from_slice(b"] as ")?;
-    write_type(&mut behind, shape, depth)?;
+    write_any(&mut behind, shape, depth, false)?;
     page.wrap(front, behind)
 }
 
@@ -91,7 +92,7 @@ pub(crate) fn call(page: &mut Page, types: &[KType]) -> Result<(), OutOfMemory>
 {
     let mut behind = Vec::new(page.alloc);
     behind.extend_from_slice(b"[")?;
-    write_types(&mut behind, types, page.body.scope.types)?;
+    write_plain_types(&mut behind, types, page.body.scope.types)?;
     behind.extend_from_slice(b"](")?;
     let front = page.begin(b"")?;
     page.line(front, &behind)?;

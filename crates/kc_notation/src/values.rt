@@ -2,7 +2,8 @@
 ghost use Rattle.std.specs.Prelude.{◌≡◌, ◌++◌, ℕ, List, IfOk, OnOk};
 ghost use Rattle.page_core.specs.Pieces.{Keeps, Stands};
 ghost use Rattle.kc_notation.specs.Standing.{IsPage, Taken};
-ghost use Rattle.kc_notation.specs.ClosedWalk.{Sheet, last, gathered, past, with_values, push, popped, tuple, wrap, pair};
+ghost use Rattle.kc_notation.specs.ClosedWalk.{Sheet, last, gathered, past, with_values, push, popped};
+ghost use Rattle.kc_notation.specs.ClosedWalk.{tuple, wrap, pair};
 
 use crate::joining::{joined, listed, piece_of, wrapped};
 use crate::page::Page;

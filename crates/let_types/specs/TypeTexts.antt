@@ -54,22 +54,23 @@ abbrev pub is_closure : CTy → Bool
 is_closure (TCTuple ts) = are_closure ts
 is_closure _ = false
 
--- the text of a type inside n type names, and of several with so many before them. `some b. <code[as](b, ts), b>` is
--- `closure[as](ts)` where ts don't name b, which takes a name all the same
+-- the text of a type inside n type names, and of several with so many before them. With closures `some b.
+-- <code[as](b, ts), b>` is `closure[as](ts)` where ts don't name b, which takes a name all the same
 abbrev mutual
-  pub type_text : ℕ → CTy → List ℕ
-  type_text n TCInt = codes "int"
-  type_text n (TCVar i) = type_name (n - 1 - i)
-  type_text n (TCTuple ts) = codes "<" ++ types_after 0 n ts ++ codes ">"
-  type_text n (TCCode owes args) =
-      codes "code" ++ type_names n owes ++ codes "(" ++ types_after 0 (n + owes) args ++ codes ")"
-  type_text n (TCExists t) =
-      if is_closure t then closure_text (n + 1) t else codes "some " ++ type_name n ++ codes ". " ++ type_text (n + 1) t
-  type_text n (TCRef t) = codes "ref " ++ type_text n t
+  pub text_of : (closures : Bool) → ℕ → CTy → List ℕ
+  text_of c n TCInt = codes "int"
+  text_of c n (TCVar i) = type_name (n - 1 - i)
+  text_of c n (TCTuple ts) = codes "<" ++ texts_after c 0 n ts ++ codes ">"
+  text_of c n (TCCode owes args) =
+      codes "code" ++ type_names n owes ++ codes "(" ++ texts_after c 0 (n + owes) args ++ codes ")"
+  text_of c n (TCExists t) =
+      if c && is_closure t then closure_text (n + 1) t
+      else codes "some " ++ type_name n ++ codes ". " ++ text_of c (n + 1) t
+  text_of c n (TCRef t) = codes "ref " ++ text_of c n t
 
-  pub types_after : ℕ → ℕ → CTys → List ℕ
-  types_after before n NoCTys = []
-  types_after before n (MoreCTys t ts) = separator before ++ type_text n t ++ types_after (suc before) n ts
+  pub texts_after : (closures : Bool) → ℕ → ℕ → CTys → List ℕ
+  texts_after c before n NoCTys = []
+  texts_after c before n (MoreCTys t ts) = separator before ++ text_of c n t ++ texts_after c (suc before) n ts
 
   -- the text of a closure, of what stands behind `some`, inside the name of what is hidden too
   pub closure_text : ℕ → CTy → List ℕ
@@ -88,10 +89,21 @@ abbrev mutual
   -- all but the first
   pub others_text : ℕ → CTys → List ℕ
   others_text n NoCTys = []
-  others_text n (MoreCTys t ts) = types_after 0 n ts
+  others_text n (MoreCTys t ts) = texts_after true 0 n ts
+
+-- with closures
+abbrev pub type_text : ℕ → CTy → List ℕ
+type_text = text_of true
 
 abbrev pub types_text : ℕ → CTys → List ℕ
-types_text n ts = types_after 0 n ts
+types_text = texts_after true 0
+
+-- and without
+abbrev pub plain_text : ℕ → CTy → List ℕ
+plain_text = text_of false
+
+abbrev pub plain_texts : ℕ → CTys → List ℕ
+plain_texts = texts_after false 0
 
 -- what stands behind a name that is given to a value of this type, where types are shown
 abbrev pub note_text : Bool → ℕ → CTy → List ℕ

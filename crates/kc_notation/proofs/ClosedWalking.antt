@@ -1,6 +1,6 @@
 -- The nodes of a term make its text.
 use Rattle.std.proofs.Common.{◌≡◌, ◌≤◌, ℕ, suc, ◌+◌, List, [], ◌∷◌, ◌++◌, Bool, length, refl, sym}
-use Rattle.std.proofs.Common.{ap, ap₂, ◌∙◌, arith, append_assoc, codes, decimal}
+use Rattle.std.proofs.Common.{ap, ap₂, ◌∙◌, arith, append_assoc, codes, decimal, true}
 use Rattle.std.proofs.lemmas.List.{append-nil}
 use Rattle.calc_core.specs.Ends.{lift}
 use Rattle.calc_core.specs.Levels.{level_of}
@@ -18,7 +18,7 @@ use Rattle.let_types.specs.Parts.{applied_type, field_type, held_type, opened_ty
 use Rattle.let_types.proofs.Knowing.{but_last_snoc, with_frames, with_names}
 use Rattle.kc_notation.specs.declared.page.Scope.{Scope}
 use Rattle.let_types.specs.TypeTexts.{applied_text, type_text, types_text}
-use Rattle.kc_notation.specs.ClosedNotation.{head_text}
+use Rattle.kc_notation.specs.Heads.{code_line}
 use Rattle.kc_notation.specs.Notation.{bound_text, c_text, decl_note, declared_text, term_text, value_text}
 use Rattle.kc_notation.specs.Notation.{values_after}
 use Rattle.let_types.specs.TypeTexts.{note_text}
@@ -87,12 +87,12 @@ module _ (b : Bool) where
         let k = p.body.scope.indent in
         let inner = cargs_onto args (TCCode owes args ∷ []) in
         let known = put κ (own n (TCCode owes args)) in
-        let r = of_term body (lift (ccount args) 1) owes (k + 1) inner (head_text owes args) [] (p.body ∷ p.around)
+        let r = of_term body (lift (ccount args) 1) owes (k + 1) inner (code_line true 0 0 owes args) [] (p.body ∷ p.around)
         (enter n owes args κ) s (holds_code owes args) in
         r.goes (MEnd ∷ rest)
         ∙ ap (λ (t : List ℕ). walk b rest known (push p (t ++ (margin k ++ codes "}"))))
         r.ends
-        ∙ ap (λ t. walk b rest known (push p t)) (tuple_text (head_text owes args
+        ∙ ap (λ t. walk b rest known (push p t)) (tuple_text (code_line true 0 0 owes args
         ++ term_text b inner owes (lift (ccount args) 1) (k + 1) body) (margin k) (codes "}"))
     of_value (CApply v ts) m g rest κ p s h =
         let n = p.body.scope.types in

@@ -1,6 +1,6 @@
 -- The nodes of a term make its text.
 use Rattle.std.proofs.Common.{◌≡◌, ℕ, suc, ◌+◌, Bool, List, [], ◌∷◌, ◌++◌, length, refl, ap, ap₂, ◌∙◌, arith}
-use Rattle.std.proofs.Common.{codes, decimal}
+use Rattle.std.proofs.Common.{codes, decimal, false}
 use Rattle.calc_core.specs.Ends.{lift}
 use Rattle.calc_core.specs.TypeOf.{types_behind}
 use Rattle.calc_core.proofs.Lifts.{lift_is}
@@ -14,7 +14,8 @@ use Rattle.k_terms.specs.Types.{kd_type}
 use Rattle.kc_notation.specs.declared.page.Scope.{Scope}
 use Rattle.kc_notation.specs.ClosedWalk.{Lines, Sheet, blank, push, scope_of, shut, with_text, with_values}
 use Rattle.kc_notation.proofs.Sheets.{level_is, past_some, sheet, stack, stack_length, turn_is}
-use Rattle.kc_notation.specs.CpsNotation.{code_line, note_text, type_text, types_text}
+use Rattle.kc_notation.specs.CpsNotation.{note_text, type_text, types_text}
+use Rattle.kc_notation.specs.Heads.{code_line}
 use Rattle.kc_notation.specs.Notation.{bound_text, decl_note, declared_text, k_text, term_text, value_text}
 use Rattle.kc_notation.specs.Notation.{values_after}
 use Rattle.kc_notation.proofs.Texts.{call_text, gather_all, halt_text, if_text, let_text, line_text, pack_parts}
@@ -49,7 +50,7 @@ module _ (b : Bool) where
     of_value (KCode owes args body) m td g rest p =
         let n = p.body.scope.types in
         let k = p.body.scope.indent in
-        let head = code_line n m owes args in
+        let head = code_line false n m owes args in
         let around = kbody_scope owes args g in
         let inside = lift (kcount args) (suc m) in
         let same : n + owes ≡ lift owes n = let l = lift_is owes n in omega (arith, l) in

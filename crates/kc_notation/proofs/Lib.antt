@@ -9,5 +9,5 @@ pub mod Turns
 pub mod ClosedWalking
 mod CpsRows
 mod CpsStepping
-mod CpsTypeTexts
+pub mod HeadLines
 mod CpsWalking

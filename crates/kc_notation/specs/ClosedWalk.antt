@@ -8,7 +8,7 @@ use Rattle.c_terms.specs.Stream.{CNd, MVar, MInt, MTuple, MCode, MEnd, MApply, M
 use Rattle.c_terms.specs.Stream.{MCell, MGet, MSet, MCall, MIf, MElse, MHalt}
 use Rattle.kc_notation.specs.declared.page.Scope.{Scope}
 use Rattle.let_types.specs.TypeTexts.{applied_text, note_text, pack_behind, pack_front, types_text}
-use Rattle.kc_notation.specs.ClosedNotation.{head_text}
+use Rattle.kc_notation.specs.Heads.{code_line}
 use Rattle.let_types.specs.Known.{Entry, Known, known_step, level_bound}
 
 -- a body: its text so far, the values that wait, the last first, whether the text ends in a call that waits for its
@@ -119,7 +119,7 @@ opened p head types = record {
 }
 
 abbrev pub enter : Sheet → ℕ → CTys → Sheet
-enter p owes args = opened p (head_text owes args) owes
+enter p owes args = opened p (code_line true 0 0 owes args) owes
 
 -- a call, whose arguments follow
 abbrev pub called : Sheet → Sheet

@@ -1,13 +1,14 @@
 -- What is made of a program's nodes one by one, on the sheets of `c_notation`: the nodes of a term make the text of
 -- that term, with types or without; what others make is of no matter.
-use Rattle.std.specs.Prelude.{ℕ, ◌+◌, List, [], ◌∷◌, ◌++◌, Bool, codes, decimal}
+use Rattle.std.specs.Prelude.{ℕ, ◌+◌, List, [], ◌∷◌, ◌++◌, Bool, codes, decimal, false}
 use Rattle.page_core.specs.Names.{number, op_sign, value_name}
 use Rattle.k_terms.specs.K.{KTy, KTys, NoKTys, TKInt, TKTuple}
 use Rattle.k_terms.specs.Stream.{KNd, NVar, NInt, NTuple, NCode, NEnd, NName, NProj, NArith, NPack, NUnpack, NCell}
 use Rattle.k_terms.specs.Stream.{NGet, NSet, NCall, NIf, NElse, NHalt}
 use Rattle.kc_notation.specs.ClosedWalk.{Sheet, begun, called, choose, declare, leave, line, opened, pair, push, tuple}
 use Rattle.kc_notation.specs.ClosedWalk.{turn, unpack, wrap}
-use Rattle.kc_notation.specs.CpsNotation.{code_line, note_text, type_text, types_text}
+use Rattle.kc_notation.specs.CpsNotation.{note_text, type_text, types_text}
+use Rattle.kc_notation.specs.Heads.{code_line}
 
 -- what stands behind a name of this type
 abbrev pub noted : Bool → Sheet → KTy → List ℕ
@@ -24,7 +25,7 @@ call p ts = called (line p (begun p []) (codes "[" ++ (types_text p.body.scope.t
 
 -- a code begins
 abbrev pub enter : Sheet → ℕ → ℕ → KTys → Sheet
-enter p level owes args = opened p (code_line p.body.scope.types level owes args) (p.body.scope.types + owes)
+enter p level owes args = opened p (code_line false p.body.scope.types level owes args) (p.body.scope.types + owes)
 
 -- one node more
 abbrev pub step : Bool → KNd → Sheet → Sheet

@@ -1,4 +1,4 @@
-pub mod ClosedNotation
+pub mod Heads
 pub mod Standing
 pub mod ClosedWalk
 pub mod CpsNotation

@@ -2,7 +2,7 @@
 -- the types of what `let`s bind or without. Inside n type names and m value names, with lines at the level k, a
 -- variable i is the value name with m - 1 - i others around it. Where a code is closed, names begin anew in it: its own
 -- is the first, and its arguments' the next.
-use Rattle.std.specs.Prelude.{ℕ, suc, ◌+◌, ◌-◌, Bool, List, [], ◌++◌, codes, decimal}
+use Rattle.std.specs.Prelude.{ℕ, suc, ◌+◌, ◌-◌, Bool, true, false, List, [], ◌++◌, codes, decimal}
 use Rattle.calc_core.specs.Ends.{lift}
 use Rattle.calc_core.specs.Types.{Ty, Tys, count}
 use Rattle.calc_core.specs.TypeOf.{decl_type, names_behind, types_behind, untold}
@@ -10,32 +10,30 @@ use Rattle.calc_core.specs.Calculus.{Body, Open, Closed, Inside, Kinded, Cps, Fl
 use Rattle.calc_core.specs.Calculus.{Pack, Vals, NoVals, MoreVals, Decl, Name, Proj, Arith, Packs, Unpack, Cell, Get}
 use Rattle.calc_core.specs.Calculus.{Set, Tm, Let, Call, If, Halt, body_scope, names_in}
 use Rattle.let_types.specs.TypeTexts as C
-use Rattle.kc_notation.specs.ClosedNotation.{head_text}
 use Rattle.kc_notation.specs.CpsNotation as K
+use Rattle.kc_notation.specs.Heads.{code_line}
 use Rattle.page_core.specs.Names.{margin, number, op_sign, separator, type_name, value_name}
 
 -- types inside n type names: those of closed terms have closures
+abbrev pub closures : Body → Bool
+closures Open = false
+closures Closed = true
+
 abbrev pub type_text : Body → ℕ → Ty → List ℕ
-type_text Open = K.type_text
-type_text Closed = C.type_text
+type_text c = C.text_of (closures c)
 
 abbrev pub types_text : Body → ℕ → Tys → List ℕ
-types_text Open = K.types_text
-types_text Closed = C.types_text
+types_text c = C.texts_after (closures c) 0
 
 -- what stands behind a name that is given to a value of this type, where types are shown
 abbrev pub note_text : Body → Bool → ℕ → Ty → List ℕ
 note_text Open = K.note_text
 note_text Closed = C.note_text
 
--- the first line of a code, and how many value names are around its body
-abbrev pub code_line : Body → (n m owes : ℕ) → Tys → List ℕ
-code_line Open n m owes args = K.code_line n m owes args
-code_line Closed n m owes args = head_text owes args
-
-abbrev pub values_in : Body → Tys → ℕ → ℕ
-values_in Open args m = lift (count args) (suc m)
-values_in Closed args m = lift (count args) 1
+-- how many of the names around a code its body sees
+abbrev pub kept : Body → ℕ → ℕ
+kept Open n = n
+kept Closed n = 0
 
 -- what is declared, of a name that has m names around it, with a text behind the name
 abbrev pub bound_text : {c : Body} → ℕ → ℕ → List ℕ → Decl (Kinded Inside c) → List ℕ
@@ -57,9 +55,9 @@ abbrev mutual
   value_text b g n m k (Int z) = number z
   value_text b g n m k (Tuple vs) = codes "<" ++ values_after b g 0 n m k vs ++ codes ">"
   value_text b g n m k (Code {b = c} owes args body) =
-      code_line c n m owes args
-      ++ term_text b (body_scope c owes args g) (names_in c owes n) (values_in c args m) (k + 1) body ++ margin k
-      ++ codes "}"
+      code_line (closures c) (kept c n) (kept c m) owes args
+      ++ term_text b (body_scope c owes args g) (names_in c owes n) (lift (count args) (suc (kept c m))) (k + 1) body
+      ++ margin k ++ codes "}"
   value_text b g n m k (Apply v ts) = value_text b g n m k v ++ C.applied_text n ts
   value_text b g n m k (Pack h v s) = pack_text Closed n h (value_text b g n m k v) s
 

@@ -7,7 +7,7 @@ ghost use Rattle.kc_notation.specs.CpsNotation.{note_text};
 ghost use Rattle.kc_notation.specs.CpsWalk.{call, enter, noted, packed};
 
 use crate::Page;
-use crate::cps_types::code_line;
+use crate::heads::{begin_code, write_arguments};
 use idx_core::{OutOfMemory, sum};
 use k_terms::KType;
 use let_types::{write_any, write_plain_types};
@@ -111,6 +111,9 @@ pub(crate) fn enter(
 {
     let depth = page.body.scope.types;
     let types = sum(depth, owes)?;
-    let head = code_line(page.alloc, depth, level, owes, args)?;
+    let first = sum(level, 1)?;
+    let mut head = begin_code(page.alloc, depth, level, owes)?;
+    write_arguments(&mut head, args, types, first, false)?;
+    head.extend_from_slice(b") {\n")?;
     page.open(head, types)
 }

@@ -5,11 +5,10 @@ use Rattle.std.specs.Prelude.{Bool, true, false}
 use Rattle.std.proofs.lemmas.List.{append-nil, reverse-append, length-reverse, length-append, take-append-le, take_all}
 use Rattle.std.proofs.lemmas.List.{take-append-drop, length-take-le}
 use Rattle.std.proofs.Math.ListN.{drop_of_length-le}
-use Rattle.calc_core.specs.Ends.{lift}
+use Rattle.calc_core.specs.Calculus.{opens, scope_more}
+use Rattle.calc_core.specs.Ends.{after_one, lift}
 use Rattle.c_terms.specs.C.{CTy}
-use Rattle.c_terms.specs.Typing.{crens_scope}
-use Rattle.h_terms.specs.H.{HArith, HBlks, HCall, HCell, HDecl, HGet, HHalt, HIf, HLet, HName, HProj, HSet, HTm}
-use Rattle.h_terms.specs.H.{HUnpack, HVal}
+use Rattle.h_terms.specs.H.{HBlks, HCall, HDecl, HHalt, HIf, HLet, HTm, HVal}
 use Rattle.h_terms.specs.Nodes.{h_build, h_kids, h_terms, h_tree, no_term, no_value, values, HArity, HRow}
 use Rattle.calc_core.specs.Row.{IsOne, IsSome, IsTwo, others, top}
 use Rattle.h_terms.specs.declared.node.HForm.{HForm}
@@ -22,7 +21,7 @@ use Rattle.let_types.specs.declared.named.Named.{Named}
 use Rattle.let_types.proofs.Naming.{name_in}
 use Rattle.let_types.proofs.OneMore.{scope_snoc, under_push}
 use Rattle.h_notation.specs.declared.scope.Scope.{Scope}
-use Rattle.h_notation.specs.Notation.{decl_note, decl_text, if_text, line, note_text, term_text, types_after}
+use Rattle.h_notation.specs.Notation.{decl_note, decl_text, if_text, line, note_text, term_text}
 use Rattle.h_notation.specs.Scopes.{behind, below, branch, form_text, h_let, least, node_text, opening, terms_text}
 use Rattle.h_notation.specs.Scopes.{types_at, Fit, Ready, Stepped}
 use Rattle.calc_core.proofs.Lifts.{lift_add as lift_is}
@@ -91,7 +90,7 @@ bare_text : (ks : HBlks) (g h : List CTy) (n m k : ℕ) (t : HTm) →
     term_text false ks g n m k t ≡ term_text false ks h n m k t
 bare_text ks g h n m k (HLet x t) =
     ap (λ (r : List ℕ). line k (decl_text n m [] x) ++ r)
-    (bare_text ks (names_behind ks g x) (names_behind ks h x) (types_after x n) (m + 1) k t)
+    (bare_text ks (names_behind ks g x) (names_behind ks h x) (types_behind n x) (m + 1) k t)
 bare_text ks g h n m k (HCall v ts vs) = refl
 bare_text ks g h n m k (HIf v t u) =
     ap₂ (λ (r q : List ℕ). line k (if_text n m v) ++ (r ++ (line k (codes "else") ++ q)))
@@ -105,24 +104,6 @@ same_text true ks g h n m k t is = ap (λ (x : List CTy). term_text true ks x n 
 same_text false ks g h n m k t is = bare_text ks g h n m k t
 
 -- ---- a declaration
-
-declared_head : (ks : HBlks) (g : List CTy) (x : HDecl) → (h : List CTy) × (names_behind ks g x ≡ decl_type ks g x ∷ h)
-declared_head ks g (HName v) = (g, refl)
-declared_head ks g (HProj i v) = (g, refl)
-declared_head ks g (HArith o v w) = (g, refl)
-declared_head ks g (HUnpack v) = (crens_scope suc g, refl)
-declared_head ks g (HCell v) = (g, refl)
-declared_head ks g (HGet v) = (g, refl)
-declared_head ks g (HSet v w) = (g, refl)
-
-more_after : (x : HDecl) (n : ℕ) → types_behind n x ≡ types_after x n
-more_after (HName v) n = refl
-more_after (HProj i v) n = refl
-more_after (HArith o v w) n = refl
-more_after (HUnpack v) n = omega arith
-more_after (HCell v) n = refl
-more_after (HGet v) n = refl
-more_after (HSet v w) n = refl
 
 -- what a declaration says
 decl_line : (n m : ℕ) (note : List ℕ) (f : HForm) (vs : List HVal) → is_decl f ≡ true →
@@ -170,14 +151,9 @@ let_parts t a b r u = simp append_assoc
 pub pushed : (old new : List Scope) (x y : Scope) → new ≡ old ++ x ∷ [] → x ≡ y → reverse new ≡ y ∷ reverse old
 pushed old new x y e is = ap reverse e ∙ reverse-append old (x ∷ []) ∙ ap (λ z. z ∷ reverse old) is
 
-more_least : (x : HDecl) (n : ℕ) → n ≤ types_behind n x
-more_least (HName v) n = omega arith
-more_least (HProj i v) n = omega arith
-more_least (HArith o v w) n = omega arith
-more_least (HUnpack v) n = omega arith
-more_least (HCell v) n = omega arith
-more_least (HGet v) n = omega arith
-more_least (HSet v w) n = omega arith
+more_least : (b : Bool) (n : ℕ) → n ≤ after_one b n
+more_least true n = omega arith
+more_least false n = omega arith
 
 module _ (b : Bool) (ks : HBlks) (s : Scope) (f : HForm) (vs : List HVal) (es fs : List Named) (e : Named)
     (old new : List Scope) (is : is_decl f ≡ true) (ready : Ready es s old) (after : ℕ)
@@ -198,9 +174,6 @@ module _ (b : Bool) (ks : HBlks) (s : Scope) (f : HForm) (vs : List HVal) (es fs
   whole_fs : take (s.names + 1) fs ≡ fs
   whole_fs = take_all (s.names + 1) fs (omega (arith, long))
 
-  after_is : after ≡ types_after x s.types
-  after_is = many ∙ more_after x s.types
-
   under_es : Under s.types es
   under_es = subst (Under s.types) whole_es ready.fit.1
 
@@ -209,7 +182,7 @@ module _ (b : Bool) (ks : HBlks) (s : Scope) (f : HForm) (vs : List HVal) (es fs
       subst (λ (ss : List Scope). Fit fs (length fs) ss) (sym now) (
         omega (arith, long),
         subst (Under after) (sym grown ∙ sym whole_fs)
-            (under_push s.types after es e under_es (omega (arith, many, more_least x s.types)) least_names),
+            (under_push s.types after es e under_es (omega (arith, many, more_least (opens x) s.types)) least_names),
         subst (λ (xs : List Named). Fit xs (s.names + 1) (reverse old)) (sym grown)
             (fit_keep s.names (s.names + 1) es (e ∷ []) (reverse old) ready.fit.2 (omega (arith, ready.all))
             (omega arith)),
@@ -223,11 +196,11 @@ module _ (b : Bool) (ks : HBlks) (s : Scope) (f : HForm) (vs : List HVal) (es fs
   -- the term behind it
   more_text : (u : HTm) →
       term_text b ks (types_at fs (behind after s)) after (s.names + 1) s.level u
-      ≡ term_text b ks (names_behind ks g x) (types_after x s.types) (s.names + 1) s.level u
+      ≡ term_text b ks (names_behind ks g x) (types_behind s.types x) (s.names + 1) s.level u
   more_text u =
       same_text b ks (types_at fs (behind after s)) (names_behind ks g x) after (s.names + 1) s.level u
       (λ shows. ap (scope after) whole_fs ∙ typed shows)
-      ∙ ap (λ (k : ℕ). term_text b ks (names_behind ks g x) k (s.names + 1) s.level u) after_is
+      ∙ ap (λ (k : ℕ). term_text b ks (names_behind ks g x) k (s.names + 1) s.level u) many
 
   pub let_note : (note : List ℕ) →
       ((u : CTy) (h : List CTy) → scope after fs ≡ u ∷ h → note ≡ note_text b after u) →
@@ -238,9 +211,8 @@ module _ (b : Bool) (ks : HBlks) (s : Scope) (f : HForm) (vs : List HVal) (es fs
           ((u : CTy) (h : List CTy) → scope after fs ≡ u ∷ h → note ≡ note_text c after u) →
           note ≡ decl_note c ks g s.types x
       go true shows said =
-          let head = declared_head ks g x in
-          said (decl_type ks g x) head.0 (shows refl ∙ head.1)
-          ∙ ap (λ (k : ℕ). note_text true k (decl_type ks g x)) after_is
+          said (decl_type ks g x) (scope_more (opens x) g) (shows refl)
+          ∙ ap (λ (k : ℕ). note_text true k (decl_type ks g x)) many
       go false shows said = said (shown after e) (scope after es) (ap (scope after) grown ∙ scope_snoc after es e)
 
   pub let_written : (note t0 t1 : List ℕ) → note ≡ decl_note b ks g s.types x → t1 ≡ t0 ++ node_text s note f vs →
@@ -253,7 +225,7 @@ module _ (b : Bool) (ks : HBlks) (s : Scope) (f : HForm) (vs : List HVal) (es fs
       ∙ ap (λ (n : List ℕ). decl_text s.types s.names n x) noted) in
       let a = opening s in
       let c = line s.level (decl_text s.types s.names (decl_note b ks g s.types x) x) in
-      let r = term_text b ks (names_behind ks g x) (types_after x s.types) (s.names + 1) s.level (top no_term ts) in
+      let r = term_text b ks (names_behind ks g x) (types_behind s.types x) (s.names + 1) s.level (top no_term ts) in
       let u = terms_text b ks es (reverse old) (others ts) in
       ap₂ (λ (h : List ℕ) (ss : List Scope). h ++ terms_text b ks fs ss ts)
       (wrote ∙ ap (λ (l : List ℕ). t0 ++ (a ++ l)) said) now

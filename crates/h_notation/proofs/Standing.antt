@@ -1,22 +1,19 @@
 -- Pieces that stand for values.
 use Rattle.std.proofs.Common.{◌≡◌, ◌≤◌, ◌<◌, ℕ, zero, suc, ◌+◌, ◌-◌, List, [], ◌∷◌, ◌++◌, length, drop, take, get_or}
 use Rattle.std.proofs.Common.{map, Vec, Global, refl, sym, ◌∙◌, ap, ap₂, append_assoc, codes, arith, subst}
-use Rattle.std.proofs.Common.{add-one, Bool, true≢false}
-use Rattle.std.specs.Prelude.{◌==◌, true, false}
+use Rattle.std.proofs.Common.{add-one}
 use Rattle.std.proofs.lemmas.List.{append-nil, take_more, map_push}
 use Rattle.std.proofs.Math.ListN.{drop_of_length-le}
 use Rattle.page_core.specs.Pieces.{text_at, Keeps, Stands}
 use Rattle.page_core.specs.declared.pieces.Pieces.{Pieces}
 use Rattle.c_terms.specs.C.{CTy}
-use Rattle.c_terms.specs.Read.{ctys}
-use Rattle.calc_core.specs.declared.types.CoreType.{CoreType as CType}
-use Rattle.let_types.specs.TypeTexts.{type_text, types_text}
 use Rattle.h_terms.specs.H.{HPack, HTuple, HVal}
 use Rattle.h_terms.specs.Nodes.{at_last, more, reads, tied, tupled}
 use Rattle.h_terms.specs.declared.node.HPart.{HPart}
 use Rattle.page_core.specs.Names.{separator}
 use Rattle.page_core.proofs.Listed.{listed}
-use Rattle.h_notation.specs.Notation.{applied_text, value_text, values_text}
+use Rattle.h_notation.specs.Notation.{value_text, values_text}
+use Rattle.let_types.specs.TypeTexts.{pack_behind, pack_front}
 use Rattle.h_notation.specs.Values.{Stand, texts_of}
 use Rattle.h_terms.proofs.Parts.{reads_push, at_last_push}
 
@@ -101,15 +98,10 @@ wrap_done p q n m xs ys zs inner whole vs f before behind e k st more is h =
     subst (λ us. Stand q n m us (at_last f vs)) (sym more)
     (subst (λ us. Stand q n m (ys ++ whole ∷ []) us) (sym same) all)
 
-regrouped : (a b c v d : List ℕ) → a ++ (b ++ (c ++ (v ++ d))) ≡ (a ++ (b ++ c)) ++ (v ++ d)
-regrouped a b c v d = simp append_assoc
-
 pub pack_text : (n m : ℕ) (v : HVal) (h s : CTy) (before behind : List ℕ) →
-    before ≡ codes "pack [" ++ (type_text n h ++ codes ", ") → behind ≡ codes "] as " ++ type_text n s →
+    before ≡ pack_front n h → behind ≡ pack_behind n s →
     value_text n m (HPack h v s) ≡ before ++ (value_text n m v ++ behind)
-pack_text n m v h s before behind e f =
-    regrouped (codes "pack [") (type_text n h) (codes ", ") (value_text n m v) (codes "] as " ++ type_text n s)
-    ∙ sym (ap₂ (λ (a b : List ℕ). a ++ (value_text n m v ++ b)) e f)
+pack_text n m v h s before behind e f = sym (ap₂ (λ (a b : List ℕ). a ++ (value_text n m v ++ b)) e f)
 
 -- the last values become a tuple
 pub tuple_done : (p q : Pieces) (n m from k : ℕ) (xs ys zs : List ℕ) (whole : ℕ) (vs : List HVal) → Keeps p q →
@@ -204,10 +196,3 @@ pub item : (xs : List ℕ) (i : ℕ) → i < length xs → get_or xs i 0 ≡ get
 item [] i lt = absurd (omega (arith, lt))
 item (x ∷ xs) zero lt = refl
 item (x ∷ xs) (suc i) lt = item xs i (omega (arith, lt))
-
-pub applied_done : (n : ℕ) (us : List CType) (b : Bool) (t1 t2 t3 : List ℕ) → b ≡ (length us == 0) → b ≡ false →
-    t1 ≡ codes "[" → t2 ≡ t1 ++ types_text n (ctys us) → t3 ≡ t2 ++ codes "]" → t3 ≡ applied_text n (ctys us)
-applied_done n [] b t1 t2 t3 e f e1 e2 e3 = let clash : true ≡ false = sym e ∙ f in absurd (true≢false clash)
-applied_done n (u ∷ us) b t1 t2 t3 e f e1 e2 e3 =
-    e3 ∙ ap (λ (s : List ℕ). s ++ codes "]") (e2 ∙ ap (λ (s : List ℕ). s ++ types_text n (ctys (u ∷ us))) e1)
-    ∙ append_assoc (codes "[") (types_text n (ctys (u ∷ us))) (codes "]")

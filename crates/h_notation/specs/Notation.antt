@@ -5,16 +5,11 @@ use Rattle.std.specs.Prelude.{ℕ, suc, ◌+◌, ◌-◌, Bool, List, [], ◌∷
 use Rattle.c_terms.specs.C.{CTy, CTys, MoreCTys, NoCTys, ccount}
 use Rattle.c_terms.specs.Typing.{cargs_onto}
 pub use Rattle.let_types.specs.TypeTexts.{note_text}
-use Rattle.let_types.specs.TypeTexts.{type_text, types_text}
+use Rattle.let_types.specs.TypeTexts.{applied_text, pack_behind, pack_front, type_text, types_text}
 use Rattle.h_terms.specs.H.{HApply, HArith, HBlk, HBlks, HCall, HCell, HDecl, HGet, HHalt, HIf, HInt, HLabel, HLet}
 use Rattle.h_terms.specs.H.{HName, HPack, HProj, HSet, HTm, HTuple, HUnpack, HVal, HVals, HVar, MoreHVals, NoHVals}
-use Rattle.let_types.specs.Hoisted.{decl_type, names_behind}
+use Rattle.let_types.specs.Hoisted.{decl_type, names_behind, types_behind}
 use Rattle.page_core.specs.Names.{margin, number, op_sign, separator, type_name, type_names, value_name}
-
--- the types that a value is applied to, where there are any
-abbrev pub applied_text : ℕ → CTys → List ℕ
-applied_text n NoCTys = []
-applied_text n (MoreCTys t ts) = codes "[" ++ (types_text n (MoreCTys t ts) ++ codes "]")
 
 abbrev mutual
   -- a value inside n type names and m value names
@@ -25,8 +20,7 @@ abbrev mutual
   value_text n m (HTuple vs) = codes "<" ++ (values_text 0 n m vs ++ codes ">")
   value_text n m (HApply v ts) = value_text n m v ++ applied_text n ts
   value_text n m (HPack hidden v shape) =
-      codes "pack ["
-      ++ (type_text n hidden ++ (codes ", " ++ (value_text n m v ++ (codes "] as " ++ type_text n shape))))
+      pack_front n hidden ++ (value_text n m v ++ pack_behind n shape)
 
   -- values, where i stand before them
   pub values_text : ℕ → ℕ → ℕ → HVals → List ℕ
@@ -48,16 +42,6 @@ decl_text n m note (HCell v) = let_text m note ++ (codes "ref " ++ value_text n 
 decl_text n m note (HGet v) = let_text m note ++ (codes "!" ++ value_text n m v)
 decl_text n m note (HSet v w) = let_text m note ++ (value_text n m v ++ (codes " := " ++ value_text n m w))
 
--- how many type names are around what follows a declaration inside n of them
-abbrev pub types_after : HDecl → ℕ → ℕ
-types_after (HName v) n = n
-types_after (HProj i v) n = n
-types_after (HArith op v w) n = n
-types_after (HUnpack v) n = n + 1
-types_after (HCell v) n = n
-types_after (HGet v) n = n
-types_after (HSet v w) n = n
-
 abbrev pub call_text : ℕ → ℕ → HVal → CTys → HVals → List ℕ
 call_text n m v ts vs =
     value_text n m v ++ (codes "[" ++ (types_text n ts ++ (codes "](" ++ (values_text 0 n m vs ++ codes ")"))))
@@ -72,13 +56,13 @@ line k s = margin k ++ (s ++ codes "\n")
 -- what stands behind the name that a declaration gives, where the types of the variables are g: the type that typing
 -- gives it
 abbrev pub decl_note : Bool → HBlks → List CTy → ℕ → HDecl → List ℕ
-decl_note b ks g n x = note_text b (types_after x n) (decl_type ks g x)
+decl_note b ks g n x = note_text b (types_behind n x) (decl_type ks g x)
 
 -- a term among blocks, inside n type names and m value names, of the types g, at the level k
 abbrev pub term_text : Bool → HBlks → List CTy → ℕ → ℕ → ℕ → HTm → List ℕ
 term_text b ks g n m k (HLet x t) =
     line k (decl_text n m (decl_note b ks g n x) x)
-    ++ term_text b ks (names_behind ks g x) (types_after x n) (m + 1) k t
+    ++ term_text b ks (names_behind ks g x) (types_behind n x) (m + 1) k t
 term_text b ks g n m k (HCall v ts vs) = line k (call_text n m v ts vs)
 term_text b ks g n m k (HIf v t u) =
     line k (if_text n m v)

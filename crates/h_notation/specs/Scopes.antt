@@ -41,16 +41,10 @@ Fit es m (s ∷ ss) = (s.names ≤ m) × Under s.types (take s.names es) × Fit 
 
 -- what a node says on its line, inside n type names and m value names, and behind the name that it gives
 abbrev pub form_text : ℕ → ℕ → List ℕ → HForm → List HVal → List ℕ
-form_text n m note H.Name vs = decl_text n m note (decl_of H.Name vs)
-form_text n m note (H.Proj i) vs = decl_text n m note (decl_of (H.Proj i) vs)
-form_text n m note (H.Arith o) vs = decl_text n m note (decl_of (H.Arith o) vs)
-form_text n m note H.Unpack vs = decl_text n m note (decl_of H.Unpack vs)
-form_text n m note H.Cell vs = decl_text n m note (decl_of H.Cell vs)
-form_text n m note H.Get vs = decl_text n m note (decl_of H.Get vs)
-form_text n m note H.Set vs = decl_text n m note (decl_of H.Set vs)
 form_text n m note (H.Call us) vs = call_text n m (top no_value vs) (ctys us.items) (tied (others vs))
 form_text n m note H.If0 vs = if_text n m (top no_value vs)
 form_text n m note H.Halt vs = codes "halt " ++ value_text n m (top no_value vs)
+form_text n m note f vs = decl_text n m note (decl_of f vs)
 
 -- all that is written at a node
 abbrev pub node_text : Scope → List ℕ → HForm → List HVal → List ℕ
@@ -88,13 +82,6 @@ pub record Ready (es : List Named) (s : Scope) (old : List Scope) : Type 0 where
 
 -- how many values a node has at least
 abbrev pub least : HForm → ℕ
-least H.Name = 1
-least (H.Proj i) = 1
 least (H.Arith o) = 2
-least H.Unpack = 1
-least H.Cell = 1
-least H.Get = 1
 least H.Set = 2
-least (H.Call us) = 1
-least H.If0 = 1
-least H.Halt = 1
+least _ = 1

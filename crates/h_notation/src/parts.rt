@@ -6,7 +6,7 @@ ghost use Rattle.h_terms.specs.H.{HVal};
 ghost use Rattle.h_terms.specs.Nodes.{at_last, more, reads};
 ghost use Rattle.page_core.specs.Names.{number, value_name};
 ghost use Rattle.page_core.specs.Pieces.{text_at, Keeps, Stands};
-ghost use Rattle.h_notation.specs.Notation.{applied_text, value_text};
+ghost use Rattle.h_notation.specs.Notation.{value_text};
 ghost use Rattle.h_notation.specs.Values.{Stand, texts_of};
 
 use crate::fields::put_tuple;
@@ -14,7 +14,7 @@ use crate::scope::Scope;
 use c_terms::CType;
 use h_terms::HPart;
 use idx_core::OutOfMemory;
-use let_types::{write_type, write_types};
+use let_types::{before_packed, behind_packed, types_applied};
 use page_core::{Pieces, write_integer, write_natural, write_value_name};
 use std::alloc::Global;
 
@@ -39,38 +39,6 @@ fn label_text(alloc: Global, label: u64) -> Result<Vec<u8>, OutOfMemory>
 {
     let mut text = Vec::from_slice(alloc, b"L")?;
     write_natural(&mut text, label)?;
-    Ok(text)
-}
-
-// The types that a value is applied to, where there are any.
-fn types_applied(alloc: Global, ts: &[CType], types: u64) -> Result<Vec<u8>, OutOfMemory>
-    ensures { IfOk result (λ b. b.items ≡ applied_text types (ctys ts.now)) }
-{
-    if ts.is_empty() {
-        return Ok(Vec::new(alloc));
-    }
-    let mut text = Vec::from_slice(alloc, b"[")?;
-    write_types(&mut text, ts, types)?;
-    text.extend_from_slice(b"]")?;
-    Ok(text)
-}
-
-// What stands before the value in a package.
-fn before_packed(alloc: Global, hidden: &CType, types: u64) -> Result<Vec<u8>, OutOfMemory>
-    ensures { IfOk result (λ b. b.items ≡ codes "pack [" ++ (type_text types (ctree hidden.now) ++ codes ", ")) }
-{
-    let mut text = Vec::from_slice(alloc, b"pack [")?;
-    write_type(&mut text, hidden, types)?;
-    text.extend_from_slice(b", ")?;
-    Ok(text)
-}
-
-// What stands behind it.
-fn behind_packed(alloc: Global, shape: &CType, types: u64) -> Result<Vec<u8>, OutOfMemory>
-    ensures { IfOk result (λ b. b.items ≡ codes "] as " ++ type_text types (ctree shape.now)) }
-{
-    let mut text = Vec::from_slice(alloc, b"] as ")?;
-    write_type(&mut text, shape, types)?;
     Ok(text)
 }
 

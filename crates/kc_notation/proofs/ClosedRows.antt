@@ -7,7 +7,7 @@ use Rattle.c_terms.specs.C.{CTuple}
 use Rattle.c_terms.specs.C.{CCode, CApply, CPack, CVals, NoCVals, MoreCVals, CVal, CName, CProj, CArith, CUnpack, CCell}
 use Rattle.c_terms.specs.C.{CGet, CSet, CTm, CLet, CCall, CIf, CHalt}
 use Rattle.let_types.specs.TypeTexts.{type_text}
-use Rattle.kc_notation.specs.ClosedNotation.{c_text}
+use Rattle.kc_notation.specs.Notation.{c_text}
 
 abbrev one : CTy → CTys
 one t = MoreCTys t NoCTys

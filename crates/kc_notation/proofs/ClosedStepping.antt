@@ -17,7 +17,7 @@ use Rattle.let_types.specs.Known.{Entry, Known, known_step, level_bound, nothing
 use Rattle.let_types.specs.KnownRead.{entry}
 use Rattle.let_types.specs.declared.named.Named.{Named}
 use Rattle.kc_notation.specs.declared.page.Page.{Page}
-use Rattle.kc_notation.specs.ClosedNotation.{c_text}
+use Rattle.kc_notation.specs.Notation.{c_text}
 use Rattle.let_types.specs.TypeTexts.{note_text}
 use Rattle.kc_notation.specs.Standing.{IsPage}
 use Rattle.kc_notation.specs.ClosedWalk.{Sheet, name_note, noted, note_at, shut, step, walk, blank}

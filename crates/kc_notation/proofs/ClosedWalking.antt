@@ -1,10 +1,10 @@
 -- The nodes of a term make its text.
-use Rattle.std.proofs.Common.{◌≡◌, ◌≤◌, ℕ, zero, suc, ◌+◌, List, [], ◌∷◌, ◌++◌, Bool, length, refl, sym}
-use Rattle.std.proofs.Common.{ap, ap₂, ◌∙◌, arith, append_assoc, codes, decimal}
+use Rattle.std.proofs.Common.{◌≡◌, ◌≤◌, ℕ, suc, ◌+◌, List, [], ◌∷◌, ◌++◌, Bool, length, refl, sym}
+use Rattle.std.proofs.Common.{ap, ap₂, ◌∙◌, arith, append_assoc, codes, decimal, true}
 use Rattle.std.proofs.lemmas.List.{append-nil}
 use Rattle.calc_core.specs.Ends.{lift}
 use Rattle.calc_core.specs.Levels.{level_of}
-use Rattle.page_core.specs.Names.{margin, op_sign, separator, type_name, value_name}
+use Rattle.page_core.specs.Names.{margin, op_sign, type_name, value_name}
 use Rattle.c_terms.specs.C.{CTy, NoCTys, TCCode, TCInt, TCRef, TCTuple, CVal, CVar, CInt, CTuple, CCode, CApply}
 use Rattle.c_terms.specs.C.{CPack, CVals, NoCVals, MoreCVals, CDecl}
 use Rattle.c_terms.specs.C.{CName, CProj, CArith, CUnpack, CCell, CGet, CSet, CTm, CLet, CCall, CIf, CHalt, ccount}
@@ -12,107 +12,32 @@ use Rattle.c_terms.specs.Stream.{CNd, MTuple, MEnd, MApply, MPack, MName, MProj,
 use Rattle.c_terms.specs.Stream.{MCall, MIf, MElse, MHalt, cwidth, clin_v, clin_vs, clin_d, clin_t}
 use Rattle.c_terms.specs.Scope.{CScoped, CScoped_d, CScoped_v, CScoped_vs}
 use Rattle.c_terms.specs.Typing.{cargs_onto}
-use Rattle.let_types.specs.Closed.{decl_type, names_behind, value_type, value_types}
+use Rattle.let_types.specs.Closed.{decl_type, names_behind, types_behind, value_type, value_types}
 use Rattle.let_types.specs.Known.{Frame, Known, declare, enter, entry_of, last_type, named, nothing, own, put}
 use Rattle.let_types.specs.Parts.{applied_type, field_type, held_type, opened_type}
 use Rattle.let_types.proofs.Knowing.{but_last_snoc, with_frames, with_names}
 use Rattle.kc_notation.specs.declared.page.Scope.{Scope}
-use Rattle.let_types.specs.TypeTexts.{type_text, types_text}
-use Rattle.kc_notation.specs.ClosedNotation.{applied_text, bound_text, c_text, decl_note, declared_text, head_text}
+use Rattle.let_types.specs.TypeTexts.{applied_text, type_text, types_text}
+use Rattle.kc_notation.specs.Heads.{code_line}
+use Rattle.kc_notation.specs.Notation.{bound_text, c_text, decl_note, declared_text, term_text, value_text}
+use Rattle.kc_notation.specs.Notation.{values_after}
 use Rattle.let_types.specs.TypeTexts.{note_text}
-use Rattle.kc_notation.specs.ClosedNotation.{term_text, types_behind, value_text, values_after}
 use Rattle.kc_notation.specs.ClosedWalk.{Lines, Sheet, scope_of, with_text, with_values, push, gathered, past, shut}
 use Rattle.kc_notation.specs.ClosedWalk.{name_note}
 use Rattle.kc_notation.specs.ClosedWalk.{step, walk, blank}
-use Rattle.kc_notation.proofs.Sheets.{before, gather_some, level_is, past_some, sheet, stack, stack_length, turn_is}
+use Rattle.kc_notation.proofs.Sheets.{level_is, past_some, sheet, stack, stack_length, turn_is}
+use Rattle.kc_notation.proofs.Texts.{call_text, gather_all, halt_text, if_text, let_text, line_text, pack_parts}
+use Rattle.kc_notation.proofs.Texts.{pair_text, proj_text, texts, tuple_text, unpack_line}
 use Rattle.kc_notation.proofs.Holding.{Holds, Kept, holds_behind, holds_code, holds_none, kept_behind, kept_holds}
 use Rattle.kc_notation.proofs.Holding.{kept_same, kept_twice, last_is, note_new, seen, seens, tuple_is}
 
--- numbers
-lift_one : (n : ℕ) → lift n 1 ≡ suc n
-lift_one zero = refl
-lift_one (suc n) = ap suc (lift_one n)
-
--- several values, the first first, and as they wait, the last first
-abbrev texts : Bool → ℕ → ℕ → ℕ → CVals → List (List ℕ)
-texts b n m k NoCVals = []
-texts b n m k (MoreCVals v vs) = value_text b n m k v ∷ texts b n m k vs
-
-abbrev joined : ℕ → List (List ℕ) → List ℕ
-joined b [] = []
-joined b (s ∷ ss) = separator b ++ s ++ joined (suc b) ss
-
-width_is : (b : Bool) (n m k : ℕ) (vs : CVals) → cwidth vs ≡ length (texts b n m k vs)
-width_is b n m k NoCVals = refl
-width_is b n m k (MoreCVals v vs) = let h = width_is b n m k vs in omega (arith, h)
+width_is : (b : Bool) (g : List CTy) (n m k : ℕ) (vs : CVals) → cwidth vs ≡ length (texts b g n m k vs)
+width_is b g n m k NoCVals = refl
+width_is b g n m k (MoreCVals v vs) = ap suc (width_is b g n m k vs)
 
 seens_width : (m n : ℕ) (g : List CTy) (vs : CVals) → cwidth vs ≡ length (seens m n g vs)
 seens_width m n g NoCVals = refl
 seens_width m n g (MoreCVals v vs) = let h = seens_width m n g vs in omega (arith, h)
-
-joined_is : (b : Bool) (i n m k : ℕ) (vs : CVals) → joined i (texts b n m k vs) ≡ values_after b i n m k vs
-joined_is b i n m k NoCVals = refl
-joined_is b i n m k (MoreCVals v vs) = ap (λ (w : List ℕ). separator i ++ value_text b n m k v
-    ++ w) (joined_is b (suc i) n m k vs)
-
-assoc₄ : (a b c d : List ℕ) → (a ++ b ++ c) ++ d ≡ a ++ (b ++ (c ++ d))
-assoc₄ a b c d = simp append_assoc
-
-joined_before : (b : ℕ) (ss : List (List ℕ)) (text : List ℕ) → joined (suc b) ss ++ text ≡ separator (0 + length ss)
-    ++ before 0 ss text
-joined_before b [] text = refl
-joined_before b (s ∷ ss) text =
-    let e : 0 + suc (length ss) ≡ suc (0 + length ss) = omega arith in
-    assoc₄ (codes ", ") s (joined (suc (suc b)) ss) text
-    ∙ ap (λ (w : List ℕ). codes ", " ++ (s ++ w)) (joined_before (suc b) ss text)
-    ∙ ap (λ j. separator j ++ (s ++ (separator (0 + length ss) ++ before 0 ss text))) (sym e)
-
-before_is : (ss : List (List ℕ)) (text : List ℕ) → before 0 ss text ≡ joined 0 ss ++ text
-before_is [] text = refl
-before_is (s ∷ ss) text =
-    ap (λ (w : List ℕ). s ++ w) (sym (joined_before 0 ss text)) ∙ sym (append_assoc s (joined 1 ss) text)
-
-gather_all : (c : ℕ) (ss vs : List (List ℕ)) (text : List ℕ) → c ≡ length ss → gathered c 0 (stack ss vs) text
-    ≡ joined 0 ss ++ text
-gather_all c ss vs text e = gather_some ss 0 0 c vs text (omega (arith, e)) ∙ before_is ss text
-
--- pieces of text
-tuple_text : (a b c : List ℕ) → a ++ (b ++ c) ≡ a ++ b ++ c
-tuple_text a b c = sym (append_assoc a b c)
-
-pack_text : (p h c v a s : List ℕ) → (p ++ (h ++ c)) ++ (v ++ (a ++ s)) ≡ p ++ h ++ c ++ v ++ a ++ s
-pack_text p h c v a s = simp append_assoc
-
-line_text : (t m l b o e w v z : List ℕ) → t ++ ((m ++ (l ++ (b ++ (o ++ (e ++ w))))) ++ (v ++ z)) ≡ t ++ (m ++ l ++ (b
-    ++ o) ++ e ++ (w ++ v) ++ z)
-line_text t m l b o e w v z = simp append_assoc
-
-proj_text : (t m l b o e p d g v z : List ℕ) → t ++ ((m ++ (l ++ (b ++ (o ++ (e ++ (p ++ (d ++ g))))))) ++ (v ++ z))
-    ≡ t ++ (m ++ l ++ (b ++ o) ++ e ++ (p ++ d ++ g ++ v) ++ z)
-proj_text t m l b o e p d g v z = simp append_assoc
-
-pair_text : (t m l b q e v o w z : List ℕ) → t ++ ((m ++ (l ++ (b ++ (q ++ (e ++ []))))) ++ ((v ++ (o ++ w)) ++ z))
-    ≡ t ++ (m ++ l ++ (b ++ q) ++ e ++ (v ++ o ++ w) ++ z)
-pair_text t m l b q e v o w z = simp (append_assoc, append-nil)
-
-unpack_line : (t m l o tn c vn q d e u v z : List ℕ) → t ++ ((m ++ ((l ++ o) ++ (tn ++ (c ++ (vn ++ (q ++ (d ++ (e
-    ++ u)))))))) ++ (v ++ z)) ≡ t ++ (m ++ l ++ (o ++ tn ++ c ++ vn ++ q ++ d) ++ e ++ (u ++ v) ++ z)
-unpack_line t m l o tn c vn q d e u v z = simp append_assoc
-
-let_text : (t m l b e d z r : List ℕ) → (t ++ (m ++ l ++ b ++ e ++ d ++ z)) ++ r ≡ t ++ (m ++ l ++ b ++ e ++ d ++ z
-    ++ r)
-let_text t m l b e d z r = simp append_assoc
-
-call_text : (t m f o ts c vs z : List ℕ) → (t ++ ((m ++ []) ++ (f ++ (o ++ (ts ++ c))))) ++ (vs ++ z) ≡ t ++ (m ++ f
-    ++ o ++ ts ++ c ++ vs ++ z)
-call_text t m f o ts c vs z = simp (append_assoc, append-nil)
-
-if_text : (t m i v h a e b : List ℕ) → ((t ++ ((m ++ i) ++ (v ++ h))) ++ a ++ (m ++ e)) ++ b ≡ t ++ (m ++ i ++ v ++ h
-    ++ a ++ m ++ e ++ b)
-if_text t m i v h a e b = simp append_assoc
-
-halt_text : (t m h v z : List ℕ) → t ++ ((m ++ h) ++ (v ++ z)) ≡ t ++ (m ++ h ++ v ++ z)
-halt_text t m h v z = simp append_assoc
 
 module _ (b : Bool) where
   -- nodes lead to a body that ends with this text, with the same second branches to come, and of whose first m names
@@ -140,7 +65,7 @@ module _ (b : Bool) where
     of_value : (v : CVal) (m : ℕ) (g : List CTy) (rest : List CNd) (κ : Known) (p : Sheet) → CScoped_v m v →
         Holds κ.body.names m p.body.scope.types g →
         walk b (clin_v m v rest) κ p
-        ≡ walk b rest (put κ (seen m p.body.scope.types g v)) (push p (value_text b p.body.scope.types m
+        ≡ walk b rest (put κ (seen m p.body.scope.types g v)) (push p (value_text b g p.body.scope.types m
         p.body.scope.indent v))
     of_value (CVar i) m g rest κ p s h =
         ap (λ l. walk b rest (put κ (named (level_of m i))) (push p (value_name l))) (level_is m i)
@@ -148,36 +73,34 @@ module _ (b : Bool) where
     of_value (CTuple vs) m g rest κ p s h =
         let n = p.body.scope.types in
         let k = p.body.scope.indent in
-        let ss = texts b n m k vs in
+        let ss = texts b g n m k vs in
         let known = put κ (own n (TCTuple (value_types g vs))) in
         of_values vs m g (MTuple (cwidth vs) ∷ rest) κ p s h
         ∙ ap (λ x. walk b rest x (with_values p ((codes "<" ++ gathered (cwidth vs) 0 (stack ss p.body.values) (codes
         ">")) ∷ past (cwidth vs) (stack ss p.body.values))))
         (tuple_is κ.body.names m n g h κ.body.values vs (cwidth vs) κ.around s (seens_width m n g vs))
         ∙ ap₂ (λ (t : List ℕ) us. walk b rest known (with_values p ((codes "<" ++ t) ∷ us)))
-        (gather_all (cwidth vs) ss p.body.values (codes ">") (width_is b n m k vs) ∙ ap (λ (t : List ℕ). t
-        ++ codes ">") (joined_is b 0 n m k vs))
-        (past_some ss 0 (cwidth vs) p.body.values (let w = width_is b n m k vs in omega (arith, w)))
-        ∙ ap (λ t. walk b rest known (push p t)) (tuple_text (codes "<") (values_after b 0 n m k vs) (codes ">"))
+        (gather_all b g n m k (cwidth vs) vs p.body.values (codes ">") (width_is b g n m k vs))
+        (past_some ss 0 (cwidth vs) p.body.values (let w = width_is b g n m k vs in omega (arith, w)))
     of_value (CCode owes args body) m g rest κ p s h =
         let n = p.body.scope.types in
         let k = p.body.scope.indent in
         let inner = cargs_onto args (TCCode owes args ∷ []) in
         let known = put κ (own n (TCCode owes args)) in
-        let r = of_term body (lift (ccount args) 1) owes (k + 1) inner (head_text owes args) [] (p.body ∷ p.around)
+        let r = of_term body (lift (ccount args) 1) owes (k + 1) inner (code_line true 0 0 owes args) [] (p.body ∷ p.around)
         (enter n owes args κ) s (holds_code owes args) in
         r.goes (MEnd ∷ rest)
         ∙ ap (λ (t : List ℕ). walk b rest known (push p (t ++ (margin k ++ codes "}"))))
-        (r.ends ∙ ap (λ j. head_text owes args ++ term_text b inner owes j (k + 1) body) (lift_one (ccount args)))
-        ∙ ap (λ t. walk b rest known (push p t)) (tuple_text (head_text owes args
-        ++ term_text b inner owes (suc (ccount args)) (k + 1) body) (margin k) (codes "}"))
+        r.ends
+        ∙ ap (λ t. walk b rest known (push p t)) (tuple_text (code_line true 0 0 owes args
+        ++ term_text b inner owes (lift (ccount args) 1) (k + 1) body) (margin k) (codes "}"))
     of_value (CApply v ts) m g rest κ p s h =
         let n = p.body.scope.types in
         let k = p.body.scope.indent in
         let x = seen m n g v in
         of_value v m g (MApply ts ∷ rest) κ p s h
         ∙ ap₂ (λ ss t. walk b rest (with_names κ.body.names (ss ++ own n (applied_type t ts) ∷ []) κ.around)
-        (push p (value_text b n m k v ++ applied_text n ts)))
+        (push p (value_text b g n m k v ++ applied_text n ts)))
         (but_last_snoc κ.body.values x) (last_is κ.body.names m n g h κ.body.values v s)
     of_value (CPack a v t) m g rest κ p s h =
         let n = p.body.scope.types in
@@ -186,34 +109,35 @@ module _ (b : Bool) where
         of_value v m g (MPack a t ∷ rest) κ p s h
         ∙ ap₂ (λ ss w. walk b rest (with_names κ.body.names (ss ++ own n t ∷ []) κ.around) (push p w))
         (but_last_snoc κ.body.values x)
-        (pack_text (codes "pack [") (type_text n a) (codes ", ") (value_text b n m k v) (codes "] as ") (type_text n t))
+        (pack_parts (codes "pack [") (type_text n a) (codes ", ") (value_text b g n m k v) (codes "] as ")
+        (type_text n t))
 
     of_values : (vs : CVals) (m : ℕ) (g : List CTy) (rest : List CNd) (κ : Known) (p : Sheet) → CScoped_vs m vs →
         Holds κ.body.names m p.body.scope.types g →
         walk b (clin_vs m vs rest) κ p
         ≡ walk b rest (with_names κ.body.names (κ.body.values ++ seens m p.body.scope.types g vs) κ.around)
-        (with_values p (stack (texts b p.body.scope.types m p.body.scope.indent vs) p.body.values))
+        (with_values p (stack (texts b g p.body.scope.types m p.body.scope.indent vs) p.body.values))
     of_values NoCVals m g rest κ p s h =
         ap (λ ss. walk b rest (with_names κ.body.names ss κ.around) p) (sym (append-nil κ.body.values))
     of_values (MoreCVals v vs) m g rest κ p s h =
         let n = p.body.scope.types in
         let x = seen m n g v in
-        let w = value_text b n m p.body.scope.indent v in
+        let w = value_text b g n m p.body.scope.indent v in
         of_value v m g (clin_vs m vs rest) κ p s.0 h
         ∙ of_values vs m g rest (put κ x) (push p w) s.1 h
         ∙ ap (λ ss. walk b rest (with_names κ.body.names ss κ.around)
-        (with_values p (stack (texts b n m p.body.scope.indent vs) (w ∷ p.body.values))))
+        (with_values p (stack (texts b g n m p.body.scope.indent vs) (w ∷ p.body.values))))
         (append_assoc κ.body.values (x ∷ []) (seens m n g vs))
 
     of_decl : (d : CDecl) (m n k : ℕ) (g : List CTy) (text : List ℕ) (bs : List Scope) (ls : List Lines)
         (rest : List CNd) (κ : Known) → CScoped_d m d → Holds κ.body.names m n g →
         walk b (clin_d m d rest) κ (sheet text n k bs ls)
         ≡ walk b rest (declare m (types_behind n d) (decl_type g d) κ) (sheet (text ++ (margin k ++ codes "let "
-        ++ bound_text n m (decl_note b g n d) d ++ codes " = " ++ declared_text b n m k d ++ codes "\n"))
+        ++ bound_text n m (decl_note b g n d) d ++ codes " = " ++ declared_text b g n m k d ++ codes "\n"))
         (types_behind n d) k bs ls)
     of_decl (CName v) m n k g text bs ls rest κ s h =
         let p = sheet text n k bs ls in
-        let w = value_text b n m k v in
+        let w = value_text b g n m k v in
         let t = value_type g v in
         of_value v m g (MName m ∷ rest) κ p s h
         ∙ named_as (MName m) κ (push p w) rest m n (last_type n (put κ (seen m n g v))) t h.long
@@ -222,7 +146,7 @@ module _ (b : Bool) where
         (value_name m) (note_text b n t) (codes " = ") [] w (codes "\n"))
     of_decl (CProj i v) m n k g text bs ls rest κ s h =
         let p = sheet text n k bs ls in
-        let w = value_text b n m k v in
+        let w = value_text b g n m k v in
         let t = field_type i (value_type g v) in
         of_value v m g (MProj m i ∷ rest) κ p s h
         ∙ named_as (MProj m i) κ (push p w) rest m n (field_type i (last_type n (put κ (seen m n g v)))) t h.long
@@ -231,8 +155,8 @@ module _ (b : Bool) where
         (value_name m) (note_text b n t) (codes " = ") (codes "#") (decimal i) (codes " ") w (codes "\n"))
     of_decl (CArith op v w) m n k g text bs ls rest κ s h =
         let p = sheet text n k bs ls in
-        let x = value_text b n m k v in
-        let y = value_text b n m k w in
+        let x = value_text b g n m k v in
+        let y = value_text b g n m k w in
         of_value v m g (clin_v m w (MArith m op ∷ rest)) κ p s.0 h
         ∙ of_value w m g (MArith m op ∷ rest) (put κ (seen m n g v)) (push p x) s.1 h
         ∙ named_as (MArith m op) κ (push (push p x) y) rest m n TCInt TCInt h.long refl
@@ -240,17 +164,21 @@ module _ (b : Bool) where
         (value_name m) (note_text b n TCInt) (codes " = ") x (op_sign op) y (codes "\n"))
     of_decl (CUnpack v) m n k g text bs ls rest κ s h =
         let p = sheet text n k bs ls in
-        let w = value_text b n m k v in
+        let w = value_text b g n m k v in
         let t = opened_type (value_type g v) in
+        let more : n + 1 ≡ suc n = omega arith in
         of_value v m g (MUnpack m ∷ rest) κ p s h
         ∙ named_as (MUnpack m) κ (push p w) rest m (n + 1) (opened_type (last_type n (put κ (seen m n g v)))) t h.long
         (ap opened_type (last_is κ.body.names m n g h κ.body.values v s))
         ∙ ap (λ x. walk b rest (declare m (n + 1) t κ) (sheet x (n + 1) k bs ls)) (unpack_line text (margin k)
         (codes "let ") (codes "[") (type_name n) (codes ", ") (value_name m) (note_text b (n + 1) t) (codes "]")
         (codes " = ") (codes "unpack ") w (codes "\n"))
+        ∙ ap (λ j. walk b rest (declare m j t κ) (sheet (text ++ (margin k ++ codes "let "
+        ++ bound_text n m (note_text b j t) (CUnpack v) ++ codes " = " ++ declared_text b g n m k (CUnpack v)
+        ++ codes "\n")) j k bs ls)) more
     of_decl (CCell v) m n k g text bs ls rest κ s h =
         let p = sheet text n k bs ls in
-        let w = value_text b n m k v in
+        let w = value_text b g n m k v in
         let t = TCRef (value_type g v) in
         of_value v m g (MCell m ∷ rest) κ p s h
         ∙ named_as (MCell m) κ (push p w) rest m n (TCRef (last_type n (put κ (seen m n g v)))) t h.long
@@ -259,7 +187,7 @@ module _ (b : Bool) where
         (value_name m) (note_text b n t) (codes " = ") (codes "ref ") w (codes "\n"))
     of_decl (CGet v) m n k g text bs ls rest κ s h =
         let p = sheet text n k bs ls in
-        let w = value_text b n m k v in
+        let w = value_text b g n m k v in
         let t = held_type (value_type g v) in
         of_value v m g (MGet m ∷ rest) κ p s h
         ∙ named_as (MGet m) κ (push p w) rest m n (held_type (last_type n (put κ (seen m n g v)))) t h.long
@@ -268,8 +196,8 @@ module _ (b : Bool) where
         (value_name m) (note_text b n t) (codes " = ") (codes "!") w (codes "\n"))
     of_decl (CSet v w) m n k g text bs ls rest κ s h =
         let p = sheet text n k bs ls in
-        let x = value_text b n m k v in
-        let y = value_text b n m k w in
+        let x = value_text b g n m k v in
+        let y = value_text b g n m k w in
         let t = TCTuple NoCTys in
         of_value v m g (clin_v m w (MSet m ∷ rest)) κ p s.0 h
         ∙ of_value w m g (MSet m ∷ rest) (put κ (seen m n g v)) (push p x) s.1 h
@@ -282,7 +210,7 @@ module _ (b : Bool) where
         Makes (clin_t m t) m κ (sheet text n k bs ls) (text ++ term_text b g n m k t)
     of_term (CLet d t) m n k g text bs ls κ s h =
         let bound = bound_text n m (decl_note b g n d) d in
-        let line = margin k ++ codes "let " ++ bound ++ codes " = " ++ declared_text b n m k d ++ codes "\n" in
+        let line = margin k ++ codes "let " ++ bound ++ codes " = " ++ declared_text b g n m k d ++ codes "\n" in
         let behind = names_behind g d in
         let r = of_term t (suc m) (types_behind n d) k behind (text ++ line) bs ls
         (declare m (types_behind n d) (decl_type g d) κ) s.1 (holds_behind κ.body.names m n g d h) in
@@ -290,14 +218,14 @@ module _ (b : Bool) where
           body = r.body;
           frame = r.frame;
           goes = λ rest. of_decl d m n k g text bs ls (clin_t (suc m) t rest) κ s.0 h ∙ r.goes rest;
-          ends = r.ends ∙ let_text text (margin k) (codes "let ") bound (codes " = ") (declared_text b n m k d)
+          ends = r.ends ∙ let_text text (margin k) (codes "let ") bound (codes " = ") (declared_text b g n m k d)
               (codes "\n") (term_text b behind (types_behind n d) (suc m) k t);
           branches = r.branches;
           kept = kept_behind κ.body.names r.frame.names m (entry_of (decl_type g d) (types_behind n d)) h.long r.kept;
         }
     of_term (CCall f ts vs) m n k g text bs ls κ s h =
-        let ss = texts b n m k vs in
-        let called = step [] (MCall ts (cwidth vs)) (push (sheet text n k bs ls) (value_text b n m k f)) in
+        let ss = texts b g n m k vs in
+        let called = step [] (MCall ts (cwidth vs)) (push (sheet text n k bs ls) (value_text b g n m k f)) in
         record {
           body = with_text called.body called.body.text (stack ss []);
           frame = (with_names κ.body.names (seens m n g vs) κ.around).body;
@@ -306,15 +234,15 @@ module _ (b : Bool) where
               ∙ of_values vs m g rest (with_names κ.body.names [] κ.around) called s.1 h;
           ends =
               ap (λ (t : List ℕ). called.body.text ++ t)
-              (gather_all (length (stack ss [])) ss [] (codes ")\n") (let w = stack_length ss [] in omega (arith, w))
-              ∙ ap (λ (t : List ℕ). t ++ codes ")\n") (joined_is b 0 n m k vs))
-              ∙ call_text text (margin k) (value_text b n m k f) (codes "[") (types_text n ts) (codes "](")
-              (values_after b 0 n m k vs) (codes ")\n");
+              (gather_all b g n m k (length (stack ss [])) vs [] (codes ")\n")
+              (let w = stack_length ss [] in omega (arith, w)))
+              ∙ call_text text (margin k) (value_text b g n m k f) (codes "[") (types_text n ts) (codes "](")
+              (values_after b g 0 n m k vs) (codes ")\n");
           branches = refl;
           kept = kept_same κ.body.names m n g h;
         }
     of_term (CIf v t u) m n k g text bs ls κ s h =
-        let w = value_text b n m k v in
+        let w = value_text b g n m k v in
         let first = text ++ ((margin k ++ codes "if0 ") ++ (w ++ codes " then\n")) in
         let zero_part = term_text b g n m (k + 1) t in
         let r = of_term t m n (k + 1) g first (scope_of n k ∷ bs) ls (with_names κ.body.names [] κ.around) s.1 h in
@@ -337,10 +265,10 @@ module _ (b : Bool) where
           kept = kept_twice κ.body.names r.frame.names q.frame.names m r.kept q.kept;
         }
     of_term (CHalt v) m n k g text bs ls κ s h = record {
-      body = (step [] MHalt (push (sheet text n k bs ls) (value_text b n m k v))).body;
+      body = (step [] MHalt (push (sheet text n k bs ls) (value_text b g n m k v))).body;
       frame = (with_names κ.body.names [] κ.around).body;
       goes = λ rest. of_value v m g (MHalt ∷ rest) κ (sheet text n k bs ls) s h;
-      ends = halt_text text (margin k) (codes "halt ") (value_text b n m k v) (codes "\n");
+      ends = halt_text text (margin k) (codes "halt ") (value_text b g n m k v) (codes "\n");
       branches = refl;
       kept = kept_same κ.body.names m n g h;
     }

@@ -5,7 +5,8 @@ use Rattle.idx_core.specs.declared.arith.Op.TheVariants.{Mul}
 use Rattle.k_terms.specs.K.{TKInt, TKVar, TKTuple, TKCode, TKExists, TKRef, NoKTys, MoreKTys, KVar, KInt, KTuple, KCode}
 use Rattle.k_terms.specs.K.{NoKVals, MoreKVals, KName, KProj, KArith, KPack, KUnpack, KCell, KGet, KSet, KTm, KLet}
 use Rattle.k_terms.specs.K.{KCall, KIf, KHalt}
-use Rattle.kc_notation.specs.CpsNotation.{k_text, type_text}
+use Rattle.kc_notation.specs.CpsNotation.{type_text}
+use Rattle.kc_notation.specs.Notation.{k_text}
 
 -- a code of a type a, that calls the second of its arguments with -3
 abbrev of_two : KTm → KTm

@@ -10,7 +10,7 @@ use Rattle.k_terms.specs.declared.node.KNode.{KNode}
 use Rattle.kc_notation.specs.declared.page.Page.{Page}
 use Rattle.kc_notation.specs.Standing.{IsPage}
 use Rattle.kc_notation.specs.ClosedWalk.{Sheet, blank, shut}
-use Rattle.kc_notation.specs.CpsNotation.{k_text}
+use Rattle.kc_notation.specs.Notation.{k_text}
 use Rattle.kc_notation.specs.CpsWalk.{step, walk}
 use Rattle.kc_notation.proofs.CpsWalking.{nodes_make}
 

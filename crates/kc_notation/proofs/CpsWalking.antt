@@ -1,10 +1,10 @@
 -- The nodes of a term make its text.
 use Rattle.std.proofs.Common.{◌≡◌, ℕ, suc, ◌+◌, Bool, List, [], ◌∷◌, ◌++◌, length, refl, ap, ap₂, ◌∙◌, arith}
-use Rattle.std.proofs.Common.{append_assoc, codes, decimal}
-use Rattle.std.proofs.lemmas.List.{append-nil}
-use Rattle.calc_core.specs.Ends.{lift, after_one}
+use Rattle.std.proofs.Common.{codes, decimal, false}
+use Rattle.calc_core.specs.Ends.{lift}
+use Rattle.calc_core.specs.TypeOf.{types_behind}
 use Rattle.calc_core.proofs.Lifts.{lift_is}
-use Rattle.page_core.specs.Names.{margin, op_sign, separator, type_name, value_name}
+use Rattle.page_core.specs.Names.{margin, op_sign, type_name, value_name}
 use Rattle.k_terms.specs.K.{KTy, KVal, KVar, KInt, KTuple, KCode, KVals, NoKVals, MoreKVals, KDecl, KName, KProj}
 use Rattle.k_terms.specs.K.{KArith, KPack, KUnpack, KCell, KGet, KSet, KTm, KLet, KCall, KIf, KHalt, kcount}
 use Rattle.k_terms.specs.K.{kbody_scope, opens, scope_more}
@@ -12,82 +12,20 @@ use Rattle.k_terms.specs.Stream.{KNd, NTuple, NEnd, NName, NProj, NArith, NPack,
 use Rattle.k_terms.specs.Stream.{NIf, NElse, NHalt, klin_v, klin_vs, klin_d, klin_t, kwidth}
 use Rattle.k_terms.specs.Types.{kd_type}
 use Rattle.kc_notation.specs.declared.page.Scope.{Scope}
-use Rattle.kc_notation.specs.ClosedWalk.{Lines, Sheet, blank, gathered, push, scope_of, shut, with_text, with_values}
-use Rattle.kc_notation.proofs.Sheets.{before, gather_some, level_is, past_some, sheet, stack, stack_length, turn_is}
-use Rattle.kc_notation.specs.CpsNotation.{code_line, decl_note, k_text, let_text, note_text, term_text}
-use Rattle.kc_notation.specs.CpsNotation.{type_text, types_text, value_text, values_text}
+use Rattle.kc_notation.specs.ClosedWalk.{Lines, Sheet, blank, push, scope_of, shut, with_text, with_values}
+use Rattle.kc_notation.proofs.Sheets.{level_is, past_some, sheet, stack, stack_length, turn_is}
+use Rattle.kc_notation.specs.CpsNotation.{note_text, type_text, types_text}
+use Rattle.kc_notation.specs.Heads.{code_line}
+use Rattle.kc_notation.specs.Notation.{bound_text, decl_note, declared_text, k_text, term_text, value_text}
+use Rattle.kc_notation.specs.Notation.{values_after}
+use Rattle.kc_notation.proofs.Texts.{call_text, gather_all, halt_text, if_text, let_text, line_text, pack_parts}
+use Rattle.kc_notation.proofs.Texts.{pair_text, proj_text, texts, tuple_text, unpack_line}
 use Rattle.kc_notation.specs.CpsWalk.{step, walk}
 
--- how many names are around the body of a code
-body_names : (c d : ℕ) → lift c (suc d) ≡ d + 1 + c
-body_names c d = let l = lift_is c (suc d) in omega (arith, l)
-
--- pieces of text
-list_text : (v s w t : List ℕ) → v ++ (s ++ (w ++ t)) ≡ (v ++ s ++ w) ++ t
-list_text v s w t = simp append_assoc
-
-code_text : (h t m e : List ℕ) → (h ++ t) ++ (m ++ e) ≡ h ++ t ++ m ++ e
-code_text h t m e = simp append_assoc
-
-noted_line : (t m l x o e w v z : List ℕ) → t ++ ((m ++ (l ++ (x ++ (o ++ (e ++ w))))) ++ (v ++ z)) ≡ t ++ ((m ++ l
-    ++ x ++ o ++ e) ++ w ++ v ++ z)
-noted_line t m l x o e w v z = simp append_assoc
-
-name_line : (t m l x o e v z : List ℕ) → t ++ ((m ++ (l ++ (x ++ (o ++ (e ++ []))))) ++ (v ++ z)) ≡ t ++ ((m ++ l
-    ++ x ++ o ++ e) ++ v ++ z)
-name_line t m l x o e v z = simp (append_assoc, append-nil)
-
-proj_line : (t m l x o e p d g v z : List ℕ) → t ++ ((m ++ (l ++ (x ++ (o ++ (e ++ (p ++ (d ++ g))))))) ++ (v ++ z))
-    ≡ t ++ ((m ++ l ++ x ++ o ++ e) ++ p ++ d ++ g ++ v ++ z)
-proj_line t m l x o e p d g v z = simp append_assoc
-
-pair_line : (t m l x o e v s w z : List ℕ) → t ++ ((m ++ (l ++ (x ++ (o ++ (e ++ []))))) ++ ((v ++ (s ++ w)) ++ z))
-    ≡ t ++ ((m ++ l ++ x ++ o ++ e) ++ v ++ s ++ w ++ z)
-pair_line t m l x o e v s w z = simp (append_assoc, append-nil)
-
-pack_line : (t m l x o e p h c v a s z : List ℕ) → t ++ ((m ++ (l ++ (x ++ (o ++ (e ++ [])))))
-    ++ (((p ++ (h ++ c)) ++ (v ++ (a ++ s))) ++ z)) ≡ t ++ ((m ++ l ++ x ++ o ++ e) ++ p ++ h ++ c ++ v ++ (a ++ s
-    ++ z))
-pack_line t m l x o e p h c v a s z = simp (append_assoc, append-nil)
-
-unpack_line : (t m l n c x o e v z : List ℕ) → t ++ ((m ++ (l ++ (n ++ (c ++ (x ++ (o ++ e)))))) ++ (v ++ z)) ≡ t ++ (m
-    ++ l ++ n ++ c ++ x ++ o ++ e ++ v ++ z)
-unpack_line t m l n c x o e v z = simp append_assoc
-
-call_text : (t m f o ts c vs z : List ℕ) → (t ++ ((m ++ []) ++ (f ++ (o ++ (ts ++ c))))) ++ (vs ++ z) ≡ t ++ (m ++ f
-    ++ (o ++ ts ++ c) ++ (vs ++ z))
-call_text t m f o ts c vs z = simp (append_assoc, append-nil)
-
-if_text : (t m i v h a e r : List ℕ) → ((t ++ ((m ++ i) ++ (v ++ h))) ++ a ++ (m ++ e)) ++ r ≡ t ++ (m ++ i ++ v ++ h
-    ++ a ++ m ++ e ++ r)
-if_text t m i v h a e r = simp append_assoc
-
-halt_text : (t m h v z : List ℕ) → t ++ ((m ++ h) ++ (v ++ z)) ≡ t ++ (m ++ h ++ v ++ z)
-halt_text t m h v z = simp append_assoc
-
 module _ (b : Bool) where
-  -- several values, the first first
-  abbrev texts : List KTy → ℕ → ℕ → ℕ → KVals → List (List ℕ)
-  texts g n m k NoKVals = []
-  texts g n m k (MoreKVals v vs) = value_text b g n m k v ∷ texts g n m k vs
-
-  width_is : (g : List KTy) (n m k : ℕ) (vs : KVals) → kwidth vs ≡ length (texts g n m k vs)
+  width_is : (g : List KTy) (n m k : ℕ) (vs : KVals) → kwidth vs ≡ length (texts b g n m k vs)
   width_is g n m k NoKVals = refl
   width_is g n m k (MoreKVals v vs) = ap suc (width_is g n m k vs)
-
-  before_is : (g : List KTy) (n m k : ℕ) (vs : KVals) (text : List ℕ) →
-      before 0 (texts g n m k vs) text ≡ values_text b g n m k vs ++ text
-  before_is g n m k NoKVals text = refl
-  before_is g n m k (MoreKVals v vs) text =
-      let e : 0 + length (texts g n m k vs) ≡ kwidth vs = let h = width_is g n m k vs in omega (arith, h) in
-      ap₂ (λ (j : ℕ) (w : List ℕ). value_text b g n m k v ++ (separator j ++ w)) e (before_is g n m k vs text)
-      ∙ list_text (value_text b g n m k v) (separator (kwidth vs)) (values_text b g n m k vs) text
-
-  gather_all : (g : List KTy) (n m k c : ℕ) (vs : KVals) (more : List (List ℕ)) (text : List ℕ) →
-      c ≡ length (texts g n m k vs) →
-      gathered c 0 (stack (texts g n m k vs) more) text ≡ values_text b g n m k vs ++ text
-  gather_all g n m k c vs more text e =
-      gather_some (texts g n m k vs) 0 0 c more text (omega (arith, e)) ∙ before_is g n m k vs text
 
   -- nodes lead to a body that ends with this text, with the same second branches to come
   record Makes (nodes : List KNd → List KNd) (p : Sheet) (text : List ℕ) : Type 0 where
@@ -104,27 +42,28 @@ module _ (b : Bool) where
     of_value (KTuple vs) m td g rest p =
         let n = p.body.scope.types in
         let k = p.body.scope.indent in
-        let ss = texts g n m k vs in
+        let ss = texts b g n m k vs in
         of_values vs m td g (NTuple (kwidth vs) ∷ rest) p
         ∙ ap₂ (λ (t : List ℕ) us. walk b rest (with_values p ((codes "<" ++ t) ∷ us)))
-        (gather_all g n m k (kwidth vs) vs p.body.values (codes ">") (width_is g n m k vs))
+        (gather_all b g n m k (kwidth vs) vs p.body.values (codes ">") (width_is g n m k vs))
         (past_some ss 0 (kwidth vs) p.body.values (let h = width_is g n m k vs in omega (arith, h)))
     of_value (KCode owes args body) m td g rest p =
         let n = p.body.scope.types in
         let k = p.body.scope.indent in
-        let head = code_line n m owes args in
+        let head = code_line false n m owes args in
         let around = kbody_scope owes args g in
-        let h = of_term body (lift (kcount args) (suc m)) (lift owes td) around (n + owes) (k + 1) head []
-        (p.body ∷ p.around) in
+        let inside = lift (kcount args) (suc m) in
+        let same : n + owes ≡ lift owes n = let l = lift_is owes n in omega (arith, l) in
+        let h = of_term body inside (lift owes td) around (n + owes) (k + 1) head [] (p.body ∷ p.around) in
         h.goes (NEnd ∷ rest)
         ∙ ap (λ (t : List ℕ). walk b rest (push p (t ++ (margin k ++ codes "}"))))
-        (h.ends ∙ ap (λ j. head ++ term_text b around (n + owes) j (k + 1) body) (body_names (kcount args) m))
+        (h.ends ∙ ap (λ j. head ++ term_text b around j inside (k + 1) body) same)
         ∙ ap (λ t. walk b rest (push p t))
-        (code_text head (term_text b around (n + owes) (m + 1 + kcount args) (k + 1) body) (margin k) (codes "}"))
+        (tuple_text (head ++ term_text b around (lift owes n) inside (k + 1) body) (margin k) (codes "}"))
 
     of_values : (vs : KVals) (m td : ℕ) (g : List KTy) (rest : List KNd) (p : Sheet) →
         walk b (klin_vs m td g vs rest) p
-        ≡ walk b rest (with_values p (stack (texts g p.body.scope.types m p.body.scope.indent vs) p.body.values))
+        ≡ walk b rest (with_values p (stack (texts b g p.body.scope.types m p.body.scope.indent vs) p.body.values))
     of_values NoKVals m td g rest p = refl
     of_values (MoreKVals v vs) m td g rest p =
         of_value v m td g (klin_vs m td g vs rest) p
@@ -132,69 +71,75 @@ module _ (b : Bool) where
 
     of_decl : (d : KDecl) (m td : ℕ) (g : List KTy) (n k : ℕ) (text : List ℕ) (bs : List Scope) (ls : List Lines)
         (rest : List KNd) → walk b (klin_d m td g d rest) (sheet text n k bs ls)
-        ≡ walk b rest (sheet (text ++ let_text b g n m k (decl_note b g n d) d) (after_one (opens d) n) k bs ls)
+        ≡ walk b rest (sheet (text ++ (margin k ++ codes "let " ++ bound_text n m (decl_note b g n d) d ++ codes " = "
+        ++ declared_text b g n m k d ++ codes "\n")) (types_behind n d) k bs ls)
     of_decl (KName v) m td g n k text bs ls rest =
         of_value v m td g (NName m (kd_type g (KName v)) ∷ rest) (sheet text n k bs ls)
-        ∙ ap (λ t. walk b rest (sheet t n k bs ls)) (name_line text (margin k) (codes "let ") (value_name m)
-        (decl_note b g n (KName v)) (codes " = ") (value_text b g n m k v) (codes "\n"))
+        ∙ ap (λ t. walk b rest (sheet t n k bs ls)) (line_text text (margin k) (codes "let ") (value_name m)
+        (decl_note b g n (KName v)) (codes " = ") [] (value_text b g n m k v) (codes "\n"))
     of_decl (KProj i v) m td g n k text bs ls rest =
         of_value v m td g (NProj m i (kd_type g (KProj i v)) ∷ rest) (sheet text n k bs ls)
-        ∙ ap (λ t. walk b rest (sheet t n k bs ls)) (proj_line text (margin k) (codes "let ") (value_name m)
+        ∙ ap (λ t. walk b rest (sheet t n k bs ls)) (proj_text text (margin k) (codes "let ") (value_name m)
         (decl_note b g n (KProj i v)) (codes " = ") (codes "#") (decimal i) (codes " ") (value_text b g n m k v)
         (codes "\n"))
     of_decl (KArith op v w) m td g n k text bs ls rest =
         of_value v m td g (klin_v m td g w (NArith m op ∷ rest)) (sheet text n k bs ls)
         ∙ of_value w m td g (NArith m op ∷ rest) (push (sheet text n k bs ls) (value_text b g n m k v))
-        ∙ ap (λ t. walk b rest (sheet t n k bs ls)) (pair_line text (margin k) (codes "let ") (value_name m)
+        ∙ ap (λ t. walk b rest (sheet t n k bs ls)) (pair_text text (margin k) (codes "let ") (value_name m)
         (decl_note b g n (KArith op v w)) (codes " = ") (value_text b g n m k v) (op_sign op) (value_text b g n m k w)
         (codes "\n"))
     of_decl (KPack h v s) m td g n k text bs ls rest =
+        let w = value_text b g n m k v in
+        let note = decl_note b g n (KPack h v s) in
         of_value v m td g (NPack m td h s ∷ rest) (sheet text n k bs ls)
-        ∙ ap (λ t. walk b rest (sheet t n k bs ls)) (pack_line text (margin k) (codes "let ") (value_name m)
-        (decl_note b g n (KPack h v s)) (codes " = ") (codes "pack [") (type_text n h) (codes ", ")
-        (value_text b g n m k v) (codes "] as ") (type_text n s) (codes "\n"))
+        ∙ ap (λ t. walk b rest (sheet t n k bs ls)) (line_text text (margin k) (codes "let ") (value_name m) note
+        (codes " = ") [] ((codes "pack [" ++ (type_text n h ++ codes ", ")) ++ (w ++ (codes "] as " ++ type_text n s)))
+        (codes "\n")
+        ∙ ap (λ (x : List ℕ). text ++ (margin k ++ codes "let " ++ (value_name m ++ note) ++ codes " = " ++ x
+        ++ codes "\n"))
+        (pack_parts (codes "pack [") (type_text n h) (codes ", ") w (codes "] as ") (type_text n s)))
     of_decl (KUnpack v) m td g n k text bs ls rest =
         let more : n + 1 ≡ suc n = omega arith in
-        of_value v m td g (NUnpack m td (kd_type g (KUnpack v)) ∷ rest) (sheet text n k bs ls)
-        ∙ ap (λ t. walk b rest (sheet t (n + 1) k bs ls)) (unpack_line text (margin k) (codes "let [") (type_name n)
-        (codes ", ") (value_name m) (note_text b (n + 1) (kd_type g (KUnpack v))) (codes "] = unpack ")
-        (value_text b g n m k v) (codes "\n"))
-        ∙ ap (λ j. walk b rest (sheet (text ++ let_text b g n m k (note_text b j (kd_type g (KUnpack v))) (KUnpack v))
-        j k bs ls)) more
+        let w = value_text b g n m k v in
+        let t = kd_type g (KUnpack v) in
+        of_value v m td g (NUnpack m td t ∷ rest) (sheet text n k bs ls)
+        ∙ ap (λ x. walk b rest (sheet x (n + 1) k bs ls)) (unpack_line text (margin k) (codes "let ") (codes "[")
+        (type_name n) (codes ", ") (value_name m) (note_text b (n + 1) t) (codes "]") (codes " = ") (codes "unpack ")
+        w (codes "\n"))
+        ∙ ap (λ j. walk b rest (sheet (text ++ (margin k ++ codes "let " ++ bound_text n m (note_text b j t) (KUnpack v)
+        ++ codes " = " ++ declared_text b g n m k (KUnpack v) ++ codes "\n")) j k bs ls)) more
     of_decl (KCell v) m td g n k text bs ls rest =
         of_value v m td g (NCell m (kd_type g (KCell v)) ∷ rest) (sheet text n k bs ls)
-        ∙ ap (λ t. walk b rest (sheet t n k bs ls)) (noted_line text (margin k) (codes "let ") (value_name m)
+        ∙ ap (λ t. walk b rest (sheet t n k bs ls)) (line_text text (margin k) (codes "let ") (value_name m)
         (decl_note b g n (KCell v)) (codes " = ") (codes "ref ") (value_text b g n m k v) (codes "\n"))
     of_decl (KGet v) m td g n k text bs ls rest =
         of_value v m td g (NGet m (kd_type g (KGet v)) ∷ rest) (sheet text n k bs ls)
-        ∙ ap (λ t. walk b rest (sheet t n k bs ls)) (noted_line text (margin k) (codes "let ") (value_name m)
+        ∙ ap (λ t. walk b rest (sheet t n k bs ls)) (line_text text (margin k) (codes "let ") (value_name m)
         (decl_note b g n (KGet v)) (codes " = ") (codes "!") (value_text b g n m k v) (codes "\n"))
     of_decl (KSet v w) m td g n k text bs ls rest =
         of_value v m td g (klin_v m td g w (NSet m ∷ rest)) (sheet text n k bs ls)
         ∙ of_value w m td g (NSet m ∷ rest) (push (sheet text n k bs ls) (value_text b g n m k v))
-        ∙ ap (λ t. walk b rest (sheet t n k bs ls)) (pair_line text (margin k) (codes "let ") (value_name m)
+        ∙ ap (λ t. walk b rest (sheet t n k bs ls)) (pair_text text (margin k) (codes "let ") (value_name m)
         (decl_note b g n (KSet v w)) (codes " = ") (value_text b g n m k v) (codes " := ") (value_text b g n m k w)
         (codes "\n"))
 
     of_term : (t : KTm) (m td : ℕ) (g : List KTy) (n k : ℕ) (text : List ℕ) (bs : List Scope) (ls : List Lines) →
         Makes (klin_t m td g t) (sheet text n k bs ls) (text ++ term_text b g n m k t)
     of_term (KLet d t) m td g n k text bs ls =
-        let line = let_text b g n m k (decl_note b g n d) d in
+        let bound = bound_text n m (decl_note b g n d) d in
+        let line = margin k ++ codes "let " ++ bound ++ codes " = " ++ declared_text b g n m k d ++ codes "\n" in
         let around = kd_type g d ∷ scope_more (opens d) g in
-        let behind = after_one (opens d) n in
-        let h = of_term t (suc m) (after_one (opens d) td) around behind k (text ++ line) bs ls in
+        let h = of_term t (suc m) (types_behind td d) around (types_behind n d) k (text ++ line) bs ls in
         record {
           body = h.body;
           goes = λ rest.
-              of_decl d m td g n k text bs ls (klin_t (suc m) (after_one (opens d) td) around t rest) ∙ h.goes rest;
-          ends =
-              let one : suc m ≡ m + 1 = omega arith in
-              h.ends ∙ append_assoc text line (term_text b around behind (suc m) k t)
-              ∙ ap (λ j. text ++ (line ++ term_text b around behind j k t)) one;
+              of_decl d m td g n k text bs ls (klin_t (suc m) (types_behind td d) around t rest) ∙ h.goes rest;
+          ends = h.ends ∙ let_text text (margin k) (codes "let ") bound (codes " = ") (declared_text b g n m k d)
+              (codes "\n") (term_text b around (types_behind n d) (suc m) k t);
           branches = h.branches;
         }
     of_term (KCall f ts vs) m td g n k text bs ls =
-        let ss = texts g n m k vs in
+        let ss = texts b g n m k vs in
         let called = step b (NCall m td ts (kwidth vs)) (push (sheet text n k bs ls) (value_text b g n m k f)) in
         record {
           body = with_text called.body called.body.text (stack ss []);
@@ -203,10 +148,10 @@ module _ (b : Bool) where
               ∙ of_values vs m td g rest called;
           ends =
               ap (λ (t : List ℕ). called.body.text ++ t)
-              (gather_all g n m k (length (stack ss [])) vs [] (codes ")\n")
+              (gather_all b g n m k (length (stack ss [])) vs [] (codes ")\n")
               (let h = stack_length ss [] in omega (arith, h)))
-              ∙ call_text text (margin k) (value_text b g n m k f) (codes "[") (types_text n 0 ts) (codes "](")
-              (values_text b g n m k vs) (codes ")\n");
+              ∙ call_text text (margin k) (value_text b g n m k f) (codes "[") (types_text n ts) (codes "](")
+              (values_after b g 0 n m k vs) (codes ")\n");
           branches = refl;
         }
     of_term (KIf v t u) m td g n k text bs ls =

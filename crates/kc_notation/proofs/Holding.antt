@@ -1,9 +1,10 @@
 -- What is known of the names along the walk are the types of the names in scope.
-use Rattle.std.proofs.Common.{◌≡◌, ◌≤◌, ◌<◌, ◌∙◌, ℕ, zero, suc, ◌+◌, ◌-◌, Bool, List, [], ◌∷◌, ◌++◌, length, take}
-use Rattle.std.proofs.Common.{refl, sym, ap, ap₂, subst, arith, append_assoc, length-append}
+use Rattle.std.proofs.Common.{◌≡◌, ◌≤◌, ◌<◌, ◌∙◌, ℕ, zero, suc, ◌+◌, ◌-◌, Bool, true, false, List, [], ◌∷◌, ◌++◌}
+use Rattle.std.proofs.Common.{length, take, refl, sym, ap, ap₂, subst, arith, append_assoc, length-append}
 use Rattle.std.proofs.lemmas.List.{append-nil, take_all, take-append-le}
 use Rattle.std.proofs.Math.Seq.{drop-append_seam}
-use Rattle.calc_core.specs.Ends.{lift}
+use Rattle.calc_core.specs.Calculus.{opens, scope_more}
+use Rattle.calc_core.specs.Ends.{after_one, lift}
 use Rattle.calc_core.specs.Levels.{level_of}
 use Rattle.calc_core.specs.TyLaws.{types_part, types_over}
 use Rattle.calc_core.specs.Walks.{shift}
@@ -12,16 +13,14 @@ use Rattle.calc_core.proofs.Lifts.{lift_suc}
 use Rattle.idx_core.specs.Laws.{shift_add_law, shift_zero_law}
 use Rattle.c_terms.specs.C.{CTy, CTys, NoCTys, MoreCTys, TCInt, TCCode, TCTuple, CVal, CVar, CInt, CTuple, CCode}
 use Rattle.c_terms.specs.C.{CApply, CPack, CVals, NoCVals, MoreCVals, CDecl}
-use Rattle.c_terms.specs.C.{CName, CProj, CArith, CUnpack, CCell, CGet, CSet}
 use Rattle.c_terms.specs.C.{ccount}
 use Rattle.c_terms.specs.Scope.{CScoped_v, CScoped_vs}
 use Rattle.c_terms.specs.Typing.{cargs_onto, crens_scope}
-use Rattle.let_types.specs.Closed.{decl_type, names_behind, value_type, value_types}
+use Rattle.let_types.specs.Closed.{decl_type, names_behind, types_behind, value_type, value_types}
 use Rattle.let_types.specs.Known.{Entry, Frame, Seen, arguments, entry_in, entry_of, last, name_or, named, own}
 use Rattle.let_types.specs.Known.{seen_at, tuple, tuple_from, types_in}
 use Rattle.let_types.specs.Parts.{type_at}
 use Rattle.let_types.proofs.Knowing.{last_snoc, with_names}
-use Rattle.kc_notation.specs.ClosedNotation.{types_behind}
 use Rattle.let_types.specs.TypeTexts.{note_text}
 use Rattle.kc_notation.specs.ClosedWalk.{name_note}
 
@@ -29,9 +28,9 @@ use Rattle.kc_notation.specs.ClosedWalk.{name_note}
 own_shown : (n : ℕ) (t : CTy) → seen_at n (entry_of t n) ≡ t
 own_shown n t = let z : n - n ≡ 0 = omega arith in ap (λ k. shift k 0 t) z ∙ shift_zero_law types_over 0 t
 
-shown_more : (n : ℕ) (e : Entry) → e.types ≤ n → seen_at (n + 1) e ≡ shift 1 0 (seen_at n e)
+shown_more : (n : ℕ) (e : Entry) → e.types ≤ n → seen_at (suc n) e ≡ shift 1 0 (seen_at n e)
 shown_more n e le =
-    let s : n + 1 - e.types ≡ n - e.types + 1 = omega (arith, le) in
+    let s : suc n - e.types ≡ n - e.types + 1 = omega (arith, le) in
     ap (λ k. shift k 0 e.ty) s ∙ sym (shift_add_law types_part types_over (n - e.types) 1 0 e.ty)
 
 type_at_more : (g : List CTy) (i : ℕ) → shift 1 0 (type_at g i) ≡ type_at (crens_scope suc g) i
@@ -125,27 +124,32 @@ module _ (es : List Entry) (m n : ℕ) (g : List CTy) (t : CTy) (h : Holds es m 
       under (suc i) lt =
           subst (λ (x : Entry). x.types ≤ n) (sym (front (entry_of t n) i (omega arith))) (h.under i (omega arith))
 
-  pub holds_unpacked : Holds (take m es ++ entry_of t (n + 1) ∷ []) (suc m) (n + 1) (t ∷ crens_scope suc g)
+  pub holds_unpacked : Holds (take m es ++ entry_of t (suc n) ∷ []) (suc m) (suc n) (t ∷ crens_scope suc g)
   holds_unpacked = record { long = long; types = types; under = under }
     where
-      long : suc m ≤ length (take m es ++ entry_of t (n + 1) ∷ [])
-      long = let k = long_more m es (entry_of t (n + 1)) h.long in omega (arith, k)
+      long : suc m ≤ length (take m es ++ entry_of t (suc n) ∷ [])
+      long = let k = long_more m es (entry_of t (suc n)) h.long in omega (arith, k)
 
       types : (i : ℕ) → i < suc m →
-          seen_at (n + 1) (at (take m es ++ entry_of t (n + 1) ∷ []) (level_of (suc m) i))
+          seen_at (suc n) (at (take m es ++ entry_of t (suc n) ∷ []) (level_of (suc m) i))
           ≡ type_at (t ∷ crens_scope suc g) i
-      types zero lt = ap (seen_at (n + 1)) (at_new m es (entry_of t (n + 1)) h.long) ∙ own_shown (n + 1) t
+      types zero lt = ap (seen_at (suc n)) (at_new m es (entry_of t (suc n)) h.long) ∙ own_shown (suc n) t
       types (suc i) lt =
-          ap (seen_at (n + 1)) (front (entry_of t (n + 1)) i (omega arith))
+          ap (seen_at (suc n)) (front (entry_of t (suc n)) i (omega arith))
           ∙ shown_more n (at es (level_of m i)) (h.under i (omega arith))
           ∙ ap (shift 1 0) (h.types i (omega arith)) ∙ type_at_more g i
 
-      under : (i : ℕ) → i < suc m → (at (take m es ++ entry_of t (n + 1) ∷ []) (level_of (suc m) i)).types ≤ n + 1
+      under : (i : ℕ) → i < suc m → (at (take m es ++ entry_of t (suc n) ∷ []) (level_of (suc m) i)).types ≤ suc n
       under zero lt =
-          subst (λ (x : Entry). x.types ≤ n + 1) (sym (at_new m es (entry_of t (n + 1)) h.long)) (omega arith)
+          subst (λ (x : Entry). x.types ≤ suc n) (sym (at_new m es (entry_of t (suc n)) h.long)) (omega arith)
       under (suc i) lt =
           let k = h.under i (omega arith) in
-          subst (λ (x : Entry). x.types ≤ n + 1) (sym (front (entry_of t (n + 1)) i (omega arith))) (omega (arith, k))
+          subst (λ (x : Entry). x.types ≤ suc n) (sym (front (entry_of t (suc n)) i (omega arith))) (omega (arith, k))
+
+  pub holds_one : (b : Bool) →
+      Holds (take m es ++ entry_of t (after_one b n) ∷ []) (suc m) (after_one b n) (t ∷ scope_more b g)
+  holds_one true = holds_unpacked
+  holds_one false = holds_more
 
 pub holds_none : (es : List Entry) (n : ℕ) → Holds es 0 n []
 holds_none es n =
@@ -154,13 +158,7 @@ holds_none es n =
 -- the names behind a declaration
 pub holds_behind : (es : List Entry) (m n : ℕ) (g : List CTy) (d : CDecl) → Holds es m n g →
     Holds (take m es ++ entry_of (decl_type g d) (types_behind n d) ∷ []) (suc m) (types_behind n d) (names_behind g d)
-holds_behind es m n g (CName v) h = holds_more es m n g (decl_type g (CName v)) h
-holds_behind es m n g (CProj i v) h = holds_more es m n g (decl_type g (CProj i v)) h
-holds_behind es m n g (CArith o v w) h = holds_more es m n g TCInt h
-holds_behind es m n g (CUnpack v) h = holds_unpacked es m n g (decl_type g (CUnpack v)) h
-holds_behind es m n g (CCell v) h = holds_more es m n g (decl_type g (CCell v)) h
-holds_behind es m n g (CGet v) h = holds_more es m n g (decl_type g (CGet v)) h
-holds_behind es m n g (CSet v w) h = holds_more es m n g (TCTuple NoCTys) h
+holds_behind es m n g d h = holds_one es m n g (decl_type g d) h (opens d)
 
 -- the names of a code's arguments
 holds_args : (args : CTys) (es : List Entry) (m n : ℕ) (g : List CTy) → length es ≡ m → Holds es m n g →

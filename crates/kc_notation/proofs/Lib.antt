@@ -3,10 +3,11 @@ pub mod Listed
 pub mod Pages
 mod ClosedRows
 pub mod Sheets
+mod Texts
 pub mod ClosedStepping
 pub mod Turns
 pub mod ClosedWalking
 mod CpsRows
 mod CpsStepping
-mod CpsTypeTexts
+pub mod HeadLines
 mod CpsWalking

@@ -3,13 +3,12 @@
 use Rattle.std.specs.Prelude.{ℕ, zero, suc, ◌+◌, List, [], ◌∷◌, ◌++◌, Option, Some, None, Bool, true, false, length}
 use Rattle.std.specs.Prelude.{codes, decimal}
 use Rattle.page_core.specs.Names.{margin, number, op_sign, separator, type_name, value_name}
-use Rattle.c_terms.specs.C.{CTy, CTys}
+use Rattle.c_terms.specs.C.{CTys}
 use Rattle.c_terms.specs.Stream.{CNd, MVar, MInt, MTuple, MCode, MEnd, MApply, MPack, MName, MProj, MArith, MUnpack}
 use Rattle.c_terms.specs.Stream.{MCell, MGet, MSet, MCall, MIf, MElse, MHalt}
 use Rattle.kc_notation.specs.declared.page.Scope.{Scope}
-use Rattle.let_types.specs.TypeTexts.{type_text, types_text}
-use Rattle.kc_notation.specs.ClosedNotation.{applied_text, head_text}
-use Rattle.let_types.specs.TypeTexts.{note_text}
+use Rattle.let_types.specs.TypeTexts.{applied_text, note_text, pack_behind, pack_front, types_text}
+use Rattle.kc_notation.specs.Heads.{code_line}
 use Rattle.let_types.specs.Known.{Entry, Known, known_step, level_bound}
 
 -- a body: its text so far, the values that wait, the last first, whether the text ends in a call that waits for its
@@ -120,7 +119,7 @@ opened p head types = record {
 }
 
 abbrev pub enter : Sheet → ℕ → CTys → Sheet
-enter p owes args = opened p (head_text owes args) owes
+enter p owes args = opened p (code_line true 0 0 owes args) owes
 
 -- a call, whose arguments follow
 abbrev pub called : Sheet → Sheet
@@ -164,13 +163,6 @@ turn p (s ∷ ss) = record {
   body = lines (shut p.body ++ (margin s.indent ++ codes "else\n")) (scope_of s.types (s.indent + 1)) ss;
   around = p.around;
 }
-
--- what stands in front of a package's value, and behind it
-abbrev pub pack_front : ℕ → CTy → List ℕ
-pack_front n h = codes "pack [" ++ (type_text n h ++ codes ", ")
-
-abbrev pub pack_behind : ℕ → CTy → List ℕ
-pack_behind n s = codes "] as " ++ type_text n s
 
 -- one node more, with a text behind the name that it declares
 abbrev pub step : List ℕ → CNd → Sheet → Sheet

@@ -1,19 +1,14 @@
 -- What is made of a program's nodes one by one, on the sheets of `c_notation`: the nodes of a term make the text of
 -- that term, with types or without; what others make is of no matter.
-use Rattle.std.specs.Prelude.{ℕ, ◌+◌, List, [], ◌∷◌, ◌++◌, Bool, codes, decimal}
-use Rattle.page_core.specs.Names.{number, op_sign, type_name, value_name}
+use Rattle.std.specs.Prelude.{ℕ, ◌+◌, List, [], ◌∷◌, ◌++◌, Bool, codes, decimal, false}
+use Rattle.page_core.specs.Names.{number, op_sign, value_name}
 use Rattle.k_terms.specs.K.{KTy, KTys, NoKTys, TKInt, TKTuple}
 use Rattle.k_terms.specs.Stream.{KNd, NVar, NInt, NTuple, NCode, NEnd, NName, NProj, NArith, NPack, NUnpack, NCell}
 use Rattle.k_terms.specs.Stream.{NGet, NSet, NCall, NIf, NElse, NHalt}
-use Rattle.kc_notation.specs.ClosedWalk.{Sheet, begun, called, choose, leave, line, opened, pair, push, scope_of}
-use Rattle.kc_notation.specs.ClosedWalk.{tuple, turn}
-use Rattle.kc_notation.specs.ClosedWalk.{with_scope, wrap}
-use Rattle.kc_notation.specs.CpsNotation.{code_line, note_text, type_text, types_text}
-
--- a name is declared as the last value, with a note behind it and a word in front of the value
-abbrev pub declare : Sheet → ℕ → List ℕ → List ℕ → Sheet
-declare p level note word =
-    line p (begun p (codes "let " ++ (value_name level ++ (note ++ (codes " = " ++ word))))) (codes "\n")
+use Rattle.kc_notation.specs.ClosedWalk.{Sheet, begun, called, choose, declare, leave, line, opened, pair, push, tuple}
+use Rattle.kc_notation.specs.ClosedWalk.{turn, unpack, wrap}
+use Rattle.kc_notation.specs.CpsNotation.{note_text, type_text, types_text}
+use Rattle.kc_notation.specs.Heads.{code_line}
 
 -- what stands behind a name of this type
 abbrev pub noted : Bool → Sheet → KTy → List ℕ
@@ -25,24 +20,12 @@ packed p hidden shape =
     wrap p (codes "pack [" ++ (type_text p.body.scope.types hidden ++ codes ", "))
     (codes "] as " ++ type_text p.body.scope.types shape)
 
--- what a line begins with that declares a type's name and a value's, inside n type names
-abbrev pub unpack_word : Bool → ℕ → ℕ → KTy → List ℕ
-unpack_word b n level t =
-    codes "let ["
-    ++ (type_name n ++ (codes ", " ++ (value_name level ++ (note_text b (n + 1) t ++ codes "] = unpack "))))
-
--- a type's name and a value's are declared as what the last value holds
-abbrev pub unpack : Bool → Sheet → ℕ → KTy → Sheet
-unpack b p level t = with_scope
-    (line p (begun p (unpack_word b p.body.scope.types level t)) (codes "\n"))
-    (scope_of (p.body.scope.types + 1) p.body.scope.indent) p.body.branches
-
 abbrev pub call : Sheet → KTys → Sheet
-call p ts = called (line p (begun p []) (codes "[" ++ (types_text p.body.scope.types 0 ts ++ codes "](")))
+call p ts = called (line p (begun p []) (codes "[" ++ (types_text p.body.scope.types ts ++ codes "](")))
 
 -- a code begins
 abbrev pub enter : Sheet → ℕ → ℕ → KTys → Sheet
-enter p level owes args = opened p (code_line p.body.scope.types level owes args) (p.body.scope.types + owes)
+enter p level owes args = opened p (code_line false p.body.scope.types level owes args) (p.body.scope.types + owes)
 
 -- one node more
 abbrev pub step : Bool → KNd → Sheet → Sheet
@@ -55,7 +38,7 @@ step b (NName l t) p = declare p l (noted b p t) []
 step b (NProj l i t) p = declare p l (noted b p t) (codes "#" ++ (decimal i ++ codes " "))
 step b (NArith l op) p = declare (pair p (op_sign op)) l (noted b p TKInt) []
 step b (NPack l d h s) p = declare (packed p h s) l (noted b p s) []
-step b (NUnpack l d t) p = unpack b p l t
+step b (NUnpack l d t) p = unpack p l (note_text b (p.body.scope.types + 1) t)
 step b (NCell l t) p = declare p l (noted b p t) (codes "ref ")
 step b (NGet l t) p = declare p l (noted b p t) (codes "!")
 step b (NSet l) p = declare (pair p (codes " := ")) l (noted b p (TKTuple NoKTys)) []

@@ -2,44 +2,17 @@
 ghost use Rattle.std.specs.Prelude.{◌≡◌, ◌++◌, ℕ, IfOk, OnOk};
 ghost use Rattle.page_core.specs.Pieces.{Keeps, Stands};
 ghost use Rattle.c_terms.specs.Read.{ctys};
-ghost use Rattle.kc_notation.specs.ClosedNotation.{arguments_after, head_text};
 ghost use Rattle.kc_notation.specs.Standing.{IsPage, IsShut};
 ghost use Rattle.kc_notation.specs.ClosedWalk.{Sheet, enter, leave, opened, shut, turn};
 
+use crate::heads::{begin_code, write_arguments};
 use crate::joining::piece_of;
 use crate::lines::margin_and;
 use crate::page::{Body, Page, Scope};
 use c_terms::CType;
 use idx_core::{OutOfMemory, sum};
-use let_types::write_type;
-use page_core::{write_separator, write_type_names, write_value_name};
 use std::collections::VecDeque;
 use std::mem;
-
-// The arguments of a code with their types.
-fn write_arguments(text: &mut Vec<u8>, args: &[CType], depth: u64) -> Result<(), OutOfMemory>
-    ensures { OnOk result (text.new.items ≡ text.old.items ++ arguments_after 0 depth (ctys args.now)) }
-{
-    for (i, t) in args.iter().enumerate() {
-        write_separator(text, i as u64)?;
-        write_value_name(text, i as u64 + 1)?;
-        text.extend_from_slice(b": ")?;
-        write_type(text, t, depth)?;
-    }
-    Ok(())
-}
-
-// The first line of a code.
-fn write_head(text: &mut Vec<u8>, owes: u64, args: &[CType]) -> Result<(), OutOfMemory>
-    ensures { OnOk result (text.new.items ≡ text.old.items ++ head_text owes (ctys args.now)) }
-{
-    text.extend_from_slice(b"code x0")?;
-    write_type_names(text, 0, owes)?;
-    text.extend_from_slice(b"(")?;
-    write_arguments(text, args, owes)?;
-    text.extend_from_slice(b") {\n")?;
-    Ok(())
-}
 
 impl Page {
     /// A code begins with this line, inside so many type names.
@@ -64,8 +37,9 @@ impl Page {
     pub(crate) fn enter(&mut self, owes: u64, args: &[CType]) -> Result<(), OutOfMemory>
         ensures { OnOk result ((p : Sheet) → IsPage self.old p → IsPage self.new (enter p owes (ctys args.now))) }
     {
-        let mut head = Vec::new(self.alloc);
-        write_head(&mut head, owes, args)?;
+        let mut head = begin_code(self.alloc, 0, 0, owes)?;
+        write_arguments(&mut head, args, owes, 1, true)?;
+        head.extend_from_slice(b") {\n")?;
         self.open(head, owes)
     }
 

@@ -4,7 +4,7 @@ ghost use Rattle.c_terms.specs.Read.{cnode, ctree};
 ghost use Rattle.c_terms.specs.Term.{term_of};
 ghost use Rattle.let_types.specs.Known.{known_step};
 ghost use Rattle.let_types.specs.KnownRead.{known as plain};
-ghost use Rattle.kc_notation.specs.ClosedNotation.{c_text};
+ghost use Rattle.kc_notation.specs.Notation.{c_text};
 ghost use Rattle.let_types.specs.TypeTexts.{note_text};
 ghost use Rattle.kc_notation.specs.Standing.{IsPage};
 ghost use Rattle.kc_notation.specs.ClosedWalk.{blank, noted};

@@ -1,27 +1,28 @@
 // Lines and codes.
-ghost use Rattle.std.specs.Prelude.{◌≡◌, ◌++◌, [], codes, IfOk, OnOk};
-ghost use Rattle.page_core.specs.Names.{margin};
+ghost use Rattle.std.specs.Prelude.{◌≡◌, ◌+◌, [], IfOk, OnOk};
 ghost use Rattle.k_terms.specs.Read.{ktree, ktys};
 ghost use Rattle.kc_notation.specs.Standing.{IsPage};
-ghost use Rattle.kc_notation.specs.ClosedWalk.{Sheet};
+ghost use Rattle.kc_notation.specs.ClosedWalk.{Sheet, declare, unpack};
 ghost use Rattle.kc_notation.specs.CpsNotation.{note_text};
-ghost use Rattle.kc_notation.specs.CpsWalk.{call, declare, enter, noted, packed, unpack, unpack_word};
+ghost use Rattle.kc_notation.specs.CpsWalk.{call, enter, noted, packed};
 
-use crate::cps_types::{code_line, write_type, write_types};
-use crate::{Page, Scope};
+use crate::Page;
+use crate::heads::{begin_code, write_arguments};
 use idx_core::{OutOfMemory, sum};
 use k_terms::KType;
-use page_core::{write_type_name, write_value_name};
+use let_types::{write_any, write_plain_types};
+use std::alloc::Global;
 
 // What stands behind a name of this type, inside so many type names.
-fn write_note(text: &mut Vec<u8>, typed: bool, ty: &KType, depth: u64) -> Result<(), OutOfMemory>
-    ensures { OnOk result (text.new.items ≡ text.old.items ++ note_text typed depth (ktree ty.now)) }
+fn note_of(alloc: Global, typed: bool, ty: &KType, depth: u64) -> Result<Vec<u8>, OutOfMemory>
+    ensures { IfOk result (λ note. note.items ≡ note_text typed depth (ktree ty.now)) }
 {
+    let mut note = Vec::new(alloc);
     if typed {
-        text.extend_from_slice(b": ")?;
-        write_type(text, ty, depth)?;
+        note.extend_from_slice(b": ")?;
+        write_any(&mut note, ty, depth, false)?;
     }
-    Ok(())
+    Ok(note)
 }
 
 // A name of this type is declared as the last value, with a word in front of it.
@@ -35,13 +36,8 @@ pub(crate) fn declare(
     ensures { OnOk result ((p : Sheet) → IsPage page.old p →
         IsPage page.new (declare p level (noted typed p (ktree ty.now)) word.now)) }
 {
-    let depth = page.body.scope.types;
-    let mut front = page.begin(b"let ")?;
-    write_value_name(&mut front, level)?;
-    write_note(&mut front, typed, ty, depth)?;
-    front.extend_from_slice(b" = ")?;
-    front.extend_from_slice(word)?;
-    page.line(front, b"\n")
+    let note = note_of(page.alloc, typed, ty, page.body.scope.types)?;
+    page.declare(level, &note, word)
 }
 
 // The last value, as a package of this shape.
@@ -52,11 +48,11 @@ fn package(page: &mut Page, hidden: &KType, shape: &KType) -> Result<(), OutOfMe
     let depth = page.body.scope.types;
     let mut front = Vec::new(page.alloc);
     front.extend_from_slice(b"pack [")?;
-    write_type(&mut front, hidden, depth)?;
+    write_any(&mut front, hidden, depth, false)?;
     front.extend_from_slice(b", ")?;
     let mut behind = Vec::new(page.alloc);
     behind.extend_from_slice(b"] as ")?;
-    write_type(&mut behind, shape, depth)?;
+    write_any(&mut behind, shape, depth, false)?;
     page.wrap(front, behind)
 }
 
@@ -75,22 +71,6 @@ pub(crate) fn pack(
     declare(page, typed, level, shape, b"")
 }
 
-// What a line begins with that declares a type's name and a value's, of this type under the new name.
-fn begin_unpack(page: &Page, typed: bool, level: u64, ty: &KType) -> Result<Vec<u8>, OutOfMemory>
-    ensures { IfOk result (λ front. front.items ≡ margin page.now.body.scope.indent
-        ++ unpack_word typed page.now.body.scope.types level (ktree ty.now)) }
-{
-    let depth = page.body.scope.types;
-    let types = sum(depth, 1)?;
-    let mut front = page.begin(b"let [")?;
-    write_type_name(&mut front, depth)?;
-    front.extend_from_slice(b", ")?;
-    write_value_name(&mut front, level)?;
-    write_note(&mut front, typed, ty, types)?;
-    front.extend_from_slice(b"] = unpack ")?;
-    Ok(front)
-}
-
 // A type's name and a value's are declared as what the last value holds, of this type under the new name.
 pub(crate) fn unpack(
     page: &mut Page,
@@ -98,18 +78,12 @@ pub(crate) fn unpack(
     level: u64,
     ty: &KType,
 ) -> Result<(), OutOfMemory>
-    ensures { OnOk result ((p : Sheet) → IsPage page.old p →
-        IsPage page.new (unpack typed p level (ktree ty.now))) }
+    ensures { OnOk result ((p : Sheet) → IsPage page.old p → IsPage page.new
+        (unpack p level (note_text typed (p.body.scope.types + 1) (ktree ty.now)))) }
 {
-    let scope = page.body.scope;
-    let types = sum(scope.types, 1)?;
-    let front = begin_unpack(page, typed, level, ty)?;
-    page.line(front, b"\n")?;
-    page.body.scope = Scope {
-        types,
-        indent: scope.indent,
-    };
-    Ok(())
+    let types = sum(page.body.scope.types, 1)?;
+    let note = note_of(page.alloc, typed, ty, types)?;
+    page.unpack(level, &note)
 }
 
 // A call of the last value, whose arguments follow.
@@ -118,7 +92,7 @@ pub(crate) fn call(page: &mut Page, types: &[KType]) -> Result<(), OutOfMemory>
 {
     let mut behind = Vec::new(page.alloc);
     behind.extend_from_slice(b"[")?;
-    write_types(&mut behind, types, page.body.scope.types)?;
+    write_plain_types(&mut behind, types, page.body.scope.types)?;
     behind.extend_from_slice(b"](")?;
     let front = page.begin(b"")?;
     page.line(front, &behind)?;
@@ -137,6 +111,9 @@ pub(crate) fn enter(
 {
     let depth = page.body.scope.types;
     let types = sum(depth, owes)?;
-    let head = code_line(page.alloc, depth, level, owes, args)?;
+    let first = sum(level, 1)?;
+    let mut head = begin_code(page.alloc, depth, level, owes)?;
+    write_arguments(&mut head, args, types, first, false)?;
+    head.extend_from_slice(b") {\n")?;
     page.open(head, types)
 }

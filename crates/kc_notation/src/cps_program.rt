@@ -1,7 +1,7 @@
 // Programs.
 ghost use Rattle.std.specs.Prelude.{◌≡◌, IfOk};
 ghost use Rattle.k_terms.specs.Whole.{term_of};
-ghost use Rattle.kc_notation.specs.CpsNotation.{k_text};
+ghost use Rattle.kc_notation.specs.Notation.{k_text};
 
 use crate::blank;
 use crate::cps_walk::step;

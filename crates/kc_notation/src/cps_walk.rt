@@ -4,8 +4,8 @@ ghost use Rattle.page_core.specs.Names.{op_sign};
 ghost use Rattle.k_terms.specs.K.{NoKTys, TKInt, TKTuple};
 ghost use Rattle.k_terms.specs.Read.{knode, ktree};
 ghost use Rattle.kc_notation.specs.Standing.{IsPage};
-ghost use Rattle.kc_notation.specs.ClosedWalk.{Sheet, pair};
-ghost use Rattle.kc_notation.specs.CpsWalk.{declare, noted, step};
+ghost use Rattle.kc_notation.specs.ClosedWalk.{Sheet, declare, pair};
+ghost use Rattle.kc_notation.specs.CpsWalk.{noted, step};
 
 use crate::Page;
 use crate::cps_lines::{call, declare, enter, pack, unpack};

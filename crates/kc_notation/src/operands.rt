@@ -1,30 +1,16 @@
 // Variables and integers, and what values are wrapped in.
-ghost use Rattle.std.specs.Prelude.{◌≡◌, ◌++◌, [], codes, OnOk};
+ghost use Rattle.std.specs.Prelude.{[], OnOk};
 ghost use Rattle.page_core.specs.Names.{number, value_name};
 ghost use Rattle.c_terms.specs.Read.{ctree, ctys};
-ghost use Rattle.let_types.specs.TypeTexts.{type_text};
-ghost use Rattle.kc_notation.specs.ClosedNotation.{applied_text};
+ghost use Rattle.let_types.specs.TypeTexts.{applied_text, pack_behind, pack_front};
 ghost use Rattle.kc_notation.specs.Standing.{IsPage};
-ghost use Rattle.kc_notation.specs.ClosedWalk.{Sheet, push, wrap, pack_front, pack_behind};
+ghost use Rattle.kc_notation.specs.ClosedWalk.{Sheet, push, wrap};
 
 use crate::page::Page;
 use c_terms::CType;
 use idx_core::OutOfMemory;
-use let_types::{write_type, write_types};
+use let_types::{before_packed, behind_packed, types_applied};
 use page_core::{write_integer, write_value_name};
-
-// Types behind a value that is applied to them: nothing where there are none.
-fn write_applied(text: &mut Vec<u8>, types: &[CType], depth: u64) -> Result<(), OutOfMemory>
-    ensures { OnOk result (text.new.items ≡ text.old.items ++ applied_text depth (ctys types.now)) }
-{
-    if types.is_empty() {
-        return Ok(());
-    }
-    text.extend_from_slice(b"[")?;
-    write_types(text, types, depth)?;
-    text.extend_from_slice(b"]")?;
-    Ok(())
-}
 
 impl Page {
     /// A variable, by its level.
@@ -52,8 +38,7 @@ impl Page {
         ensures { OnOk result ((p : Sheet) → IsPage self.old p →
             IsPage self.new (wrap p [] (applied_text p.body.scope.types (ctys types.now)))) }
     {
-        let mut behind = Vec::new(self.alloc);
-        write_applied(&mut behind, types, self.body.scope.types)?;
+        let behind = types_applied(self.alloc, types, self.body.scope.types)?;
         self.wrap(Vec::new(self.alloc), behind)
     }
 
@@ -64,13 +49,8 @@ impl Page {
             (pack_behind p.body.scope.types (ctree shape.now)))) }
     {
         let depth = self.body.scope.types;
-        let mut front = Vec::new(self.alloc);
-        front.extend_from_slice(b"pack [")?;
-        write_type(&mut front, hidden, depth)?;
-        front.extend_from_slice(b", ")?;
-        let mut behind = Vec::new(self.alloc);
-        behind.extend_from_slice(b"] as ")?;
-        write_type(&mut behind, shape, depth)?;
+        let front = before_packed(self.alloc, hidden, depth)?;
+        let behind = behind_packed(self.alloc, shape, depth)?;
         self.wrap(front, behind)
     }
 }

@@ -1,6 +1,8 @@
 -- One more name in scope.
 use Rattle.std.proofs.Common.{◌≡◌, ◌≤◌, ◌∙◌, ◌+◌, ◌-◌, ℕ, suc, List, [], ◌∷◌, ◌++◌, length, get_or}
-use Rattle.std.proofs.Common.{refl, sym, ap, ap₂, arith}
+use Rattle.std.proofs.Common.{refl, sym, ap, ap₂, arith, Bool, true, false}
+use Rattle.calc_core.specs.Calculus.{opens, scope_more}
+use Rattle.calc_core.specs.Ends.{after_one}
 use Rattle.idx_core.specs.Laws.{shift_add_law, shift_zero_law}
 use Rattle.calc_core.specs.Read.{tree}
 use Rattle.calc_core.specs.TyLaws.{types_part, types_over}
@@ -8,7 +10,7 @@ use Rattle.calc_core.specs.Walks.{shift}
 use Rattle.calc_core.proofs.Bridge.{ren_lift}
 use Rattle.c_terms.specs.C.{CTy}
 use Rattle.c_terms.specs.Typing.{cren, crens_scope}
-use Rattle.h_terms.specs.H.{HArith, HBlks, HCell, HDecl, HGet, HName, HProj, HSet, HUnpack}
+use Rattle.h_terms.specs.H.{HBlks, HDecl}
 use Rattle.h_terms.specs.Nodes.{reads}
 use Rattle.h_terms.specs.declared.node.HPart.{HPart}
 use Rattle.h_terms.specs.declared.node.HPart.TheVariants.{Var}
@@ -34,34 +36,28 @@ renamed_snoc : (xs : List CTy) (x : CTy) → crens_scope suc (xs ++ x ∷ []) �
 renamed_snoc [] x = ap (λ t. t ∷ []) (ren_lift 1 x)
 renamed_snoc (y ∷ ys) x = ap (λ zs. cren suc y ∷ zs) (renamed_snoc ys x)
 
-scope_more : (k : ℕ) (es : List Named) → Under k es → scope (suc k) es ≡ crens_scope suc (scope k es)
-scope_more k [] u = refl
-scope_more k (e ∷ es) u =
-    ap₂ (λ g t. g ++ t ∷ []) (scope_more k es u.1) (shown_more k e u.0) ∙ sym (renamed_snoc (scope k es) (shown k e))
+scope_opened : (k : ℕ) (es : List Named) → Under k es → scope (suc k) es ≡ crens_scope suc (scope k es)
+scope_opened k [] u = refl
+scope_opened k (e ∷ es) u =
+    ap₂ (λ g t. g ++ t ∷ []) (scope_opened k es u.1) (shown_more k e u.0)
+    ∙ sym (renamed_snoc (scope k es) (shown k e))
+
+scope_after : (b : Bool) (k : ℕ) (es : List Named) → Under k es →
+    scope (after_one b k) es ≡ scope_more b (scope k es)
+scope_after true k es u = scope_opened k es u
+scope_after false k es u = refl
 
 -- one more name
 pub scope_snoc : (k : ℕ) (es : List Named) (e : Named) → scope k (es ++ e ∷ []) ≡ shown k e ∷ scope k es
 scope_snoc k [] e = refl
 scope_snoc k (x ∷ es) e = ap (λ g. g ++ shown k x ∷ []) (scope_snoc k es e)
 
-one_more : (k : ℕ) (es : List Named) (e : Named) (t : CTy) → shown k e ≡ t → scope k (es ++ e ∷ []) ≡ t ∷ scope k es
-one_more k es e t is = scope_snoc k es e ∙ ap (λ u. u ∷ scope k es) is
-
 pub declared_is : (ks : HBlks) (x : HDecl) (k : ℕ) (es new : List Named) (e : Named) → new ≡ es ++ e ∷ [] →
     Under k es → shown (types_behind k x) e ≡ decl_type ks (scope k es) x →
     scope (types_behind k x) new ≡ names_behind ks (scope k es) x
-declared_is ks x k es new e is u t = ap (scope (types_behind k x)) is ∙ go x t
-  where
-    go : (y : HDecl) → shown (types_behind k y) e ≡ decl_type ks (scope k es) y →
-        scope (types_behind k y) (es ++ e ∷ []) ≡ names_behind ks (scope k es) y
-    go (HName v) t = one_more k es e _ t
-    go (HProj i v) t = one_more k es e _ t
-    go (HArith o v w) t = one_more k es e _ t
-    go (HUnpack v) t = one_more (suc k) es e _ t
-        ∙ ap (λ g. decl_type ks (scope k es) (HUnpack v) ∷ g) (scope_more k es u)
-    go (HCell v) t = one_more k es e _ t
-    go (HGet v) t = one_more k es e _ t
-    go (HSet v w) t = one_more k es e _ t
+declared_is ks x k es new e is u t =
+    ap (scope (types_behind k x)) is ∙ scope_snoc (types_behind k x) es e
+    ∙ ap₂ (λ (y : CTy) g. y ∷ g) t (scope_after (opens x) k es u)
 
 pub under_push : (k j : ℕ) (es : List Named) (e : Named) → Under k es → k ≤ j → e.types ≤ j → Under j (es ++ e ∷ [])
 under_push k j [] e u le n = (n, tt)

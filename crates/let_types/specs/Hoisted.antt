@@ -40,16 +40,10 @@ AreOf ks g (t ∷ ts) (v ∷ vs) = (ctree t ≡ value_type ks g v) × AreOf ks g
 
 -- a node of this form is a declaration
 abbrev pub is_decl : HForm → Bool
-is_decl H.Name = true
-is_decl (H.Proj i) = true
-is_decl (H.Arith o) = true
-is_decl H.Unpack = true
-is_decl H.Cell = true
-is_decl H.Get = true
-is_decl H.Set = true
 is_decl (H.Call us) = false
 is_decl H.If0 = false
 is_decl H.Halt = false
+is_decl _ = true
 
 -- which one, with these values
 abbrev pub decl_of : HForm → List HVal → HDecl
@@ -60,9 +54,7 @@ decl_of H.Unpack vs = HUnpack (top no_value vs)
 decl_of H.Cell vs = HCell (top no_value vs)
 decl_of H.Get vs = HGet (top no_value vs)
 decl_of H.Set vs = HSet (top no_value vs) (top no_value (others vs))
-decl_of (H.Call us) vs = HName no_value
-decl_of H.If0 vs = HName no_value
-decl_of H.Halt vs = HName no_value
+decl_of _ vs = HName no_value
 
 -- the type of the first of these values
 abbrev pub first_type : HBlks → List CTy → List HVal → CTy

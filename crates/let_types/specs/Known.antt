@@ -3,7 +3,7 @@ use Rattle.std.specs.Prelude.{ℕ, zero, suc, ◌+◌, ◌-◌, List, [], ◌∷
 use Rattle.calc_core.specs.Walks.{shift}
 use Rattle.c_terms.specs.C.{CTy, CTys, TCInt, TCTuple, TCCode, TCRef, NoCTys, MoreCTys}
 use Rattle.c_terms.specs.Stream.{CNd, MVar, MInt, MTuple, MCode, MEnd, MApply, MPack, MName, MProj, MArith, MUnpack}
-use Rattle.c_terms.specs.Stream.{MCell, MGet, MSet, MCall, MIf, MElse, MHalt}
+use Rattle.c_terms.specs.Stream.{MCell, MGet, MSet}
 use Rattle.let_types.specs.Parts.{applied_type, field_type, held_type, opened_type}
 
 -- a type, as it is under so many type names
@@ -131,20 +131,10 @@ known_step k (MUnpack l) κ = declare l (k + 1) (opened_type (last_type k κ)) �
 known_step k (MCell l) κ = declare l k (TCRef (last_type k κ)) κ
 known_step k (MGet l) κ = declare l k (held_type (last_type k κ)) κ
 known_step k (MSet l) κ = declare l k (TCTuple NoCTys) κ
-known_step k (MCall ts n) κ = with_values κ []
-known_step k MIf κ = with_values κ []
-known_step k MElse κ = with_values κ []
-known_step k MHalt κ = with_values κ []
+known_step k _ κ = with_values κ []
 
 -- the level that a node declares
 abbrev pub level_bound : CNd → Option ℕ
-level_bound (MVar l) = None
-level_bound (MInt n) = None
-level_bound (MTuple n) = None
-level_bound (MCode owes args) = None
-level_bound MEnd = None
-level_bound (MApply ts) = None
-level_bound (MPack h s) = None
 level_bound (MName l) = Some l
 level_bound (MProj l i) = Some l
 level_bound (MArith l op) = Some l
@@ -152,10 +142,7 @@ level_bound (MUnpack l) = Some l
 level_bound (MCell l) = Some l
 level_bound (MGet l) = Some l
 level_bound (MSet l) = Some l
-level_bound (MCall ts n) = None
-level_bound MIf = None
-level_bound MElse = None
-level_bound MHalt = None
+level_bound _ = None
 
 -- nothing is known yet
 abbrev pub nothing : Known

@@ -4,8 +4,8 @@ use Rattle.calc_core.proofs.Trees.{tree_Tuple}
 use Rattle.k_terms.specs.K.{TKTuple}
 use Rattle.k_terms.specs.Read.{ktys}
 use Rattle.kc_notation.specs.Standing.{IsPage}
-use Rattle.kc_notation.specs.ClosedWalk.{pair}
-use Rattle.kc_notation.specs.CpsWalk.{declare, noted}
+use Rattle.kc_notation.specs.ClosedWalk.{declare, pair}
+use Rattle.kc_notation.specs.CpsWalk.{noted}
 use Rattle.kc_notation.proofs.cps_walk.set.Goals as goal
 
 pub returns : goal.returns

@@ -128,7 +128,8 @@ module _ (P : AProp) (Q : CProp) (law : CLaws) (pa : (n : ℕ) (t : CTy) → Q n
         x.checks (pre_v ks (map atype g) ls (n_v ls b v) d1 w end)
         (y.checks end
         (both_let P p n y.types (dcl ls b d e) (alloc_t ks (map atype (TCInt ∷ g)) (kn ∷ ls) b1 (suc d2) t) dec de
-        (term_each t n (TCInt ∷ g) (kn ∷ ls) b1 (suc d2) (AInt ∷ y.types) w2 (subst (λ q. HTypedWith Q ks n (q ∷ g) t) h.1.1 h.2) (
+        (term_each t n (TCInt ∷ g) (kn ∷ ls) b1 (suc d2) (AInt ∷ y.types) w2
+        (subst (λ q. HTypedWith Q ks n (q ∷ g) t) h.1.1 h.2) (
           at_new d2 y.types AInt,
           agree_later ls g d (suc d2) ag (AInt ∷ y.types)
               (λ k u q. at_more d2 y.types k u AInt (y.later k u (x.later k u q))) a,
@@ -247,13 +248,15 @@ module _ (P : AProp) (Q : CProp) (law : CLaws) (pa : (n : ℕ) (t : CTy) → Q n
           refl,
           refl,
         ) in
-        let de : DEach P p n (old ∷ x.types) (dcl ls b d e) = (pc n u (subst (Q n) h.1.2 h.1.0), w1.each, pa n (TCRef u) (subst (Q n) h.1.2 h.1.0)) in
+        let own = subst (Q n) h.1.2 h.1.0 in
+        let de : DEach P p n (old ∷ x.types) (dcl ls b d e) = (pc n u own, w1.each, pa n (TCRef u) own) in
         let b2 : All-below n (cell ∷ old ∷ x.types) = declared_below p ok n (old ∷ x.types) bm (dcl ls b d e) dec in
         let w4 = subst
         (λ q. Within D b1
         (data_t ks (ATuple (MoreAFields q true NoAFields) ∷ map atype g) (kn ∷ ls) b1 (suc (suc d1)) t)) read w2 in
         let rest = alloc_t ks (map atype (TCRef u ∷ g)) (kn ∷ ls) b1 (suc (suc d1)) t in
-        let good = term_each t n (TCRef u ∷ g) (kn ∷ ls) b1 (suc (suc d1)) (cell ∷ old ∷ x.types) w4 (subst (λ q. HTypedWith Q ks n (q ∷ g) t) h.1.2 h.2) (
+        let good = term_each t n (TCRef u ∷ g) (kn ∷ ls) b1 (suc (suc d1)) (cell ∷ old ∷ x.types) w4
+        (subst (λ q. HTypedWith Q ks n (q ∷ g) t) h.1.2 h.2) (
           at_new (suc d1) (old ∷ x.types) cell,
           agree_later ls g d (suc (suc d1)) ag (cell ∷ old ∷ x.types)
               (λ k z q. at_more (suc d1) (old ∷ x.types) k z cell (on k z (x.later k z q))) a,
@@ -342,13 +345,16 @@ module _ (P : AProp) (Q : CProp) (law : CLaws) (pa : (n : ℕ) (t : CTy) → Q n
         let none = ATuple NoAFields in
         let last = alloc_t ks (map atype (TCTuple NoCTys ∷ g)) (kn ∷ ls) b1 (suc (suc d2)) t in
         let rest = Let (Malloc NoATys) last in
-        let good = term_each t n (TCTuple NoCTys ∷ g) (kn ∷ ls) b1 (suc (suc d2)) (none ∷ cell ∷ y.types) w2 (subst (λ q. HTypedWith Q ks n (q ∷ g) t) h.1.2 h.2) (
+        let good = term_each t n (TCTuple NoCTys ∷ g) (kn ∷ ls) b1 (suc (suc d2)) (none ∷ cell ∷ y.types) w2
+        (subst (λ q. HTypedWith Q ks n (q ∷ g) t) h.1.2 h.2) (
           at_new (suc d2) (cell ∷ y.types) none,
           agree_later ls g d (suc (suc d2)) ag (none ∷ cell ∷ y.types)
               (λ k z q. at_more (suc d2) (cell ∷ y.types) k z none
               (at_more d2 y.types k z cell (y.later k z (x.later k z q)))) a,
         ) (tt, bm) in
-        let named = both_let P p n (cell ∷ y.types) (Malloc NoATys) last tt (tt, pa n (TCTuple NoCTys) (subst (Q n) h.1.2 h.1.0)) good in
+        let named =
+        both_let P p n (cell ∷ y.types) (Malloc NoATys) last tt
+        (tt, pa n (TCTuple NoCTys) (subst (Q n) h.1.2 h.1.0)) good in
         x.checks (pre_v ks (map atype g) ls (n_v ls b v) d1 w (Let set rest))
         (y.checks (Let set rest)
         (both_let P p n y.types set rest dec de (subst (λ q. Both P p n q rest) (sym now) named)))

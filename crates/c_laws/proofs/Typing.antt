@@ -17,7 +17,8 @@ use Rattle.k_terms.specs.Typing.{KIns, KTyped, kscons, ksub, ksubs, knames, KAt}
 use Rattle.c_terms.specs.Typing.{CAt, cup, csubs, scons, names, cargs_onto, crens_scope}
 use Rattle.c_rules.specs.Close.{Scope, ctype, ctypes, rank, picked_tvars, pick_type, picked_types, picked, tfree_kept}
 use Rattle.c_rules.specs.Close.{keeps, uses, named, tkeeps, env_type, closure, outside, inner, rebuilt, projections}
-use Rattle.c_rules.specs.Close.{closed_args, closed_code, with_decl, in_call, no_scope, close_v, close_vs, close_d, close_t}
+use Rattle.c_rules.specs.Close.{closed_args, closed_code, with_decl, in_call, no_scope, close_v, close_vs, close_d}
+use Rattle.c_rules.specs.Close.{close_t}
 use Rattle.c_rules.specs.Close.{with_var, open_if}
 use Rattle.c_rules.specs.Close.{close_of, var_value, pick_one}
 use Rattle.c_laws.proofs.Envs.{or_left, or_right}

@@ -52,7 +52,8 @@ module _ {C : Type 0} (Is : W.CodeIs C) (L : LabelTypes) (n : ℕ) (S : List Ty)
     subst (λ u. MadeHas Is S (Makes (WCell (size st)) (one_more st (x v))) (substituted s u)) (sym h.1)
         (W.cell_sound Is (x v) st S (substituted s h.0) (first v h.0 h.2) k),
   )
-  sound_d x y first second (Get v) env st t h e k = (s, e, W.get_sound Is (x v) st S (substituted s t) (first v (RefTy t) h) k)
+  sound_d x y first second (Get v) env st t h e k =
+      (s, e, W.get_sound Is (x v) st S (substituted s t) (first v (RefTy t) h) k)
   sound_d x y first second (Set v w) env st t h e k = (
     s,
     e,

@@ -123,7 +123,8 @@ module _ (P Q : Property) (f : (n : ℕ) (t : Ty) → P n t → Q n t) where
       weaker_v (Apply v ts) n g t h = (f n t h.0, h.1, h.2, h.3, weaker_v v n g _ h.4, h.5, all_weaker n ts h.6)
       weaker_v (Pack hid v s) n g t h = (f n t h.0, h.1, h.2, h.3, h.4, h.5, f n hid h.6, weaker_v v n g _ h.7)
 
-      weaker_vs : {k : Kind} (vs : Vals k) (n : ℕ) (g : List Ty) (ts : Tys) → HaveWith P L n g vs ts → HaveWith Q L n g vs ts
+      weaker_vs : {k : Kind} (vs : Vals k) (n : ℕ) (g : List Ty) (ts : Tys) → HaveWith P L n g vs ts →
+          HaveWith Q L n g vs ts
       weaker_vs NoVals n g ts h = h
       weaker_vs (MoreVals v vs) n g ts h = (h.0, h.1, h.2, weaker_v v n g h.0 h.3, weaker_vs vs n g h.1 h.4)
 

@@ -1,5 +1,5 @@
--- Typing of the calculi between source and allocation where each type that is written, or that typing gives to a value or a name, has a
--- property.
+-- Typing of the calculi between source and allocation where each type that is written, or that typing gives to a value
+-- or a name, has a property.
 use Rattle.std.specs.Prelude.{◌≡◌, ℕ, suc, List, ◌∷◌}
 use Rattle.calc_core.specs.Ends.{lift, after_one}
 use Rattle.calc_core.specs.Types.{Ty, Tys, IntTy, VarTy, TupleTy, CodeTy, ExistsTy, RefTy, NoTys, MoreTys, count}
@@ -52,12 +52,13 @@ abbrev mutual
   GivesWith P L n g (Unpack v) t = P (suc n) t × HasWith P L n g v (ExistsTy t)
   GivesWith P L n g (Cell v) t = P n t × (u : Ty) × (t ≡ RefTy u) × HasWith P L n g v u
   GivesWith P L n g (Get v) t = P n t × HasWith P L n g v (RefTy t)
-  GivesWith P L n g (Set v w) t = P n t × (u : Ty) × (t ≡ TupleTy NoTys) × HasWith P L n g v (RefTy u) × HasWith P L n g w u
+  GivesWith P L n g (Set v w) t = P n t × (u : Ty) × (t ≡ TupleTy NoTys) × HasWith P L n g v (RefTy u)
+      × HasWith P L n g w u
 
   pub TypedWith : {k : Kind} → Property → LabelTypes → ℕ → List Ty → Tm k → Type 0
   TypedWith P L n g (Let d t) = (u : Ty) × GivesWith P L n g d u
       × TypedWith P L (after_one (opens d) n) (u ∷ scope_more (opens d) g) t
-  TypedWith P L n g (Call f ts vs) = (us : Tys) × HasWith P L n g f (CodeTy (count ts) us) × AllInScope n ts × All P n ts
-      × HaveWith P L n g vs (all_substituted (with_types ts VarTy) us)
+  TypedWith P L n g (Call f ts vs) = (us : Tys) × HasWith P L n g f (CodeTy (count ts) us) × AllInScope n ts
+      × All P n ts × HaveWith P L n g vs (all_substituted (with_types ts VarTy) us)
   TypedWith P L n g (If v t u) = HasWith P L n g v IntTy × TypedWith P L n g t × TypedWith P L n g u
   TypedWith P L n g (Halt v) = HasWith P L n g v IntTy

@@ -1,5 +1,5 @@
-//! What the inner calculi have in common: flat trees, types with names in scope, substitution, words and stores, ends of
-//! runs.
+//! What the inner calculi have in common: trees by kinds, typing, sizes, flat trees, types with names in scope,
+//! substitution, words and stores, ends of runs.
 #![tactic(auto)]
 
 mod copying;

@@ -1,17 +1,20 @@
 -- Hoisting keeps typing, with each property of types.
-use Rattle.std.proofs.Common.{◌≡◌, ◌<◌, ℕ, zero, suc, Bool, true, false, List, [], ◌∷◌, ◌++◌, Some, refl, sym, ap, ◌∙◌, subst, ap₂, arith}
+use Rattle.std.proofs.Common.{◌≡◌, ◌<◌, ℕ, zero, suc, Bool, true, false, List, [], ◌∷◌, ◌++◌, Some, refl, sym, ap, ◌∙◌}
+use Rattle.std.proofs.Common.{subst, ap₂, arith}
 use Rattle.calc_core.specs.Ends.{lift, under, after_one}
 use Rattle.calc_core.specs.Calculus.{opens, scope_more}
 use Rattle.calc_core.proofs.Lifts.{lift_suc, lift_zero}
 use Rattle.c_terms.specs.C.{CApply, CArith, CCall, CCell, CCode, CGet, CHalt, CIf, CInt, CLet, CName, CPack, CProj}
-use Rattle.c_terms.specs.C.{CSet, CTm, CTuple, CTy, CTys, CUnpack, CDecl, CVal, CVals, CVar, MoreCTys, MoreCVals, NoCTys}
+use Rattle.c_terms.specs.C.{CSet, CTm, CTuple, CTy, CTys, CUnpack, CDecl, CVal, CVals, CVar, MoreCTys, MoreCVals}
+use Rattle.c_terms.specs.C.{NoCTys}
 use Rattle.c_terms.specs.C.{NoCVals, TCCode, TCInt, TCRef, TCExists, TCTuple, TCVar, ccount, cd_next, ct_next, cv_next}
 use Rattle.c_terms.specs.Each.{CTypedWith, CGivesWith, CHasWith, CHaveWith, CProp}
 use Rattle.c_terms.specs.Typing.{CAt, CIn, CIns, cargs_onto, cren, crens, crens_scope}
 use Rattle.h_terms.specs.Each.{AllTypedWith, HTypedWith, HGivesWith, HHasWith, HHaveWith, HProgramWith}
 use Rattle.h_terms.specs.H.{HBlk, HBlks, block_at}
 use Rattle.h_pass.proofs.Hoisting.{HoldsD, HoldsT, HoldsV, HoldsVs, has_all, holds_t}
-use Rattle.h_pass.specs.Hoist.{Code, Lost, Near, Nobody, Own, Self, Spot, block_of, blocks_d, blocks_of, blocks_t, blocks_v}
+use Rattle.h_pass.specs.Hoist.{Code, Lost, Near, Nobody, Own, Self, Spot, block_of, blocks_d, blocks_of, blocks_t}
+use Rattle.h_pass.specs.Hoist.{blocks_v}
 use Rattle.h_pass.specs.Hoist.{blocks_vs, deeper, hoist_d, hoist_t, hoist_v, hoist_vs, main_of, spot, spot_value}
 
 -- a renaming that leaves the first n alone changes nothing of a type that has no others

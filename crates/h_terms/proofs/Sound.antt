@@ -12,7 +12,8 @@ use Rattle.c_terms.specs.C.{CTy, CTys, TCCode, TCInt, TCVar, ccount}
 use Rattle.c_terms.specs.Typing.{cargs_onto, csub, csubs, cup, names, scons}
 use Rattle.h_terms.specs.H.{HApply, HBlk, HBlks, HCall, HHalt, HIf, HInt, HLabel, HLet}
 use Rattle.h_terms.specs.H.{HPack, HTm, HTuple, HVal, HVals, HVar, MoreHVals, NoHVals, block_at}
-use Rattle.h_terms.specs.Meaning.{HEnter, HWord, HWords, hd_value, henter, hopen, hrun, hterm, hv_value, hvs_value, with_block}
+use Rattle.h_terms.specs.Meaning.{HEnter, HWord, HWords, hd_value, henter, hopen, hrun, hterm, hv_value, hvs_value}
+use Rattle.h_terms.specs.Meaning.{with_block}
 use Rattle.h_terms.specs.Typing.{BlockHas, AllGood, HTyped, HHas, HHave}
 
 module _ (ks : HBlks) where

@@ -87,7 +87,8 @@ module _ (b : Bool) where
         let k = p.body.scope.indent in
         let inner = cargs_onto args (TCCode owes args ∷ []) in
         let known = put κ (own n (TCCode owes args)) in
-        let r = of_term body (lift (ccount args) 1) owes (k + 1) inner (code_line true 0 0 owes args) [] (p.body ∷ p.around)
+        let r =
+        of_term body (lift (ccount args) 1) owes (k + 1) inner (code_line true 0 0 owes args) [] (p.body ∷ p.around)
         (enter n owes args κ) s (holds_code owes args) in
         r.goes (MEnd ∷ rest)
         ∙ ap (λ (t : List ℕ). walk b rest known (push p (t ++ (margin k ++ codes "}"))))

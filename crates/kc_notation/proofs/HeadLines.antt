@@ -19,8 +19,8 @@ dropped xs i x is lt =
 four : (a b c d e : List ℕ) → a ++ b ++ c ++ d ++ e ≡ a ++ (b ++ c ++ d ++ e)
 four a b c d e = simp append_assoc
 
-pub argument_more : (c : Bool) (n m i : ℕ) (xs : List KType) (x : KType) (before separated named signed after whole : List ℕ)
-    (at : ℕ) → x ≡ get_or xs i x → i < length xs → at ≡ m + i →
+pub argument_more : (c : Bool) (n m i : ℕ) (xs : List KType) (x : KType)
+    (before separated named signed after whole : List ℕ) (at : ℕ) → x ≡ get_or xs i x → i < length xs → at ≡ m + i →
     before ++ arguments_text c n m i (ktys (drop i xs)) ≡ whole → separated ≡ before ++ separator i →
     named ≡ separated ++ value_name at → signed ≡ named ++ codes ": " →
     after ≡ signed ++ text_of c n (ktree x) → after ++ arguments_text c n m (i + 1) (ktys (drop (i + 1) xs)) ≡ whole

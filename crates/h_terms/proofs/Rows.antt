@@ -72,4 +72,4 @@ holds_the_last = refl
 
 it_is_typed : HProgramGood [] set_cell
 unfolding set_cell
-it_is_typed = (tt, (TCInt, refl, (TCInt, refl, refl, (TCInt, refl, refl))))
+it_is_typed = (tt, (_, (TCInt, refl, refl), (_, (TCInt, refl, refl, refl), (_, refl, refl))))

@@ -17,14 +17,12 @@ use Rattle.let_types.specs.Known.{Frame, Known, declare, enter, entry_of, last_t
 use Rattle.let_types.specs.Parts.{applied_type, field_type, held_type, opened_type}
 use Rattle.let_types.proofs.Knowing.{but_last_snoc, with_frames, with_names}
 use Rattle.kc_notation.specs.declared.page.Scope.{Scope}
-use Rattle.let_types.specs.TypeTexts.{applied_text, type_text, types_text}
+use Rattle.let_types.specs.TypeTexts.{applied_text, note_text, type_text, types_text}
 use Rattle.kc_notation.specs.Heads.{code_line}
 use Rattle.kc_notation.specs.Notation.{bound_text, c_text, decl_note, declared_text, term_text, value_text}
 use Rattle.kc_notation.specs.Notation.{values_after}
-use Rattle.let_types.specs.TypeTexts.{note_text}
 use Rattle.kc_notation.specs.ClosedWalk.{Lines, Sheet, scope_of, with_text, with_values, push, gathered, past, shut}
-use Rattle.kc_notation.specs.ClosedWalk.{name_note}
-use Rattle.kc_notation.specs.ClosedWalk.{step, walk, blank}
+use Rattle.kc_notation.specs.ClosedWalk.{blank, name_note, step, walk}
 use Rattle.kc_notation.proofs.Sheets.{level_is, past_some, sheet, stack, stack_length, turn_is}
 use Rattle.kc_notation.proofs.Texts.{call_text, gather_all, halt_text, if_text, let_text, line_text, pack_parts}
 use Rattle.kc_notation.proofs.Texts.{pair_text, proj_text, texts, tuple_text, unpack_line}
@@ -87,13 +85,13 @@ module _ (b : Bool) where
         let k = p.body.scope.indent in
         let inner = cargs_onto args (TCCode owes args ∷ []) in
         let known = put κ (own n (TCCode owes args)) in
-        let r =
-        of_term body (lift (ccount args) 1) owes (k + 1) inner (code_line true 0 0 owes args) [] (p.body ∷ p.around)
+        let head = code_line true 0 0 owes args in
+        let r = of_term body (lift (ccount args) 1) owes (k + 1) inner head [] (p.body ∷ p.around)
         (enter n owes args κ) s (holds_code owes args) in
         r.goes (MEnd ∷ rest)
         ∙ ap (λ (t : List ℕ). walk b rest known (push p (t ++ (margin k ++ codes "}"))))
         r.ends
-        ∙ ap (λ t. walk b rest known (push p t)) (tuple_text (code_line true 0 0 owes args
+        ∙ ap (λ t. walk b rest known (push p t)) (tuple_text (head
         ++ term_text b inner owes (lift (ccount args) 1) (k + 1) body) (margin k) (codes "}"))
     of_value (CApply v ts) m g rest κ p s h =
         let n = p.body.scope.types in

@@ -44,8 +44,8 @@ fn is_short(t: &CType, closures: bool) -> bool
     is_closure(t)
 }
 
-/// Puts a type inside `depth` type names at the end of a text. With closures, `some b. <code[as](b, ts), b>`, where
-/// `ts` don't name `b`, is written `closure[as](ts)` (own choice). It takes time by the size of the type and by how deep
+/// Puts a type inside `depth` type names at the end of a text. With closures, `some b. <code[as](b, ts), b>` where `ts`
+/// don't name `b` is written `closure[as](ts)` (own choice). It takes time by the size of the type and by how deep
 /// packages nest in it. An error is want of memory; more type names around a place than a word counts are more than
 /// memory holds.
 #[cycle(types)]

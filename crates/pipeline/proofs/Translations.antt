@@ -6,8 +6,7 @@ use Rattle.f_terms.specs.Tm.{Term}
 use Rattle.c_rules.specs.Close.{close_of}
 use Rattle.h_pass.specs.Hoist.{blocks_of, main_of}
 use Rattle.a_laws.specs.Allocate.{alloc_prog, alloc_main}
-use Rattle.kc_notation.specs.CpsNotation.{k_text}
-use Rattle.kc_notation.specs.ClosedNotation.{c_text}
+use Rattle.kc_notation.specs.Notation.{c_text, k_text}
 use Rattle.h_notation.specs.Notation.{h_text}
 use Rattle.a_notation.specs.Notation.{a_text}
 use Rattle.t_terms.specs.Tree.{TProg}

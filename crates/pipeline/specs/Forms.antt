@@ -5,10 +5,9 @@ use Rattle.talc_words.specs.declared.form.Form.TheVariants.{Source, Cps, Closed,
 use Rattle.f_terms.specs.Tm.{Term}
 use Rattle.f_writer.specs.Notation.{term_text}
 use Rattle.k_laws.specs.Annotate.{cps_term}
-use Rattle.kc_notation.specs.CpsNotation.{k_text}
+use Rattle.kc_notation.specs.Notation.{c_text, k_text}
 use Rattle.c_terms.specs.C.{CTm}
 use Rattle.c_rules.specs.Close.{close_of}
-use Rattle.kc_notation.specs.ClosedNotation.{c_text}
 use Rattle.h_pass.specs.Hoist.{blocks_of, main_of}
 use Rattle.h_notation.specs.Notation.{h_text}
 use Rattle.a_terms.specs.Tree.{AProg, ATm}

@@ -5,8 +5,7 @@ use Rattle.talc_words.specs.declared.form.Form.TheVariants.{Source, Cps, Closed,
 use Rattle.f_terms.specs.Tm.{Term}
 use Rattle.f_terms.specs.Typing.{IsProgram}
 use Rattle.f_writer.specs.Notation.{term_text}
-use Rattle.kc_notation.specs.CpsNotation.{k_text}
-use Rattle.kc_notation.specs.ClosedNotation.{c_text}
+use Rattle.kc_notation.specs.Notation.{c_text, k_text}
 use Rattle.h_notation.specs.Notation.{h_text}
 use Rattle.a_notation.specs.Notation.{a_text}
 use Rattle.t_terms.specs.Tree.{TProg}

@@ -7,6 +7,7 @@ use Rattle.f_terms.specs.Tm.{Tm, plain}
 use Rattle.t_terms.specs.ReadProgram.{program}
 use Rattle.t_terms.specs.declared.program.TProgram.{TProgram}
 use Rattle.t_rules.specs.Rules.{Accepted}
+use Rattle.t_rules.proofs.Once.{accepted_prop}
 use Rattle.pipeline.specs.Meaning.{SameMeaning, RunsSeldom, HaltsSoon}
 use Rattle.pipeline.specs.Compilation.{IsCompilation, IsCompilationWithin}
 use Rattle.pipeline.specs.Work.{HasBlocks, SameWeights, WorkWithin}
@@ -25,7 +26,7 @@ module _ (source target : List ℕ) (term : Tm) (p : TProgram) (checked : IsChec
     checked = checked;
     written = written;
     whole = p.whole;
-    accepted = accepted;
+    accepted = ∥∥₁_elim accepted (accepted_prop (program p)) (λ is. is);
     meaning = meaning;
     seldom = λ n i ev m s q run block index. ∥∥₁_elim seldom le_prop (λ few. few n i ev m s q run block index);
     soon = soon;

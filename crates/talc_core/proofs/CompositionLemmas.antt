@@ -47,8 +47,7 @@ accepted_where_written P target written accepted =
 
 pub compiled_is_taken : CompiledIsTaken
 compiled_is_taken source target made =
-    ∥∥₁_map made.accepted
-    (λ accepted. (made.written.reads.0, accepted_where_written made.program target made.written accepted))
+    (made.written.reads.0, accepted_where_written made.program target made.written made.accepted)
 
 module _ (laws : TextLaws) (source target : List ℕ) (made : IsCompiled source target) where
   -- the program that is read is the one that stands in the record, and so is the term

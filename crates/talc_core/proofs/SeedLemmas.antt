@@ -90,14 +90,13 @@ not_spent laws programs more seed term checked spent =
     cc
 
 -- what is compiled is accepted
-pub target_taken : (source target : List ℕ) → IsCompiled source target → ∥ IsTaken AnAssembly target ∥₁
+pub target_taken : (source target : List ℕ) → IsCompiled source target → IsTaken AnAssembly target
 target_taken source target made = compiled_is_taken source target made
 
-pub checks : NoFaultWhereTaken → (target : List ℕ) → ∥ IsTaken AnAssembly target ∥₁ → (r : Result Checked Refusal) →
+pub checks : NoFaultWhereTaken → (target : List ℕ) → IsTaken AnAssembly target → (r : Result Checked Refusal) →
     ChecksAssembly target r → OrMemory (λ checked. IsAcceptedText target (spanned_program (checked_program checked))) r
 checks no_fault target taken (Ok checked) accepted = accepted
-checks no_fault target taken (Err (refusal.Fault fault)) first =
-    ∥∥₁_elim taken (λ a b. absurd a) (λ t. no_fault AnAssembly target fault t first)
+checks no_fault target taken (Err (refusal.Fault fault)) first = no_fault AnAssembly target fault taken first
 checks no_fault target taken (Err refusal.Memory) why = tt
 
 -- and halts

@@ -21,7 +21,7 @@ pub record IsCompiled (source target : List ℕ) : Type 0 where
   pub checked : IsChecked source term TInt
   pub written : IsWritten program target
   pub whole : Whole program
-  pub accepted : ∥ Accepted program ∥₁
+  pub accepted : Accepted program
   pub meaning : ∥ SameMeaning (plain term) program ∥₁
   pub seldom : RunsSeldom (plain term) program
   pub soon : ∥ HaltsSoon (plain term) program ∥₁

@@ -27,7 +27,7 @@ use Rattle.talc_core.specs.FormShown.{FormShown}
 
 -- `check` takes it: it stands for a program that the typing rules accept
 abbrev pub CompiledIsTaken : Type 0
-CompiledIsTaken = (source target : List ℕ) → IsCompiled source target → ∥ IsTaken AnAssembly target ∥₁
+CompiledIsTaken = (source target : List ℕ) → IsCompiled source target → IsTaken AnAssembly target
 
 -- the program that `run` reads of it means the same as the term that `eval` reads of the source
 abbrev pub CompiledMeansTheSame : Type 0
@@ -99,7 +99,7 @@ CompiledGoesOn =
 -- The same of a text within registers 1 to k. It is compiled (`IsCompiledWithin.compiled`), so all laws above hold of
 -- it; those that `run` and `check` show stand here once more.
 abbrev pub BoundedIsTaken : Type 0
-BoundedIsTaken = (k : ℕ) (source target : List ℕ) → IsCompiledWithin k source target → ∥ IsTaken AnAssembly target ∥₁
+BoundedIsTaken = (k : ℕ) (source target : List ℕ) → IsCompiledWithin k source target → IsTaken AnAssembly target
 
 abbrev pub BoundedMeansTheSame : Type 0
 BoundedMeansTheSame =

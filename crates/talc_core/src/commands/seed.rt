@@ -113,7 +113,7 @@ fn evaluate_seed(alloc: Global, seed: u64, text: &[u8]) -> Result<Evaluation, Re
 
 // The program of a text that was compiled, accepted.
 fn check_target(alloc: Global, target: &[u8]) -> Result<Checked, Refusal>
-    requires { ∥ IsTaken AnAssembly target.now ∥₁ }
+    requires { IsTaken AnAssembly target.now }
     ensures { OrMemory (λ checked. IsAcceptedText target.now (spanned_program (checked_program checked))) result }
 {
     no_fault_where_taken();

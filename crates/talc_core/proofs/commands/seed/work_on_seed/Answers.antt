@@ -10,7 +10,7 @@ use Rattle.talc_core.proofs.commands.seed.work_on_seed.Goals as goal
 pub check_target-requires : goal.check_target-requires
 check_target-requires c =
     let target = c.in_ok-target.target.items in
-    subst (λ (t : List ℕ). ∥ IsTaken AnAssembly t ∥₁) (sym c.deref.ensures.value)
+    subst (λ (t : List ℕ). IsTaken AnAssembly t) (sym c.deref.ensures.value)
     (target_taken (source c.args.seed) target c.in_ok-target.ensures)
 
 pub halting_value-requires-clause-soon : goal.halting_value-requires-clause-soon

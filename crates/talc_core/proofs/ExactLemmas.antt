@@ -203,7 +203,7 @@ value_sound : TextLaws → (input : List ℕ) (turns : ℕ) → IsSound (Evaluat
 value_sound laws input turns = record {
   done = λ source line shown. ((shown.term, shown.checked, shown.cell_free), value_ends laws turns source line shown);
   over = λ source line shown.
-      ((shown.term, shown.checked, shown.cell_free), (shown.term, shown.checked, shown.cell_free, shown.spent), tt);
+      ((shown.term, shown.checked, shown.cell_free), (shown.term, shown.checked, shown.cell_free, shown.spent), refl);
 }
 
 accepted_sound : (input : List ℕ) → IsSound (Checks input) ShowsAccepted
@@ -215,19 +215,19 @@ accepted_sound input = record {
 run_sound : TextLaws → (input : List ℕ) (fuel : ℕ) → IsSound (Runs input fuel) (ShowsRun fuel)
 run_sound laws input fuel = record {
   done = λ text line shown. ((shown.program, shown.accepted), run_ends laws fuel text line shown);
-  over = λ text line shown. ((shown.program, shown.accepted), (shown.program, shown.accepted, shown.goes_on), tt);
+  over = λ text line shown. ((shown.program, shown.accepted), (shown.program, shown.accepted, shown.goes_on), refl);
 }
 
 trace_sound : TextLaws → (input : List ℕ) (from to : ℕ) → IsSound (Traces input from to) (ShowsTrace from to)
 trace_sound laws input from to = record {
   done = λ text lines shown. ((shown.0, shown.1), trace_ends laws from to text lines shown);
-  over = λ text lines shown. ((shown.0, shown.1), (shown.0, shown.1, shown.2.goes_on), tt);
+  over = λ text lines shown. ((shown.0, shown.1), (shown.0, shown.1, shown.2.goes_on), refl);
 }
 
 cost_sound : TextLaws → (input : List ℕ) (fuel : ℕ) → IsSound (Costs input fuel) (ShowsCost fuel)
 cost_sound laws input fuel = record {
   done = λ text lines shown. ((shown.0, shown.1), cost_ends laws fuel text lines shown);
-  over = λ text lines shown. ((shown.0, shown.1), (shown.0, shown.1, shown.2.goes_on), tt);
+  over = λ text lines shown. ((shown.0, shown.1), (shown.0, shown.1, shown.2.goes_on), refl);
 }
 
 form_sound : (input : List ℕ) (form : Form) → IsSound (Shows input form) (ShowsForm form)
@@ -490,38 +490,25 @@ module _ (laws : TextLaws) (old new : Outside) where
   read_fault_at (Upgrades input output) answer = answer.cause
 
   write_fault_at : (asked : Asked) → Does old new WriteFault asked → CannotWrite asked old new
-  write_fault_at (Compiles input output) answer = answer.cause
-  write_fault_at (CompilesWithin input output k) answer = answer.cause
-  write_fault_at (Upgrades input output) answer = answer.cause
-  write_fault_at (Types input) answer = answer.cause
-  write_fault_at (Evaluates input turns) answer = answer.cause
-  write_fault_at (Checks input) answer = answer.cause
-  write_fault_at (Runs input fuel) answer = answer.cause
-  write_fault_at (Costs input fuel) answer = answer.cause
-  write_fault_at (Traces input from to) answer = answer.cause
-  write_fault_at (Shows input form) answer = answer.cause
-  write_fault_at (Explains input) answer = answer.cause
-  write_fault_at (Lists input) answer = answer.cause
-  write_fault_at (TypesNames input) answer = answer.cause
-  write_fault_at (Generates seed output) (inl unwritten) = inl unwritten.cause
-  write_fault_at (Generates seed output) (inr unshown) = inr unshown.cause
+  write_fault_at (Compiles input output) answer = inl (refl, answer.cause)
+  write_fault_at (CompilesWithin input output k) answer = inl (refl, answer.cause)
+  write_fault_at (Upgrades input output) answer = inl (refl, answer.cause)
+  write_fault_at (Types input) answer = inr (refl, answer.cause)
+  write_fault_at (Evaluates input turns) answer = inr (refl, answer.cause)
+  write_fault_at (Checks input) answer = inr (refl, answer.cause)
+  write_fault_at (Runs input fuel) answer = inr (refl, answer.cause)
+  write_fault_at (Costs input fuel) answer = inr (refl, answer.cause)
+  write_fault_at (Traces input from to) answer = inr (refl, answer.cause)
+  write_fault_at (Shows input form) answer = inr (refl, answer.cause)
+  write_fault_at (Explains input) answer = inr (refl, answer.cause)
+  write_fault_at (Lists input) answer = inr (refl, answer.cause)
+  write_fault_at (TypesNames input) answer = inr (refl, answer.cause)
+  write_fault_at (Generates seed output) (inl unwritten) = inl (refl, unwritten.cause)
+  write_fault_at (Generates seed output) (inr unshown) = inr (tt, unshown.cause)
 
   cannot : (asked : Asked) → NoFaults old new → CannotWrite asked old new → ⊥
-  cannot (Compiles input output) none rose = none.writes rose
-  cannot (CompilesWithin input output k) none rose = none.writes rose
-  cannot (Upgrades input output) none rose = none.writes rose
-  cannot (Types input) none rose = none.puts rose
-  cannot (Evaluates input turns) none rose = none.puts rose
-  cannot (Checks input) none rose = none.puts rose
-  cannot (Runs input fuel) none rose = none.puts rose
-  cannot (Costs input fuel) none rose = none.puts rose
-  cannot (Traces input from to) none rose = none.puts rose
-  cannot (Shows input form) none rose = none.puts rose
-  cannot (Explains input) none rose = none.puts rose
-  cannot (Lists input) none rose = none.puts rose
-  cannot (TypesNames input) none rose = none.puts rose
-  cannot (Generates seed output) none (inl rose) = none.writes rose
-  cannot (Generates seed output) none (inr rose) = none.puts rose
+  cannot asked none (inl unwritten) = none.writes unwritten.1
+  cannot asked none (inr unshown) = none.puts unshown.1
 
   -- a file that is told is read, where no count rises
   told_is_read : (input source : List ℕ) → NoFaults old new → Tells old.files.told input source →
@@ -563,20 +550,20 @@ module _ (laws : TextLaws) (old new : Outside) where
   no_usage (Generates seed output) answer = answer
 
   budget_has : (asked : Asked) → Does old new Budget asked → HasBudget asked
-  budget_has (Compiles input output) answer = answer
-  budget_has (CompilesWithin input output k) answer = answer
-  budget_has (Upgrades input output) answer = answer
-  budget_has (Types input) answer = answer.says
-  budget_has (Evaluates input turns) answer = tt
-  budget_has (Checks input) answer = answer.says
-  budget_has (Runs input fuel) answer = tt
-  budget_has (Costs input fuel) answer = tt
-  budget_has (Traces input from to) answer = tt
-  budget_has (Shows input form) answer = answer.says
-  budget_has (Explains input) answer = answer.says
-  budget_has (Lists input) answer = answer
-  budget_has (TypesNames input) answer = answer.says
-  budget_has (Generates seed output) answer = answer
+  budget_has (Compiles input output) answer = absurd answer
+  budget_has (CompilesWithin input output k) answer = absurd answer
+  budget_has (Upgrades input output) answer = absurd answer
+  budget_has (Types input) answer = absurd answer.says
+  budget_has (Evaluates input turns) answer = refl
+  budget_has (Checks input) answer = absurd answer.says
+  budget_has (Runs input fuel) answer = refl
+  budget_has (Costs input fuel) answer = refl
+  budget_has (Traces input from to) answer = refl
+  budget_has (Shows input form) answer = absurd answer.says
+  budget_has (Explains input) answer = absurd answer.says
+  budget_has (Lists input) answer = absurd answer
+  budget_has (TypesNames input) answer = absurd answer.says
+  budget_has (Generates seed output) answer = absurd answer
 
   generates_at : (seed : ℕ) (output : List ℕ) (status : Status) → SeedAnswer seed output old new status →
       (status ≡ Done) ⊎ ((status ≡ WriteFault) ⊎ (status ≡ Memory))

@@ -38,3 +38,19 @@ input_of (Shows input form) = Some input
 input_of (Explains input) = Some input
 input_of (Lists input) = Some input
 input_of (TypesNames input) = Some input
+
+-- the name of the file that it writes, if it writes one
+abbrev pub output_of : Asked → Option (List ℕ)
+output_of (Compiles input output) = Some output
+output_of (CompilesWithin input output k) = Some output
+output_of (Generates seed output) = Some output
+output_of (Upgrades input output) = Some output
+output_of other = None
+
+-- the number of turns or of instructions that it makes at most, if it has such a budget
+abbrev pub budget_of : Asked → Option ℕ
+budget_of (Evaluates input turns) = Some turns
+budget_of (Runs input fuel) = Some fuel
+budget_of (Costs input fuel) = Some fuel
+budget_of (Traces input from to) = Some to
+budget_of other = None

@@ -1,5 +1,5 @@
 -- When each status comes, exactly.
-use Rattle.std.specs.Prelude.{◌≡◌, ◌⊎◌, ◌↔◌, ℕ, List, Option, Some, None, MatchOption, false}
+use Rattle.std.specs.Prelude.{◌≡◌, ◌⊎◌, ◌↔◌, ℕ, List, Option, Some, None, IsSome, IsNone, MatchOption, false}
 use Rattle.std.specs.FinMap.{get}
 use Rattle.io_core.specs.Outside.{FileMap, Faulted, IsAbsent}
 use Rattle.talc_core.specs.declared.status.Status.{Status}
@@ -15,9 +15,8 @@ use Rattle.t_terms.specs.Spanned.{SProg, plain_program}
 use Rattle.t_rules.specs.Machine.{GoesOnAfter}
 use Rattle.f_seeds.specs.Source.{source}
 use Rattle.talc_core.specs.FirstFault.{Need, FirstFault, IsChecked, IsAcceptedText, IsTaken}
-use Rattle.talc_core.specs.Command.{Asked, Compiles, CompilesWithin, Evaluates, Runs, Costs, Generates, Upgrades}
-use Rattle.talc_core.specs.Command.{Traces, Explains}
-use Rattle.talc_core.specs.Command.{command_of, need_of, input_of}
+use Rattle.talc_core.specs.Command.{Asked, Evaluates, Generates, Explains}
+use Rattle.talc_core.specs.Command.{command_of, need_of, input_of, output_of, budget_of}
 use Rattle.talc_core.specs.Headline.{Outside, Headline}
 
 -- no fault of the outside, and no want of memory
@@ -54,34 +53,28 @@ CannotRead asked old new =
 abbrev pub LeadsTo : Need → List ℕ → Status → Type 0
 LeadsTo need source status = (fault : Fault) × FirstFault need source fault × (status_of fault ≡ status)
 
--- what may have failed where the status is a fault of writing: the write of the output's file, or the put of the lines
+-- the command shows lines: all do but those that make one file of another
+abbrev pub ShowsLines : Asked → Type 0
+ShowsLines (Generates seed output) = Unit {0}
+ShowsLines other = IsNone (output_of other)
+
+-- the command writes a file, and a write may have failed; or it shows lines, and a put may have
 abbrev pub CannotWrite : Asked → Outside → Outside → Type 0
-CannotWrite (Compiles input output) old new = Faulted old.files.writes new.files.writes
-CannotWrite (CompilesWithin input output k) old new = Faulted old.files.writes new.files.writes
-CannotWrite (Upgrades input output) old new = Faulted old.files.writes new.files.writes
-CannotWrite (Generates seed output) old new =
-    Faulted old.files.writes new.files.writes ⊎ Faulted old.out.faults new.out.faults
-CannotWrite other old new = Faulted old.out.faults new.out.faults
+CannotWrite asked old new =
+    (IsSome (output_of asked) × Faulted old.files.writes new.files.writes)
+    ⊎ (ShowsLines asked × Faulted old.out.faults new.out.faults)
 
 -- the command has a budget
 abbrev pub HasBudget : Asked → Type 0
-HasBudget (Evaluates input turns) = Unit {0}
-HasBudget (Runs input fuel) = Unit {0}
-HasBudget (Costs input fuel) = Unit {0}
-HasBudget (Traces input from to) = Unit {0}
-HasBudget other = ⊥
+HasBudget asked = IsSome (budget_of asked)
 
 -- the text is what the command needs, and the end isn't reached within the budget
 abbrev pub GoesOn : Asked → List ℕ → Type 0
 GoesOn (Evaluates input turns) source =
     (term : Tm) × IsChecked source term TInt × (has_cells (plain term) ≡ false) × IsSpent (plain term) turns
-GoesOn (Runs input fuel) source =
-    (program : SProg) × IsAcceptedText source program × GoesOnAfter (plain_program program) fuel
-GoesOn (Costs input fuel) source =
-    (program : SProg) × IsAcceptedText source program × GoesOnAfter (plain_program program) fuel
-GoesOn (Traces input from to) source =
-    (program : SProg) × IsAcceptedText source program × GoesOnAfter (plain_program program) to
-GoesOn other source = ⊥
+GoesOn other source =
+    MatchOption (budget_of other) ⊥
+    (λ budget. (program : SProg) × IsAcceptedText source program × GoesOnAfter (plain_program program) budget)
 
 -- no count of faults of the files or of the output rises in the call or stands at its last value
 pub record NoFaults (old new : Outside) : Type 0 where

@@ -124,10 +124,6 @@ tal_words M1 = codes "more than 2000 open constructs"
 abbrev pub span_text : Span → List ℕ
 span_text span = decimal span.start ++ codes ".." ++ decimal span.end
 
--- a code, a place and words, with a space between and a line end
-abbrev pub line_text : List ℕ → Span → List ℕ → List ℕ
-line_text code span words = code ++ codes " " ++ span_text span ++ codes " " ++ words ++ codes "\n"
-
 -- a fault as it is shown: its code, its place and its words, with a space between
 abbrev pub shown_text : List ℕ → Span → List ℕ → List ℕ
 shown_text code span words = code ++ codes " " ++ span_text span ++ codes " " ++ words
@@ -138,8 +134,7 @@ fault_text (Tal code span) = shown_text (tal_code code) span (tal_words code)
 
 -- the line that names a fault
 abbrev pub fault_line : Fault → List ℕ
-fault_line (Source code span) = line_text (source_code code) span (source_words code)
-fault_line (Tal code span) = line_text (tal_code code) span (tal_words code)
+fault_line fault = fault_text fault ++ codes "\n"
 
 -- the text of a type, and a line end
 abbrev pub type_line : Ty → List ℕ

@@ -1,6 +1,6 @@
 // The lines that are put on the error output, and the one of what goes on.
-ghost use Rattle.std.specs.Prelude.{◌≡◌, ◌++◌, IfOk, OnOk};
-ghost use Rattle.talc_core.specs.Lines.{span_text, line_text, fault_line, more_line};
+ghost use Rattle.std.specs.Prelude.{◌≡◌, ◌++◌, IfOk, OnOk, codes};
+ghost use Rattle.talc_core.specs.Lines.{span_text, shown_text, fault_line, more_line};
 
 use crate::fault::Fault;
 use crate::fault::codes::{source_code, source_words, tal_code, tal_words};
@@ -18,7 +18,7 @@ fn write_span(line: &mut Vec<u8>, span: Span) -> Result<(), OutOfMemory>
 }
 
 fn make_line(alloc: Global, code: &str, span: Span, words: &str) -> Result<Vec<u8>, OutOfMemory>
-    ensures { IfOk result (λ line. line.items ≡ line_text code.now span words.now) }
+    ensures { IfOk result (λ line. line.items ≡ shown_text code.now span words.now ++ codes "\n") }
 {
     let mut line = Vec::from_slice(alloc, code.as_bytes())?;
     line.extend_from_slice(b" ")?;

@@ -14,7 +14,8 @@ use Rattle.talc_core.specs.Written.{IsWritten}
 -- is well formed, and the typing rules accept it. It means the same: it halts with an integer exactly where the source
 -- evaluates to it, in no fewer instructions than turns. Where n turns are enough for the source, each place of it is
 -- executed at most n + 1 times, so that it halts within n + 1 times the number of its instructions and jumps. How it
--- comes of the source is not said here.
+-- comes of the source is not said here. What stands between bars is promised as a fact alone: a proof of it holds a
+-- derivation or a number of steps, and none is handed out.
 pub record IsCompiled (source target : List ℕ) : Type 0 where
   pub term : Tm
   pub program : TProg

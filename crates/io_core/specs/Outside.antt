@@ -29,10 +29,11 @@ pub record FilesState : Type 0 where
   pub writes : ℕ
   pub calls : Option (List Call)
 
--- the bytes taken, where they are told, and how often a put has failed
+-- the bytes taken, where they are told, how often a put has failed, and how often one has wanted memory
 pub record SinkState : Type 0 where
   pub taken : Option (List ℕ)
   pub faults : ℕ
+  pub wants : ℕ
 
 -- how a proof tells two file maps, and two states of files, apart
 abbrev pub file_map_code : Coded FileMap
@@ -66,9 +67,13 @@ files_code =
 abbrev pub last_count : ℕ
 last_count = 18446744073709551615
 
--- a fault was counted, or the counter stands at its last value
+-- the counter rose, or it stands at its last value
+abbrev pub Rose : ℕ → ℕ → Type 0
+Rose before after = (before < after) ⊎ (after ≡ last_count)
+
+-- a fault was counted
 abbrev pub Faulted : ℕ → ℕ → Type 0
-Faulted before after = (before < after) ⊎ (after ≡ last_count)
+Faulted before after = Rose before after
 
 -- the told map has no such name
 abbrev pub IsAbsent : Option FileMap → List ℕ → Type 0
@@ -126,9 +131,19 @@ gained taken bytes = option_map (λ before. before ++ bytes) taken
 abbrev pub GainedPart : Option (List ℕ) → List ℕ → Option (List ℕ) → Type 0
 GainedPart old bytes new = (part rest : List ℕ) × (part ++ rest ≡ bytes) × (new ≡ gained old part)
 
--- a put takes the whole piece, or fails by a counted fault and takes a first part, or wants memory and changes nothing
+-- the sink has taken no more, and no fault was counted
+abbrev pub IsUnput : SinkState → SinkState → Type 0
+IsUnput old new = (new.taken ≡ old.taken) × (new.faults ≡ old.faults)
+
+-- a put wanted memory, which was counted, and nothing else has changed
+abbrev pub WantedMemory : SinkState → SinkState → Type 0
+WantedMemory old new = Rose old.wants new.wants × IsUnput old new
+
+-- a put takes the whole piece, or fails by a counted fault and takes a first part, or wants memory
 abbrev pub IsPut : SinkState → SinkState → List ℕ → Result (Unit {0}) Stop → Type 0
-IsPut old new bytes (Ok done) = (new.taken ≡ gained old.taken bytes) × (old.faults ≤ new.faults)
+IsPut old new bytes (Ok done) =
+    (new.taken ≡ gained old.taken bytes) × (old.faults ≤ new.faults) × (new.wants ≡ old.wants)
 IsPut old new bytes (Err Failed) =
     Faulted old.faults new.faults × GainedPart old.taken bytes new.taken × (old.faults ≤ new.faults)
-IsPut old new bytes (Err Memory) = new ≡ old
+    × (new.wants ≡ old.wants)
+IsPut old new bytes (Err Memory) = WantedMemory old new

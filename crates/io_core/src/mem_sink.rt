@@ -1,7 +1,9 @@
 // A sink in memory, with puts that fail where a list says so.
-ghost use Rattle.std.specs.Prelude.{◌≡◌};
+ghost use Rattle.std.specs.Prelude.{◌≡◌, ◌++◌, MatchResult};
+ghost use Rattle.io_core.specs.declared.outside.Stop.TheVariants.{Memory};
+ghost use Rattle.io_core.specs.Failing.{counted};
 ghost use Rattle.io_core.specs.Outside.{IsPut};
-ghost use Rattle.io_core.specs.MemSink.{sink_state, fresh_sink, MemPuts};
+ghost use Rattle.io_core.specs.MemSink.{sink_state, fresh_sink, called, MemPuts};
 
 use crate::failing::{failing_at, first_bytes};
 use crate::outside::{Sink, Stop};
@@ -16,6 +18,7 @@ pub struct MemSink {
     failing: Vec<(u64, u64)>,
     next: u64,
     faults: u64,
+    wants: u64,
 }
 
 impl Model for MemSink {
@@ -23,7 +26,13 @@ impl Model for MemSink {
 
     ghost Value = { MemSinkState };
 
-    ghost view = { λ s. record { taken = s.taken.items; failing = s.failing.items; next = s.next; faults = s.faults } };
+    ghost view = { λ s. record {
+      taken = s.taken.items;
+      failing = s.failing.items;
+      next = s.next;
+      faults = s.faults;
+      wants = s.wants;
+    } };
 }
 
 impl MemSink {
@@ -37,6 +46,25 @@ impl MemSink {
             failing,
             next: 0,
             faults: 0,
+            wants: 0,
+        }
+    }
+
+    // Takes bytes, or counts that memory was wanted.
+    fn take(&mut self, bytes: &[u8]) -> Result<(), Stop>
+        ensures { MatchResult result
+            (λ _. self.new ≡ record (called self.old) { taken = self.old.taken ++ bytes.now })
+            (λ why. (why ≡ Memory) × (self.new ≡ record self.old { wants = counted self.old.wants })) }
+    {
+        match self.taken.extend_from_slice(bytes) {
+            Ok(()) => {
+                self.next = self.next.saturating_add(1);
+                Ok(())
+            }
+            Err(_) => {
+                self.wants = self.wants.saturating_add(1);
+                Err(Stop::Memory)
+            }
         }
     }
 
@@ -64,14 +92,12 @@ impl Sink for MemSink {
     {
         match failing_at(&self.failing, self.next) {
             Some(most) => {
-                self.taken.extend_from_slice(first_bytes(bytes, most))?;
-                self.next = self.next.saturating_add(1);
+                self.take(first_bytes(bytes, most))?;
                 self.faults = self.faults.saturating_add(1);
                 Err(Stop::Failed)
             }
             None => {
-                self.taken.extend_from_slice(bytes)?;
-                self.next = self.next.saturating_add(1);
+                self.take(bytes)?;
                 Ok(())
             }
         }

@@ -1,5 +1,5 @@
 // A stream of the system, as the standard output. No clause knows what the system shows, so it tells no content, and
-// counts each fault.
+// counts each fault. It never wants memory.
 ghost use Rattle.std.specs.Prelude.{◌≡◌};
 
 use crate::outside::{Sink, Stop};
@@ -21,13 +21,13 @@ impl<W> Model for OutSink<W> {
 
     ghost Value = { SinkState };
 
-    ghost view = { λ s. record { taken = None; faults = s.faults } };
+    ghost view = { λ s. record { taken = None; faults = s.faults; wants = 0 } };
 }
 
 impl<W> OutSink<W> {
     /// A sink that writes each piece at once.
     pub fn new(writer: W) -> OutSink<W>
-        ensures { result ≡ record { taken = None; faults = 0 } }
+        ensures { result ≡ record { taken = None; faults = 0; wants = 0 } }
     {
         OutSink { writer, faults: 0 }
     }

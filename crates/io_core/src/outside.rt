@@ -10,7 +10,7 @@ use std::fmt;
 /// Why a call of the outside did not do its work.
 #[derive(Clone, Copy, Debug, PartialEq, Eq, Drop)]
 pub enum Stop {
-    /// Memory was wanted and not had; nothing has changed.
+    /// Memory was wanted and not had, which a sink has counted; nothing else has changed.
     Memory,
     /// The outside failed, which it has counted, or the file to read is not there.
     Failed,
@@ -58,7 +58,7 @@ pub trait Files {
 }
 
 /// A sink (own choice). Contracts see the bytes taken, where an implementation tells them, and how many puts have
-/// failed so far; that number never falls.
+/// failed and how many have wanted memory so far; neither number ever falls. A put that wants memory takes nothing.
 pub trait Sink {
     ghost state: { Self → SinkState };
 

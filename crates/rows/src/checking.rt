@@ -111,6 +111,7 @@ fn output(alloc: Global, failing: Vec<(u64, u64)>, scant: bool) -> RowSink {
     RowSink {
         sink: MemSink::new(alloc, failing),
         scant,
+        wants: 0,
     }
 }
 

@@ -29,23 +29,33 @@ impl Files for RowFiles {
     }
 }
 
-/// An output in memory. Where it is scant its next put finds no memory, and later ones do.
+/// An output in memory. Where it is scant its next put finds no memory, and later ones do. It counts the puts that wanted
+/// memory.
 #[derive(Drop)]
 pub struct RowSink {
     pub sink: MemSink,
     pub scant: bool,
+    pub wants: u64,
 }
 
 impl Sink for RowSink {
-    ghost use Rattle.io_core.specs.MemSink.{sink_state};
+    ghost use Rattle.std.specs.Prelude.{Some};
 
-    ghost state = { λ s. sink_state s.sink };
+    ghost state = { λ s. record { taken = Some s.sink.taken; faults = s.sink.faults; wants = s.wants } };
 
     fn put(&mut self, alloc: Global, bytes: &[u8]) -> Result<(), Stop> {
         if self.scant {
             self.scant = false;
+            self.wants = self.wants.saturating_add(1);
             return Err(Stop::Memory);
         }
-        self.sink.put(alloc, bytes)
+        match self.sink.put(alloc, bytes) {
+            Ok(()) => Ok(()),
+            Err(Stop::Failed) => Err(Stop::Failed),
+            Err(Stop::Memory) => {
+                self.wants = self.wants.saturating_add(1);
+                Err(Stop::Memory)
+            }
+        }
     }
 }

@@ -24,7 +24,7 @@ use Rattle.f_seeds.specs.Source.{source as source_of}
 use Rattle.io_core.specs.Outside.{with_file}
 use Rattle.talc_core.specs.OnTexts.{Making, status_at}
 use Rattle.talc_core.specs.Steps.{MakesFile, ShowsFile, ShowsSeed, Performs, Reports}
-use Rattle.talc_core.proofs.ListedLemmas.{outside, list_failed, list_ended}
+use Rattle.talc_core.proofs.ListedLemmas.{outside, unput, list_failed, list_ended}
 
 module _ (f f' : FilesState) (o o' e e' : SinkState) where
   -- ---- the commands that show a line
@@ -62,7 +62,7 @@ module _ (f f' : FilesState) (o o' e e' : SinkState) where
   line_failed Says need input (failed.Refused fault) ReadFault shown told = absurd told
   line_failed Says need input (failed.Refused fault) WriteFault shown told = absurd told
   line_failed Says need input (failed.Refused fault) Memory shown told =
-      record { line = told; out = shown.4; files = shown.3; calls = inr shown.5 }
+      record { line = told; out = unput o o' shown.4; files = shown.3; calls = inr shown.5 }
   line_failed Says need input failed.Read Done shown told = absurd told
   line_failed Says need input failed.Read Refused shown told = absurd told
   line_failed Says need input failed.Read Usage shown told = absurd told
@@ -72,7 +72,7 @@ module _ (f f' : FilesState) (o o' e e' : SinkState) where
       record { cause = shown.0; line = told; out = shown.2; files = shown.1; calls = shown.3 }
   line_failed Says need input failed.Read WriteFault shown told = absurd told
   line_failed Says need input failed.Read Memory shown told =
-      record { line = told; out = shown.2; files = shown.1; calls = inr shown.3 }
+      record { line = told; out = unput o o' shown.2; files = shown.1; calls = inr shown.3 }
   line_failed Says need input failed.Write Done shown told = absurd told
   line_failed Says need input failed.Write Refused shown told = absurd told
   line_failed Says need input failed.Write Usage shown told = absurd told
@@ -138,7 +138,7 @@ module _ (f f' : FilesState) (o o' e e' : SinkState) where
   text_failed Makes need input output same (failed.Refused fault) ReadFault shown told = absurd told
   text_failed Makes need input output same (failed.Refused fault) WriteFault shown told = absurd told
   text_failed Makes need input output same (failed.Refused fault) Memory shown told =
-      record { line = told; out = same; files = shown.3; calls = inr shown.4 }
+      record { line = told; out = unput o o' same; files = shown.3; calls = inr shown.4 }
   text_failed Makes need input output same failed.Read Done shown told = absurd told
   text_failed Makes need input output same failed.Read Refused shown told = absurd told
   text_failed Makes need input output same failed.Read Usage shown told = absurd told
@@ -148,7 +148,7 @@ module _ (f f' : FilesState) (o o' e e' : SinkState) where
       record { cause = shown.0; line = told; out = same; files = shown.1; calls = shown.2 }
   text_failed Makes need input output same failed.Read WriteFault shown told = absurd told
   text_failed Makes need input output same failed.Read Memory shown told =
-      record { line = told; out = same; files = shown.1; calls = inr shown.2 }
+      record { line = told; out = unput o o' same; files = shown.1; calls = inr shown.2 }
   text_failed Makes need input output same failed.Write Done shown told = absurd told
   text_failed Makes need input output same failed.Write Refused shown told = absurd told
   text_failed Makes need input output same failed.Write Usage shown told = absurd told
@@ -176,7 +176,7 @@ module _ (f f' : FilesState) (o o' e e' : SinkState) where
   text_failed Makes need input output same failed.Memory ReadFault shown told = absurd told
   text_failed Makes need input output same failed.Memory WriteFault shown told = absurd told
   text_failed Makes need input output same failed.Memory Memory shown told =
-      record { line = told; out = same; files = shown.0; calls = shown.1 }
+      record { line = told; out = unput o o' same; files = shown.0; calls = shown.1 }
 
   -- ---- the command `gen`
 

@@ -3,7 +3,7 @@ use Rattle.std.proofs.Common.{◌≡◌, ℕ, List, Ok, Err, refl, inl, inr, sym
 use Rattle.std.proofs.Common.{None}
 use Rattle.std.proofs.Common.{MatchOption, if◌then◌else◌}
 use Rattle.std.specs.Prelude.{Result}
-use Rattle.io_core.specs.Outside.{FilesState, SinkState, Holds, gained}
+use Rattle.io_core.specs.Outside.{FilesState, SinkState, Holds, IsUnput, gained}
 use Rattle.talc_core.specs.declared.fault.Fault.{Fault}
 use Rattle.talc_core.specs.declared.reply.Ending.{Ending}
 use Rattle.talc_core.specs.declared.reply.Ending.TheVariants.{Ends, GoesOn}
@@ -23,6 +23,10 @@ use Rattle.talc_core.specs.Steps.{ListsFile, IsListed, PutsLine, Reports, ended_
 -- the outside of a call
 abbrev pub outside : FilesState → SinkState → SinkState → Outside
 outside files out err = record { files = files; out = out; err = err }
+
+-- a sink that is as it was has taken no more
+pub unput : (old new : SinkState) → new ≡ old → IsUnput old new
+unput old new same = (ap (λ (s : SinkState). s.taken) same, ap (λ (s : SinkState). s.faults) same)
 
 -- a listing is shown of the text by some status
 by_fault : (name text shown : List ℕ) (fault : Option Fault) →
@@ -86,7 +90,7 @@ module _ (f f' : FilesState) (o o' e e' : SinkState) where
       record { cause = shown.0; line = told; out = shown.2; files = shown.1; calls = shown.3 }
   list_failed input failed.Read WriteFault shown told = absurd told
   list_failed input failed.Read Memory shown told =
-      record { line = told; out = inl shown.2; files = shown.1; calls = inr shown.3 }
+      record { line = told; out = inl (unput o o' shown.2); files = shown.1; calls = inr shown.3 }
   list_failed input failed.Write Done shown told = absurd told
   list_failed input failed.Write Refused shown told = absurd told
   list_failed input failed.Write Usage shown told = absurd told

@@ -1,7 +1,7 @@
 -- What a call of the compiler does, by its status.
 use Rattle.std.specs.Prelude.{◌≡◌, ◌⊎◌, ℕ, List, MatchOption}
 use Rattle.io_core.specs.Outside.{FilesState, SinkState, Faulted, IsAbsent, Holds, SameBut, Reading, Writing}
-use Rattle.io_core.specs.Outside.{with_file, with_call, gained, GainedPart}
+use Rattle.io_core.specs.Outside.{with_file, with_call, gained, GainedPart, IsUnput, WantedMemory}
 use Rattle.talc_core.specs.declared.status.Status.{Status}
 use Rattle.talc_core.specs.declared.status.Status.TheVariants.{Done, Refused, Usage, Limit}
 use Rattle.talc_core.specs.declared.status.Status.TheVariants.{Budget, ReadFault, WriteFault, Memory}
@@ -35,9 +35,9 @@ abbrev pub Shows : SinkState → SinkState → List ℕ → Type 0
 Shows old new line =
     (new.taken ≡ gained old.taken line) ⊎ (Faulted old.faults new.faults × GainedPart old.taken line new.taken)
 
--- the same; or memory was wanted, and the sink is as it was
+-- the same; or the put wanted memory, which the sink has counted, and nothing went onto it
 abbrev pub ShowsOrNot : SinkState → SinkState → List ℕ → Type 0
-ShowsOrNot old new line = (new ≡ old) ⊎ Shows old new line
+ShowsOrNot old new line = WantedMemory old new ⊎ Shows old new line
 
 -- no file is written: what is told of the files is as before, and so is the count of writes that failed, which any
 -- write might raise, also where no content is told
@@ -90,7 +90,7 @@ pub record NotRead (input : List ℕ) (old new : Outside) : Type 0 where
 -- 7: no file is written
 pub record OutOfMemory (input : List ℕ) (old new : Outside) : Type 0 where
   pub line : ShowsOrNot old.err new.err memory_line
-  pub out : new.out ≡ old.out
+  pub out : IsUnput old.out new.out
   pub files : Unwritten old.files new.files
   pub calls : AtMostRead input old.files new.files
 
@@ -193,7 +193,7 @@ pub record FaultPut (input : List ℕ) (old new : Outside) : Type 0 where
 -- 7: nothing is shown; or the listing up to a fault is, and then the line that names the fault found no memory
 pub record ListedOutOfMemory (input : List ℕ) (old new : Outside) : Type 0 where
   pub line : ShowsOrNot old.err new.err memory_line
-  pub out : (new.out ≡ old.out) ⊎ FaultPut input old new
+  pub out : IsUnput old.out new.out ⊎ FaultPut input old new
   pub files : Unwritten old.files new.files
   pub calls : AtMostRead input old.files new.files
 
@@ -223,8 +223,8 @@ pub record SeedDone (seed : ℕ) (output : List ℕ) (old new : Outside) : Type 
   pub unread : Unread old.files new.files
   pub calls : WrittenAlone output (source seed) old.files new.files
 
--- 6 from the write: the count of writes rose or stands at its last value; every other file is as before. The write came
--- after the work: there are lines to be shown
+-- 6 from the write: the count of writes rose or stands at its last value; every other file is as before. There are
+-- lines to be shown, and they say what is so
 pub record SeedNotWritten (seed : ℕ) (output : List ℕ) (old new : Outside) : Type 0 where
   pub lines : List ℕ
   pub says : SeedShown seed lines
@@ -246,7 +246,7 @@ pub record SeedNotShown (seed : ℕ) (output : List ℕ) (old new : Outside) : T
   pub unread : Unread old.files new.files
   pub calls : WrittenAlone output (source seed) old.files new.files
 
--- the output's file is set to the source of the seed, after the work: there are lines to be shown
+-- the output's file is set to the source of the seed, and there are lines to be shown, which say what is so
 pub record SeedWrittenAlone (seed : ℕ) (output : List ℕ) (old new : Outside) : Type 0 where
   pub lines : List ℕ
   pub says : SeedShown seed lines
@@ -256,7 +256,7 @@ pub record SeedWrittenAlone (seed : ℕ) (output : List ℕ) (old new : Outside)
 -- 7: no file is written; or the file is, and then the put found no memory
 pub record SeedOutOfMemory (seed : ℕ) (output : List ℕ) (old new : Outside) : Type 0 where
   pub line : ShowsOrNot old.err new.err memory_line
-  pub out : new.out ≡ old.out
+  pub out : IsUnput old.out new.out
   pub unread : Unread old.files new.files
   pub files : (Unwritten old.files new.files × (new.files.calls ≡ old.files.calls)) ⊎ SeedWrittenAlone seed output old
       new

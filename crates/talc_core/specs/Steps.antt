@@ -3,7 +3,7 @@ use Rattle.std.specs.Prelude.{◌≡◌, ◌≤◌, ◌⊎◌, ◌+◌, ◌*◌,
 use Rattle.std.specs.Prelude.{Option, Some, None, MatchOption}
 use Rattle.std.specs.declared.alloc.Global.{Global}
 use Rattle.io_core.specs.Outside.{FilesState, SinkState, Faulted, IsAbsent, Holds, SameBut}
-use Rattle.io_core.specs.Outside.{with_file, gained, GainedPart}
+use Rattle.io_core.specs.Outside.{with_file, gained, GainedPart, IsUnput, WantedMemory}
 use Rattle.f_terms.specs.Ty.{TInt}
 use Rattle.f_terms.specs.Tm.{Tm, plain}
 use Rattle.f_terms.specs.Cells.{has_cells}
@@ -123,14 +123,14 @@ WritesOutput output text old new (Err other) = ⊥
 abbrev pub PutsLine : List ℕ → SinkState → SinkState → Result (Unit {0}) Failure → Type 0
 PutsLine line old new (Ok done) = new.taken ≡ gained old.taken line
 PutsLine line old new (Err Write) = Faulted old.faults new.faults × GainedPart old.taken line new.taken
-PutsLine line old new (Err Memory) = new ≡ old
+PutsLine line old new (Err Memory) = IsUnput old new
 PutsLine line old new (Err other) = ⊥
 
 -- a reply's line put on the output, and how the command then ends, or why not
 abbrev pub PutsReply : Reply → SinkState → SinkState → Result Ending Failure → Type 0
 PutsReply reply old new (Ok ending) = (ending ≡ reply.ending) × (new.taken ≡ gained old.taken reply.line.items)
 PutsReply reply old new (Err Write) = Faulted old.faults new.faults × GainedPart old.taken reply.line.items new.taken
-PutsReply reply old new (Err Memory) = new ≡ old
+PutsReply reply old new (Err Memory) = IsUnput old new
 PutsReply reply old new (Err other) = ⊥
 
 -- ---- the commands
@@ -170,7 +170,7 @@ ShowsFile Says need input old new out out' (Err Write) =
     × Faulted out.faults out'.faults × GainedPart out.taken line out'.taken × Unwritten old new
     × ReadAlone input old new
 ShowsFile Says need input old new out out' (Err Memory) =
-    Unwritten old new × (out' ≡ out) × AtMostRead input old new
+    Unwritten old new × IsUnput out out' × AtMostRead input old new
 
 -- the listing of a file's text, or up to its first fault, put on the output, or why not
 abbrev pub ListsFile :
@@ -190,7 +190,7 @@ ListsFile input old new out out' (Err Write) =
     × Faulted out.faults out'.faults × GainedPart out.taken shown out'.taken × Unwritten old new
     × ReadAlone input old new
 ListsFile input old new out out' (Err Memory) =
-    Unwritten old new × (out' ≡ out) × AtMostRead input old new
+    Unwritten old new × IsUnput out out' × AtMostRead input old new
 
 -- the rows of a text, or up to its first fault
 abbrev pub AreRows : List ℕ → RowsMade → Type 0
@@ -238,8 +238,7 @@ pub record Evaluated (seed : ℕ) (value : ℤ) (used : ℕ) : Type 0 where
 abbrev pub HaltsSoonEnough : TProg → Type 0
 HaltsSoonEnough P = (fuel : ℕ) → (seed_turns + 1) * program_size P ≤ fuel → ¬ GoesOnAfter P fuel
 
--- the source of a seed written after all work on it, and what is shown of it put on the output, with no file read; or
--- why not
+-- the source of a seed written, and what is shown of it put on the output, with no file read; or why not
 abbrev pub ShowsSeed :
     ℕ → List ℕ → FilesState → FilesState → SinkState → SinkState → Result Ending Failure → Type 0
 ShowsSeed seed output old new out out' (Ok Ends) =
@@ -252,7 +251,7 @@ ShowsSeed seed output old new out out' (Err Write) =
     × Faulted out.faults out'.faults × GainedPart out.taken lines out'.taken × Unread old new
     × WrittenAlone output (source_of seed) old new)
 ShowsSeed seed output old new out out' (Err Memory) =
-    (out' ≡ out) × Unread old new
+    IsUnput out out' × Unread old new
     × ((Unwritten old new × (new.calls ≡ old.calls))
     ⊎ ((lines : List ℕ) × SeedShown seed lines × (new.told ≡ with_file old.told output (source_of seed))
     × WrittenAlone output (source_of seed) old new))
@@ -287,10 +286,10 @@ Performs (TypesNames input) old new out out' result = ShowsFile ShowsTypes AnyTe
 
 -- ---- the lines for the user
 
--- the line is shown and the status is this; or memory was wanted, and nothing is shown
+-- the line is shown and the status is this; or the put wanted memory
 abbrev pub ShowsFor : List ℕ → Status → SinkState → SinkState → Status → Type 0
 ShowsFor line wanted old new answer =
-    ((answer ≡ wanted) × Shows old new line) ⊎ ((answer ≡ status.Memory) × (new ≡ old))
+    ((answer ≡ wanted) × Shows old new line) ⊎ ((answer ≡ status.Memory) × WantedMemory old new)
 
 -- the line of a failure, and the status that it leads to
 abbrev pub Reports : Failure → SinkState → SinkState → Status → Type 0

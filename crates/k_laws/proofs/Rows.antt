@@ -1,6 +1,6 @@
 -- Rows, computed: `7`, the factorial of 5, the identity at int; and terms held beside the rules of the relation, with
 -- others that no rule gives.
-use Rattle.std.proofs.Common.{pos, ◌≡◌, refl, inl, inr}
+use Rattle.std.proofs.Common.{pos, ◌≡◌, ◌∙◌, refl, sym, ap, subst, inl, inr}
 use Rattle.std.specs.Prelude.{ℤ, false}
 use Rattle.std.specs.Int.{int_wrap}
 use Rattle.idx_core.specs.declared.arith.Op.TheVariants.{Add, Sub, Mul}
@@ -113,15 +113,24 @@ difference_is_one : cps_program difference (minus (KInt (pos 5)) (KInt (pos 2)))
 difference_is_one =
     ((refl, refl, refl), (refl, inl (refl, inl (_, _, _, refl, refl, refl, inl (_, (0, refl, refl), refl)))))
 
+-- a term that names a value, and the first operand of one that computes
+abbrev Names : KTm → Type 0
+Names (KLet (KName v) rest) = Unit {0}
+Names t = ⊥
+
+abbrev first_operand : KTm → KVal
+first_operand (KLet (KArith op v w) rest) = v
+first_operand t = KInt (pos 0)
+
 named_first : (v : KVal) (rest : KTm) → minus (KInt (pos 2)) (KInt (pos 5)) ≡ KLet (KName v) rest → ⊥
-named_first v rest e = cc
+named_first v rest e = subst Names (sym e) tt
 
 exchanged_is_none : cps_program difference (minus (KInt (pos 2)) (KInt (pos 5))) → ⊥
 exchanged_is_none (ty, (ta, inl (tb, inl (a, b, rest, ea, eb, e, more)))) = other a b rest ea e
   where
     other : (a b : KVal) (rest : KTm) → a ≡ KInt (pos 5) →
         minus (KInt (pos 2)) (KInt (pos 5)) ≡ KLet (KArith Sub a b) rest → ⊥
-    other a b rest ea e = cc
+    other a b rest ea e = let q : ◌≡◌ {A = KVal} (KInt (pos 2)) (KInt (pos 5)) = ap first_operand e ∙ ea in cc
 exchanged_is_none (ty, (ta, inl (tb, inr (v, rest, x, e, more)))) = named_first v rest e
 exchanged_is_none (ty, (ta, inr (v, rest, x, e, more))) = named_first v rest e
 

@@ -2,6 +2,7 @@ use Rattle.std.proofs.Common.{◌++◌, [], length, ap, ◌∙◌}
 use Rattle.std.proofs.Math.Logic.{∥∥₁_map}
 use Rattle.a_laws.specs.Allocate.{data_t}
 use Rattle.h_terms.specs.Nodes.{h_blocks, h_tree}
+use Rattle.h_terms.specs.Program.{blocks_in, main_in}
 use Rattle.a_pass.proofs.Blocks.{count_is}
 use Rattle.a_pass.proofs.Bounded.{bounded, main_is, program_is}
 use Rattle.a_pass.proofs.program.allocated.Goals as goal
@@ -17,7 +18,7 @@ new-requires-clause-bound c =
     let ed = c.in_ok-main.ensures.keeps
     ∙ ap (λ z. z ++ data_t g [] [] (length c.all_blocks.new.tuples.items) 0 m) c.in_ok-blocks.ensures.keeps in
     ∥∥₁_map c.blocks-given.ensures.bound
-    (λ h. bounded _ _ c.in_ok-blocks.blocks.items _ c.main_term.new.tuples.items _ c.in_ok-main.main.items _
+    (λ h. bounded (blocks_in c.args.program.now) (main_in c.args.program.now) c.in_ok-blocks.blocks.items _ c.main_term.new.tuples.items _ c.in_ok-main.main.items _
     c.bounds_are_kept.ensures h
     (program_is g _ m _ c.in_ok-blocks.blocks.items c.main_term.new.tuples.items _ c.blocks-given.ensures.same
     c.main.ensures.same c.in_ok-blocks.ensures.made ed n)

@@ -299,6 +299,15 @@ abbrev env_of : CTm → CVals
 env_of (CLet (CUnpack v) t) = env_in v
 env_of t = NoCVals
 
+-- the number of the variable that is the first value
+abbrev number : CVal → ℕ
+number (CVar i) = i
+number v = 0
+
+abbrev first_value : CVals → CVal
+first_value NoCVals = CInt (pos 0)
+first_value (MoreCVals v vs) = v
+
 turned_is_none : IsTranslation pair pair_turned → ⊥
 turned_is_none
     (d, rest, e, rd, (d2, rest2, e2, rd2, (c, us, e3, (ys, body, ec, (v, vs, ev, (j, is, level), more), rt), rvs))) =
@@ -309,7 +318,7 @@ turned_is_none
   where
     clash : (v : CVal) (vs : CVals) (j : ℕ) → MoreCVals (CVar 0) (MoreCVals (CVar 1) NoCVals) ≡ MoreCVals v vs →
         v ≡ CVar j → j + 1 ≡ 2 → ⊥
-    clash v vs j e is level = grind arith
+    clash v vs j e is level = let q : 0 ≡ j = ap number (ap first_value e ∙ is) in absurd (omega (arith, q, level))
 
 -- a function makes its own closure again from its code and the environment that it was given:
 -- (f = code(x: int). f(x))(3)

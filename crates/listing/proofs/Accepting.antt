@@ -8,7 +8,7 @@ use Rattle.t_types.specs.Fits.{RegTypes, lookup}
 use Rattle.t_types.proofs.Scope.{regs_below}
 use Rattle.t_terms.specs.Tree.{TInstr, TEnd, Halt, TSeq, TProg, names_after}
 use Rattle.t_terms.specs.Spanned.{SBlock, SProg, seq_of, plain, plain_blocks, plain_heap, plain_program}
-use Rattle.t_terms.specs.Whole.{WellFormedBlocks, Whole}
+use Rattle.t_terms.specs.Whole.{WellFormedBlocks, WellFormedProgram}
 use Rattle.t_terms.specs.Registers.{with_reg}
 use Rattle.t_rules.specs.Rules.{SeqAccepted, BlocksAccepted, FirstTakesNothing, Accepted}
 use Rattle.t_rules.specs.Faults.{Note, BodyFaultWith, BlocksFaultWith, FirstBlockFaultWith, ProgramNoted}
@@ -108,7 +108,7 @@ differ : (b : Bool) → b ≡ true → b ≡ false → ⊥
 differ true x y = cc
 differ false x y = cc
 
-cut_at : (P : SProg) (c : Note) (place : Span) → Whole (plain_program P) → ProgramNoted P c place →
+cut_at : (P : SProg) (c : Note) (place : Span) → WellFormedProgram (plain_program P) → ProgramNoted P c place →
     is_before_blocks place P ≡ false → Accepted (plain_program (cut place P))
 cut_at P c place w (inl h) behind =
     absurd (differ _ (or_left _ _ (label_at place P.blocks c h.1)) behind)

@@ -5,7 +5,7 @@ use Rattle.idx_core.specs.declared.span.Span.{Span}
 use Rattle.t_types.specs.WellFormed.{max_names}
 use Rattle.t_terms.specs.Tree.{TInstr, TEnd, Halt, names_after}
 use Rattle.t_terms.specs.Spanned.{SBlock, SProg, seq_of, plain_blocks, plain_program}
-use Rattle.t_terms.specs.Whole.{Whole, WellFormedSeq, WellFormedBlocks}
+use Rattle.t_terms.specs.Whole.{WellFormedProgram, WellFormedSeq, WellFormedBlocks}
 use Rattle.listing.specs.Before.{is_at, in_block, steps_to}
 use Rattle.listing.specs.Cut.{way_out, cut_block, way_outs, cut_blocks, cut}
 use Rattle.listing.proofs.Moving.{Alike, alike_cut}
@@ -48,7 +48,8 @@ module _ (p q : ℕ) (place : Span) where
       go true rest = ((h.0.0, h.0.1, cut_well b.owes b.body b.last h.0.0 h.0.2), outs_well bs h.1)
       go false rest = (h.0, rest)
 
-pub cut_whole : (place : Span) (P : SProg) → Whole (plain_program P) → Whole (plain_program (cut place P))
+pub cut_whole : (place : Span) (P : SProg) → WellFormedProgram (plain_program P) →
+    WellFormedProgram (plain_program (cut place P))
 cut_whole place P w =
     let l = alike_length P.blocks (cut_blocks place P.blocks) (alike_cut place P.blocks) in
     let some = w.0 in

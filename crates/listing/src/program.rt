@@ -103,5 +103,5 @@ pub fn cut(alloc: Global, program: TProgram, place: Span) -> Result<TProgram, Ou
 {
     let TProgram { blocks, heap, .. } = program;
     let made = blocks_to(alloc, blocks, place)?;
-    Ok(TProgram { blocks: made, heap })
+    Ok(TProgram::new(made, heap))
 }

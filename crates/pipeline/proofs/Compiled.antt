@@ -21,7 +21,7 @@ use Rattle.a_laws.specs.Allocate.{alloc_prog, alloc_main}
 use Rattle.a_laws.specs.Stands.{Stands}
 use Rattle.a_laws.specs.Statements.{ends}
 use Rattle.t_terms.specs.Tree.{TProg}
-use Rattle.t_terms.specs.Whole.{Whole}
+use Rattle.t_terms.specs.Whole.{WellFormedProgram}
 use Rattle.t_rules.specs.Rules.{Accepted}
 use Rattle.t_rules.specs.LawsErased.{StandsAt}
 use Rattle.t_rules.specs.LawsTimes.{RunsWithinTimes}
@@ -51,7 +51,7 @@ module _ (e : Term) (k : KTm) (c : CTm) (ks : HBlks) (t : HTm) (p : AProg) (main
     (runs : (n : ℕ) → hrun n ks t ≡ crun n c) (allocated : Stands p main ks t)
     (means : (n : ℕ) → A.meaning p main n ≡ ends [] (hrun n ks t)) (is_generated : P ≡ generated p main)
     (by_rules : Generates p main P) (made : IsMade e P) (accepted : Accepted P) (keeps : Keeps p main P)
-    (whole : Whole P) where
+    (whole : WellFormedProgram P) where
   means_same : SameMeaning e P
   means_same = same_meaning e k c ks t p main P converted.meaning halts codes runs means keeps
 

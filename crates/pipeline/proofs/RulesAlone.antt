@@ -16,7 +16,7 @@ use Rattle.h_pass.specs.Statements.{HoistedMeansTheSame}
 use Rattle.a_terms.specs.Meaning as A
 use Rattle.a_laws.specs.Statements.{StandingMeansTheSame, ends, finish, onto_log}
 use Rattle.t_terms.specs.Tree.{TProg}
-use Rattle.t_terms.specs.Whole.{Whole}
+use Rattle.t_terms.specs.Whole.{WellFormedProgram}
 use Rattle.t_rules.specs.LawsErased.{StandsAt}
 use Rattle.t_rules.specs.LawsTimes.{RunsWithinTimes}
 use Rattle.t_rules.specs.Rules.{Accepted}
@@ -37,7 +37,7 @@ module _ (converts : KeepsMeaning) (types : KeepsTypes) (scope : closes.TypedIsC
     (translates : closes.CloseTranslates) (closed_means : closes.MeaningKept) (closed_typed : closes.TypesKept)
     (hoists : HoistedMeansTheSame) (never_stuck : HNeverStuck) (stands : StandingMeansTheSame)
     (rules : RulesMeanTheSame) (at_place : StandsAt) (within : RunsWithinTimes) (e : Term) (P : TProg)
-    (t : IsTranslation e P) (whole : Whole P) (accepted : Accepted P) where
+    (t : IsTranslation e P) (whole : WellFormedProgram P) (accepted : Accepted P) where
   k_good : KTyped 0 [] t.converted
   k_good = types e t.converted t.to_converted
 

@@ -8,7 +8,8 @@ use Rattle.t_terms.specs.Tree.{TSeq, Then, Ends, TBlock, TData, TProg, names_aft
 use Rattle.t_terms.specs.Nesting.{type_nesting, regs_nesting, fields_nesting, types_nesting, value_nesting}
 use Rattle.t_terms.specs.Nesting.{instr_nesting, end_nesting, seq_nesting, blocks_nesting, data_nesting, heap_nesting}
 use Rattle.t_terms.specs.Nesting.{nesting}
-use Rattle.t_terms.specs.Flat.{NoPack, FlatValue, FlatInstr, FlatEnd, FlatSeq, FlatBlocks, FlatData, FlatHeap, Flat}
+use Rattle.t_terms.specs.Values.{InstrValues, EndValues, SeqValues, BlocksValues, DataValues, HeapValues}
+use Rattle.t_terms.specs.Flat.{NoPack, FlatValue, Flat}
 use Rattle.t_terms.specs.Reach.{type_reach, regs_reach, fields_reach}
 use Rattle.t_gen_laws.specs.TypesEach.{TWithin, AllTypes, FileTypes, HasEach, InstrEach, EndEach, SeqEach, BlocksEach}
 use Rattle.t_gen_laws.specs.TypesEach.{DataEach, HeapEach, TypesEach}
@@ -55,7 +56,7 @@ module _ (N R B : ℕ) where
         let same : type_nesting s ≡ type_nesting t = ap type_nesting (sym h.0.5) in
         omega (arith, x, y, z, same, h.1.2.1, h.1.3.1)
 
-    of_instr : (n : ℕ) (g : RegTypes) (i : TInstr) → FlatInstr i → InstrEach (TWithin N R B) P n g i →
+    of_instr : (n : ℕ) (g : RegTypes) (i : TInstr) → InstrValues FlatValue i → InstrEach (TWithin N R B) P n g i →
         instr_nesting i ≤ R + 2
     of_instr n g (Arith op rd rs v) f h = of_value n g v IntTy f h
     of_instr n g (Bnz r v) f h = of_value n g v (CodeTy 0 h.0) f h.1
@@ -65,16 +66,19 @@ module _ (N R B : ℕ) where
     of_instr n g (St rd i rs) f h = omega arith
     of_instr n g (Unpack rd v) f h = let x = of_value n g v (ExistsTy h.0) f h.1 in omega (arith, x)
 
-    of_end : (n : ℕ) (g : RegTypes) (e : TEnd) → FlatEnd e → EndEach (TWithin N R B) P n g e → end_nesting e ≤ R + 2
+    of_end : (n : ℕ) (g : RegTypes) (e : TEnd) → EndValues FlatValue e → EndEach (TWithin N R B) P n g e →
+        end_nesting e ≤ R + 2
     of_end n g (Jmp v) f h = of_value n g v (CodeTy 0 h.0) f h.1
     of_end n g Halt f h = omega arith
 
-    of_seq : (c : TSeq) (n : ℕ) (g : RegTypes) → FlatSeq c → SeqEach (TWithin N R B) P n g c → seq_nesting c ≤ R + 2
+    of_seq : (c : TSeq) (n : ℕ) (g : RegTypes) → SeqValues FlatValue c → SeqEach (TWithin N R B) P n g c →
+        seq_nesting c ≤ R + 2
     of_seq (Then i rest) n g f h =
         let x = of_instr n g i f.0 h.2 in let y = of_seq rest (names_after i n) h.0 f.1 h.3 in omega (arith, x, y)
     of_seq (Ends e) n g f h = of_end n g e f h.1
 
-    of_blocks : (bs : List TBlock) → FlatBlocks bs → BlocksEach (TWithin N R B) P bs → blocks_nesting bs ≤ R + 2
+    of_blocks : (bs : List TBlock) → BlocksValues FlatValue bs → BlocksEach (TWithin N R B) P bs →
+        blocks_nesting bs ≤ R + 2
     of_blocks [] f h = omega arith
     of_blocks (b ∷ bs) f h =
         let x = of_regs b.owes b.file h.0.0 in
@@ -82,7 +86,7 @@ module _ (N R B : ℕ) where
         let z = of_blocks bs f.1 h.1 in
         omega (arith, x, y, z)
 
-    of_data : (xs : TData) → FlatData xs → DataEach (TWithin N R B) P xs → data_nesting xs ≤ R + 2
+    of_data : (xs : TData) → DataValues FlatValue xs → DataEach (TWithin N R B) P xs → data_nesting xs ≤ R + 2
     of_data [] f h = omega arith
     of_data (x ∷ xs) f h =
         let a = of_value 0 _ x.value h.0.1.0 f.0 h.0.1.1 in
@@ -90,7 +94,7 @@ module _ (N R B : ℕ) where
         let c = of_data xs f.1 h.1 in
         omega (arith, a, b, c, h.0.0.1)
 
-    of_heap : (xs : List TData) → FlatHeap xs → HeapEach (TWithin N R B) P xs → heap_nesting xs ≤ R + 3
+    of_heap : (xs : List TData) → HeapValues FlatValue xs → HeapEach (TWithin N R B) P xs → heap_nesting xs ≤ R + 3
     of_heap [] f h = omega arith
     of_heap (x ∷ xs) f h = let a = of_data x f.0 h.0 in let b = of_heap xs f.1 h.1 in omega (arith, a, b)
 

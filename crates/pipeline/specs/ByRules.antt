@@ -1,7 +1,7 @@
 -- What the rules of the passes say by themselves.
 use Rattle.f_terms.specs.Tm.{Term}
 use Rattle.t_terms.specs.Tree.{TProg}
-use Rattle.t_terms.specs.Whole.{Whole}
+use Rattle.t_terms.specs.Whole.{WellFormedProgram}
 use Rattle.t_rules.specs.Rules.{Accepted}
 use Rattle.pipeline.specs.Compilation.{IsTranslation}
 use Rattle.pipeline.specs.Meaning.{SameMeaning, RunsSeldom, HaltsSoon}
@@ -10,5 +10,5 @@ use Rattle.pipeline.specs.Meaning.{SameMeaning, RunsSeldom, HaltsSoon}
 -- no place of it is executed more often than once more than the term takes turns, and so it halts soon
 abbrev pub TranslationsMeanTheSame : Type 0
 TranslationsMeanTheSame =
-    (e : Term) (P : TProg) → IsTranslation e P → Whole P → Accepted P →
+    (e : Term) (P : TProg) → IsTranslation e P → WellFormedProgram P → Accepted P →
     SameMeaning e P × RunsSeldom e P × HaltsSoon e P

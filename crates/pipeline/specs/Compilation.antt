@@ -10,7 +10,7 @@ use Rattle.h_pass.specs.Back.{IsHoisted}
 use Rattle.a_terms.specs.Tree.{ATm, AProg}
 use Rattle.a_laws.specs.Stands.{Stands}
 use Rattle.t_terms.specs.Tree.{TProg}
-use Rattle.t_terms.specs.Whole.{Whole}
+use Rattle.t_terms.specs.Whole.{WellFormedProgram}
 use Rattle.t_rules.specs.Rules.{Accepted}
 use Rattle.t_gen_laws.specs.Rules.{Generates}
 use Rattle.t_spill_laws.specs.Bound.{RegistersUpTo}
@@ -42,7 +42,7 @@ pub record IsTranslation (e : Term) (P : TProg) : Type 0 where
 -- and the one that the passes make; no place of it is executed more often than once more than the term takes turns, and
 -- so it halts soon
 pub record IsCompilation (e : Term) (P : TProg) : Type 0 where
-  pub whole : Whole P
+  pub whole : WellFormedProgram P
   pub accepted : Accepted P
   pub meaning : SameMeaning e P
   pub translation : IsTranslation e P
@@ -56,7 +56,7 @@ pub record IsCompilationWithin (k : ℕ) (e : Term) (P : TProg) : Type 0 where
   pub translated : TProg
   pub translation : IsTranslation e translated
   pub made : IsMade e translated
-  pub whole : Whole P
+  pub whole : WellFormedProgram P
   pub accepted : Accepted P
   pub meaning : SameMeaning e P
   pub seldom : RunsSeldom e P

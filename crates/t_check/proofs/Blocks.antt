@@ -7,7 +7,7 @@ use Rattle.t_types.proofs.Scope.{well_formed_below}
 use Rattle.t_types.specs.declared.types.TType.{TType}
 use Rattle.t_terms.specs.Read.{block, blocks_of, data_of, spanned_data}
 use Rattle.t_terms.specs.Spanned.{plain_fields}
-use Rattle.t_terms.specs.Whole.{WellFormedBlock, WellFormedBlocks, WellFormedData, WellFormedHeap, Whole}
+use Rattle.t_terms.specs.Whole.{WellFormedBlock, WellFormedBlocks, WellFormedData, WellFormedHeap, WellFormedProgram}
 use Rattle.t_terms.specs.declared.block.Block.{Block}
 use Rattle.t_terms.specs.declared.data.Data.{Data}
 use Rattle.t_terms.specs.declared.program.TProgram.{TProgram}
@@ -22,7 +22,7 @@ well_formed_at p q (b ∷ bs) zero x lt is h = subst (λ (y : Block). WellFormed
 well_formed_at p q (b ∷ bs) (suc l) x lt is h = well_formed_at p q bs l x (omega arith) is h.1
 
 pub formed_at : (p : TProgram) (l : ℕ) (x : Block) → l < length p.blocks.items → x ≡ get_or p.blocks.items l x →
-    Whole (program p) → FormedBlock p (block x)
+    WellFormedProgram (program p) → FormedBlock p (block x)
 formed_at p l x lt is h =
     subst (λ n. WellFormedBlock n (length p.heap.items) (block x)) (blocks_count p.blocks.items)
     (subst (λ n. WellFormedBlock (length (blocks_of p.blocks.items)) n (block x)) (data_count p.heap.items)
@@ -37,7 +37,7 @@ well_data_at p q (y ∷ xs) zero x lt is h =
 well_data_at p q (y ∷ xs) (suc d) x lt is h = well_data_at p q xs d x (omega arith) is h.1
 
 pub formed_data_at : (p : TProgram) (d : ℕ) (x : Data) → d < length p.heap.items → x ≡ get_or p.heap.items d x →
-    Whole (program p) → FormedData p (spanned_data x).fields
+    WellFormedProgram (program p) → FormedData p (spanned_data x).fields
 formed_data_at p d x lt is h =
     subst (λ n. WellFormedData n (length p.heap.items) (plain_fields (spanned_data x).fields))
     (blocks_count p.blocks.items)

@@ -112,7 +112,7 @@ module _ (p : TProgram) (b : ℕ) (x : Block) (lt : b < length p.blocks.items) (
       formed =
           let from = subst (λ (z : TBlock). KnownFrom (program p) z.owes (lookup z.file) z.code i n g) same known.2 in
           formed_from (program p) (length p.blocks.items) (length p.heap.items) (block x).code i (block x).owes n
-          (lookup (block x).file) g _ from step_at (formed_at p b x lt is p.whole).2
+          (lookup (block x).file) g _ from step_at (formed_at p b x lt is p.whole.0).2
 
       pub formed_here : WellFormedInstr (length p.blocks.items) (length p.heap.items) n (instr y.0)
       formed_here = formed.0

@@ -2,7 +2,7 @@
 use Rattle.std.proofs.Common.{◌≡◌, List, sym, ap, ap₂, ◌∙◌, subst}
 use Rattle.std.proofs.Math.Logic.{∥∥₁_elim}
 use Rattle.t_terms.specs.Tree.{TBlock, TData, TProg}
-use Rattle.t_terms.specs.Whole.{Whole, whole_prop}
+use Rattle.t_terms.specs.Whole.{WellFormedProgram, program_prop}
 use Rattle.t_terms.specs.Read.{parts, blocks_of, data_of}
 use Rattle.t_terms.specs.declared.block.Block.{Block}
 use Rattle.t_terms.specs.declared.data.Data.{Data}
@@ -19,5 +19,6 @@ both p main tree xs bs ds b same d all =
     (d ∙ ap generated_heap all)
 
 pub in_range : (p : AProg) (main : ATm) (P : TProg) → InvariantKept → P ≡ generated p main → ∥ ABound p main ∥₁ →
-    Whole P
-in_range p main P kept same bound = ∥∥₁_elim bound (whole_prop P) (λ b. subst Whole (sym same) (kept p main b.0.0 b.1))
+    WellFormedProgram P
+in_range p main P kept same bound = ∥∥₁_elim bound (program_prop P) (λ b. subst WellFormedProgram (sym same)
+    (kept p main b.0.0 b.1))

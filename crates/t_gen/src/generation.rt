@@ -22,7 +22,7 @@ fn whole_program(alloc: Global, program: &AProgram) -> Result<TProgram, OutOfMem
     t_gen_laws::invariant_is_kept();
     let blocks = all_blocks(alloc, program, program.blocks(), program.main())?;
     let heap = all_data(alloc, program.data())?;
-    Ok(TProgram { blocks, heap })
+    Ok(TProgram::new(blocks, heap))
 }
 
 /// The program of the assembly language that is generated for an allocated program. The typing rules accept it, it has

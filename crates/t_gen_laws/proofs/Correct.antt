@@ -8,7 +8,7 @@ use Rattle.a_terms.specs.Tree.{ATm, ABlk, AConsts, AProg, AVal}
 use Rattle.a_terms.specs.Meaning.{AWord, Result, Halted, Spent, Wrong, datum, start_heap, meaning, NeverWrong}
 use Rattle.a_terms.specs.Bound.{thirds}
 use Rattle.t_terms.specs.Tree.{TBlock, TData, TProg}
-use Rattle.t_terms.specs.Whole.{Whole}
+use Rattle.t_terms.specs.Whole.{WellFormedProgram}
 use Rattle.t_rules.specs.Rules.{Accepted}
 use Rattle.t_rules.specs.Machine as M
 use Rattle.t_rules.specs.Machine.{Where, Next, Into, State, Place, After, HaltsWithin}
@@ -298,7 +298,7 @@ credit_zero bs at main (j ∷ log) l =
     let r = credit_zero bs at main log l in let s = share_zero bs at j (slice_get bs j) l in omega (arith, r, s)
 
 module _ (runs : RunsErase) (halts : HaltsErased) (steps : StepsFirst) (times : TimesWithinEntries) (p : AProg)
-    (main : ATm) (P : TProg) (by_rules : Generates p main P) (never : NeverWrong p main) (whole : Whole P)
+    (main : ATm) (P : TProg) (by_rules : Generates p main P) (never : NeverWrong p main) (whole : WellFormedProgram P)
     (acc : Accepted P) where
   abbrev first_block : TBlock
   first_block = by_rules.main_block.0

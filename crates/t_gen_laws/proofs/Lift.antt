@@ -5,7 +5,7 @@ use Rattle.std.specs.Prelude.{ℤ, count_by, option_map, option_and_then}
 use Rattle.std.proofs.lemmas.List.Sums.{sum_by-cons}
 use Rattle.std.proofs.lemmas.Bool.{cases_eq, eq-eqb, ne_eqb}
 use Rattle.t_terms.specs.Tree.{TBlock, TProg}
-use Rattle.t_terms.specs.Whole.{Whole}
+use Rattle.t_terms.specs.Whole.{WellFormedProgram}
 use Rattle.t_rules.specs.Rules.{Accepted}
 use Rattle.t_rules.specs.Machine.{State, Place, After, HaltsWithin}
 use Rattle.t_rules.specs.Times.{entries}
@@ -54,7 +54,8 @@ count_same l (x ∷ xs) =
     (cases_eq x l) in
     omega (arith, a, b, count_same l xs)
 
-module _ (runs : RunsErase) (halts : HaltsErased) (first : StepsFirst) (P : TProg) (whole : Whole P) (acc : Accepted P)
+module _ (runs : RunsErase) (halts : HaltsErased) (first : StepsFirst) (P : TProg) (whole : WellFormedProgram P)
+    (acc : Accepted P)
     (b : TBlock) (there : slice_get P.blocks 0 ≡ Some b) where
   abbrev B : List ESeq
   B = erase_blocks P

@@ -10,7 +10,7 @@ use Rattle.a_terms.specs.Meaning.{Halted, meaning}
 use Rattle.t_types.specs.Tree.{IntTy, VarTy, ExistsTy, NoRegs, MoreRegs}
 use Rattle.t_terms.specs.Tree as T
 use Rattle.t_terms.specs.Tree.{TSeq, Then, Ends, TBlock, TProg}
-use Rattle.t_terms.specs.Whole.{Whole}
+use Rattle.t_terms.specs.Whole.{WellFormedProgram}
 use Rattle.t_rules.specs.Rules.{Accepted}
 use Rattle.t_rules.specs.Machine.{Place}
 use Rattle.t_rules.specs.Erase.{EState, erase_blocks, EHaltedWith}
@@ -112,7 +112,7 @@ factorial_typed = record {
 factorial_accepted : Accepted (generated factorial of_five)
 factorial_accepted = accepted factorial of_five factorial_typed
 
-factorial_whole : Whole (generated factorial of_five)
+factorial_whole : WellFormedProgram (generated factorial of_five)
 factorial_whole = whole factorial of_five factorial_typed (100, search arith, search arith, search arith)
 
 -- five blocks and two data tuples; the machine of the generated program halts with 120
@@ -152,7 +152,7 @@ down_typed = record {
 down_accepted : Accepted (generated downs_alone counting)
 down_accepted = accepted downs_alone counting down_typed
 
-down_whole : Whole (generated downs_alone counting)
+down_whole : WellFormedProgram (generated downs_alone counting)
 down_whole = whole downs_alone counting down_typed (40, search arith, tt, search arith)
 
 down_means : meaning downs_alone counting 5 ≡ Halted (pos 7) (0 ∷ 0 ∷ 0 ∷ 0 ∷ [])

@@ -1,4 +1,4 @@
--- The generated program keeps the invariant of programs.
+-- The generated program is well formed.
 use Rattle.std.proofs.Common.{◌≡◌, ℕ, zero, suc, ◌+◌, ◌-◌, ◌<◌, ◌≤◌, List, [], ◌∷◌, ◌++◌, length, Some, refl, sym, ap}
 use Rattle.std.proofs.Common.{◌∙◌, subst, arith, ⊎_elim, length-append, slice_get}
 use Rattle.std.specs.Prelude.{◌||◌, ◌==◌, nat_lt, Bool, true, false, cond, not, ◌&&◌, map}
@@ -22,7 +22,7 @@ use Rattle.t_types.specs.WellFormed.{WellFormedTypes}
 use Rattle.t_terms.specs.Tree as T
 use Rattle.t_terms.specs.Tree.{TValue, TSeq, Then, Ends, TBlock}
 use Rattle.t_terms.specs.Whole.{HasNoRegister, WellFormedValue, WellFormedSeq, WellFormedBlocks, WellFormedData}
-use Rattle.t_terms.specs.Whole.{WellFormedHeap, Whole}
+use Rattle.t_terms.specs.Whole.{WellFormedHeap, WellFormedProgram}
 use Rattle.t_gen_rules.specs.Gen.{ty, ty_args, ty_fields, tys, place, inside, small, boxed, unnest, stands, move, home}
 use Rattle.t_gen_rules.specs.Gen.{settle, uses, used, top, over, arguments, free, owner, target, other_than, decl_code}
 use Rattle.t_gen_rules.specs.Gen.{later}
@@ -528,7 +528,8 @@ data_small low (y ∷ xs) f zero x e =
     let z : y ≡ x = cc in omega (arith, fields_small low y f.0, ap (λ q. bulk_fields (data_fields q)) z)
 data_small low (y ∷ xs) f (suc l) x e = data_small low xs f.1 l x e
 
-pub whole : (p : AProg) (main : ATm) → TypedProgram p main → Fits-in max_names p main → Whole (generated p main)
+pub whole : (p : AProg) (main : ATm) → TypedProgram p main → Fits-in max_names p main →
+    WellFormedProgram (generated p main)
 whole p main q f =
     let at = suc (length p.blocks) in
     let at0 = at + thirds main in

@@ -3,7 +3,7 @@ use Rattle.a_terms.specs.Tree.{ATm, AProg}
 use Rattle.a_terms.specs.Typing.{TypedProgram}
 use Rattle.a_terms.specs.Sizes.{Fits-in}
 use Rattle.t_types.specs.WellFormed.{max_names}
-use Rattle.t_terms.specs.Whole.{Whole}
+use Rattle.t_terms.specs.Whole.{WellFormedProgram}
 use Rattle.t_rules.specs.Rules.{Accepted}
 use Rattle.t_gen_rules.specs.Gen.{generated}
 use Rattle.t_gen_laws.specs.Correct.{Keeps}
@@ -17,9 +17,10 @@ TypesKept = (p : AProg) (main : ATm) → TypedProgram p main → Accepted (gener
 abbrev pub PacksFlat : Type 0
 PacksFlat = (p : AProg) (main : ATm) → TypedProgram p main → Flat (generated p main)
 
--- what is generated for a typed program within the bound keeps the invariant of programs
+-- what is generated for a typed program within the bound is well formed
 abbrev pub InvariantKept : Type 0
-InvariantKept = (p : AProg) (main : ATm) → TypedProgram p main → Fits-in max_names p main → Whole (generated p main)
+InvariantKept =
+    (p : AProg) (main : ATm) → TypedProgram p main → Fits-in max_names p main → WellFormedProgram (generated p main)
 
 -- and means the same
 abbrev pub MeaningKept : Type 0

@@ -9,7 +9,7 @@ use Rattle.t_types.specs.Tree.{Ty, TFile, NoRegs}
 use Rattle.t_types.specs.Fits.{lookup}
 use Rattle.t_terms.specs.Tree as T
 use Rattle.t_terms.specs.Tree.{TValue, TSeq, Then, Ends, TBlock, TData, TProg}
-use Rattle.t_terms.specs.Whole.{Whole}
+use Rattle.t_terms.specs.Whole.{WellFormedProgram}
 use Rattle.t_terms.specs.Registers.{with_reg}
 use Rattle.t_rules.specs.Rules.{Accepted}
 use Rattle.a_terms.specs.Tree.{ATy, AVal, Var, Num, Lab, Data, Apply, Pack, ADecl, Value, Proj, Arith, Unpack, Malloc}
@@ -206,5 +206,5 @@ GeneratedIsByRules = (p : AProg) (main : ATm) → TypedProgram p main → Genera
 -- whatever is so by the rules, and is accepted, means the same as a program that is never wrong, as each typed one
 abbrev pub RulesMeanTheSame : Type 0
 RulesMeanTheSame =
-    (p : AProg) (main : ATm) (P : TProg) → NeverWrong p main → Generates p main P → Whole P → Accepted P →
+    (p : AProg) (main : ATm) (P : TProg) → NeverWrong p main → Generates p main P → WellFormedProgram P → Accepted P →
     Keeps p main P

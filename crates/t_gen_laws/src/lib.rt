@@ -27,7 +27,7 @@ pub fn types_stay_within()
     ensures { TypesWithin }
 {}
 
-/// What is generated for a typed program within the bound keeps the invariant of programs.
+/// What is generated for a typed program within the bound is well formed.
 pub fn invariant_is_kept()
     ensures { InvariantKept }
 {}
@@ -37,7 +37,7 @@ pub fn generated_programs_are_by_rules()
     ensures { GeneratedIsByRules }
 {}
 
-/// Whatever is so by the rules, keeps the invariant of programs and is accepted means the same as the allocated
+/// Whatever is so by the rules, is well formed and is accepted means the same as the allocated
 /// program, where that is never wrong, both ways, and its machine enters no block more often than the calls of that do.
 pub fn rules_mean_the_same()
     ensures { RulesMeanTheSame }

@@ -2,7 +2,7 @@
 use Rattle.std.proofs.Common.{◌≡◌, ℕ, suc, List, ◌∷◌, drop, Option, Some, None, refl, sym, ap, ◌∙◌, slice_get, ⊎_elim}
 use Rattle.t_terms.specs.Tree.{TSeq, Then, Ends, TProg}
 use Rattle.t_terms.specs.Tree as tree
-use Rattle.t_terms.specs.Whole.{Whole}
+use Rattle.t_terms.specs.Whole.{WellFormedProgram}
 use Rattle.t_rules.specs.Rules.{Accepted}
 use Rattle.t_rules.specs.Machine.{Heap, RegWords, State, At, Place, Spot, After}
 use Rattle.t_rules.specs.Erase.{EInstr, EMalloc, ESeq, EThen, EHeap, ERegs, EAt, erase, erase_seq}
@@ -78,7 +78,7 @@ asked_seq h g (Ends tree.Halt) = refl
 asked_state : (t : State) (h : EHeap) (g : ERegs) (c : ESeq) → EAt h g c ≡ erase t → asked_code c ≡ asked_next t
 asked_state (At h1 g1 d) h g c e = let code : c ≡ erase_seq d = cc in ap asked_code code ∙ asked_seq h1 g1 d
 
-module _ (laws : ProgramLaws) (P : TProg) (whole : Whole P) (acc : Accepted P) (m : ℕ) (x : declared.Heap)
+module _ (laws : ProgramLaws) (P : TProg) (whole : WellFormedProgram P) (acc : Accepted P) (m : ℕ) (x : declared.Heap)
     (ws : List Word) (code : Code) (at : ℕ) (s : Represents P m x ws code at) where
   pub asks : (o : Instruction) → slice_get code.instructions.items at ≡ Some o → (t : State) (q : Place) →
       After P m t q → asked o ≡ asked_next t

@@ -6,7 +6,7 @@ use Rattle.std.specs.List.{sum, count_by}
 use Rattle.std.proofs.lemmas.List.Sums.{sum_by-cons}
 use Rattle.std.proofs.lemmas.Bool.Decides.{nat_tests}
 use Rattle.t_terms.specs.Tree.{TProg}
-use Rattle.t_terms.specs.Whole.{Whole}
+use Rattle.t_terms.specs.Whole.{WellFormedProgram}
 use Rattle.t_rules.specs.Rules.{Accepted}
 use Rattle.t_rules.specs.Machine.{State, Place, Spot, After}
 use Rattle.t_rules.specs.Times.{places, is_spot}
@@ -241,7 +241,8 @@ first_counts P m xs counts s p run =
 
 abbrev Shown : Heap → List Word → Code → ℕ → ℕ → Heap → List Word → ℕ → Type 0
 Shown x ws code at k y us to =
-    (P : TProg) → Whole P → Accepted P → (m : ℕ) → Represents P m x ws code at → Represents P (m + k) y us code to
+    (P : TProg) → WellFormedProgram P → Accepted P → (m : ℕ) → Represents P m x ws code at →
+    Represents P (m + k) y us code to
 
 pub on_none : (x : Heap) (ws : List Word) (code : Code) (at : ℕ) (xs : List ℕ) → CountsOn x ws code at 0 xs xs
 on_none x ws code at xs = record {
@@ -351,7 +352,7 @@ counted_all x ws code at k n xs ys on is =
 
 pub counted_first : (x : Heap) (ws : List Word) (code : Code) (at k n : ℕ) (xs ys : List ℕ) →
     CountsOn x ws code at k xs ys → xs ≡ replicate n 0 → n ≡ length code.instructions.items →
-    (P : TProg) → Whole P → Accepted P → (m : ℕ) → Represents P m x ws code at → AreCounts P k (m + k) ys
+    (P : TProg) → WellFormedProgram P → Accepted P → (m : ℕ) → Represents P m x ws code at → AreCounts P k (m + k) ys
 counted_first x ws code at k n xs ys on is count P whole acc m s =
     let all : n ≡ sizes (erase_blocks P) = count ∙ s.machine.laid.1 in
     let from : 0 + k ≡ k = omega arith in

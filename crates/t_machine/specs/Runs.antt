@@ -3,7 +3,7 @@ use Rattle.std.specs.Prelude.{◌≡◌, ℕ, ◌+◌, ◌<◌, ◌≤◌, ℤ, 
 use Rattle.std.specs.List.{Contains}
 use Rattle.t_terms.specs.declared.shown.Shown.{Shown}
 use Rattle.t_terms.specs.Tree.{TProg}
-use Rattle.t_terms.specs.Whole.{Whole}
+use Rattle.t_terms.specs.Whole.{WellFormedProgram}
 use Rattle.t_rules.specs.Rules.{Accepted}
 use Rattle.t_rules.specs.Machine.{State, Place, Spot, After, HaltedAfter, HaltsWithin, GoesOnAfter, BeforeMalloc}
 use Rattle.t_rules.specs.LawsSound.{regs_of}
@@ -83,13 +83,14 @@ SpentOrWanted (NoMemory made) = Unit {0}
 -- where P is halted with i after k steps of a run that is allowed n, and k is at most n, the run says so
 abbrev pub HaltedExactly : Type 0
 HaltedExactly =
-    (P : TProg) → Whole P → Accepted P → (m n : ℕ) (result : Ran) → RanFrom P m n result →
+    (P : TProg) → WellFormedProgram P → Accepted P → (m n : ℕ) (result : Ran) → RanFrom P m n result →
     (i : ℤ) (k : ℕ) → k ≤ n → HaltedAfter P (m + k) i → HaltedOrWanted result i k
 
 -- where P goes on after the n steps that a run is allowed, the run says so
 abbrev pub SpentExactly : Type 0
 SpentExactly =
-    (P : TProg) → Whole P → Accepted P → (m n : ℕ) (result : Ran) → RanFrom P m n result → GoesOnAfter P (m + n) →
+    (P : TProg) → WellFormedProgram P → Accepted P → (m n : ℕ) (result : Ran) → RanFrom P m n result →
+    GoesOnAfter P (m + n) →
     SpentOrWanted result
 
 -- what the first run of a loaded program tells, where it is allowed n steps

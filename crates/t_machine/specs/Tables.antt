@@ -3,7 +3,7 @@ use Rattle.std.specs.Prelude.{◌≡◌, ℕ, zero, suc, ◌+◌, ◌<◌, List,
 use Rattle.std.specs.Prelude.{slice_set, slice_index}
 use Rattle.std.specs.List.{sum}
 use Rattle.t_terms.specs.Tree.{TProg}
-use Rattle.t_terms.specs.Whole.{Whole}
+use Rattle.t_terms.specs.Whole.{WellFormedProgram}
 use Rattle.t_rules.specs.Rules.{Accepted}
 use Rattle.t_rules.specs.Machine.{State, Place, After}
 use Rattle.t_rules.specs.Times.{is_spot, Times}
@@ -50,7 +50,8 @@ FirstCounts =
 -- A machine with this heap, these words and at this place makes k steps, and a table that told of the last n steps
 -- before them tells of these too afterwards: from xs to ys, in which there are k more in all.
 pub record CountsOn (x : Heap) (ws : List Word) (code : Code) (at k : ℕ) (xs ys : List ℕ) : Type 0 where
-  pub counts : (P : TProg) → Whole P → Accepted P → (n m : ℕ) → Represents P m x ws code at → AreCounts P n m xs →
+  pub counts : (P : TProg) → WellFormedProgram P → Accepted P → (n m : ℕ) → Represents P m x ws code at →
+      AreCounts P n m xs →
       AreCounts P (n + k) (m + k) ys
   pub sum : sum ys ≡ sum xs + k
 

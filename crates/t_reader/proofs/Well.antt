@@ -18,7 +18,8 @@ use Rattle.t_terms.specs.Spanned.{SBlock, SData, SProg, plain_program, plain, pl
 use Rattle.t_terms.specs.Spanned.{plain_heap, seq_of}
 use Rattle.t_terms.specs.Read.{spanned_parts, parts}
 use Rattle.std.proofs.lemmas.List.{length-map}
-use Rattle.t_terms.specs.Whole.{Whole, WellFormedBase, WellFormedValue, WellFormedInstr, WellFormedEnd, WellFormedSeq}
+use Rattle.t_terms.specs.Whole.{WellFormedProgram, WellFormedBase, WellFormedValue, WellFormedInstr, WellFormedEnd}
+use Rattle.t_terms.specs.Whole.{WellFormedSeq}
 use Rattle.t_terms.specs.Whole.{WellFormedBlock, WellFormedBlocks, WellFormedDatum, WellFormedData, WellFormedHeap}
 use Rattle.t_text.specs.Raw.{RawTy, RInt, RName, RCode, RSome, RTuple, RawRegs, NoRawRegs, MoreRawRegs, RawFields}
 use Rattle.t_text.specs.Raw.{NoRawFields, MoreRawFields, RawBase, RReg, RNum, RLabel, RawValue, RPlain, RPack, RawInstr}
@@ -300,7 +301,7 @@ heap_length (x ∷ xs) = let h = heap_length xs in omega (arith, h)
 
 -- what a text stands for, as it was read
 pub whole_program : (text : List ℕ) (raw : List RawItem) → FitsItems raw → 1 ≤ length (blocks_in raw) →
-    program_faults text raw ≡ [] → Whole (plain_program (program_of text raw))
+    program_faults text raw ≡ [] → WellFormedProgram (plain_program (program_of text raw))
 whole_program text raw fits some f =
     let blocks = map (block_of text (labels_of text raw)) (blocks_in raw) in
     let heap = map (data_of text (labels_of text raw)) (data_in raw) in
@@ -314,7 +315,8 @@ whole_program text raw fits some f =
     (omega (arith, l, some), rw (l, m) w.0, rw (l, m) w.1)
 
 pub is_whole : (text : List ℕ) (raw : List RawItem) (bs : List code.Block) (xs : List heap_of.Data) →
-    IsShape text raw → program_faults text raw ≡ [] → spanned_parts bs xs ≡ program_of text raw → Whole (parts bs xs)
+    IsShape text raw → program_faults text raw ≡ [] → spanned_parts bs xs ≡ program_of text raw →
+    WellFormedProgram (parts bs xs)
 is_whole text raw bs xs h f e =
     let k = fits_Program h.shape (kept_cut h.cut) h.short in
-    subst (λ (P : SProg). Whole (plain_program P)) (sym e) (whole_program text raw k.0 k.1 f)
+    subst (λ (P : SProg). WellFormedProgram (plain_program P)) (sym e) (whole_program text raw k.0 k.1 f)

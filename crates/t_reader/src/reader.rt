@@ -289,10 +289,7 @@ fn reading(alloc: Global, text: &[u8], salt: Salt) -> Result<TProgram, TFault>
 {
     let tokens = tokens(alloc, text)?;
     let parts = parts_of(alloc, text, &tokens, salt)?;
-    Ok(TProgram {
-        blocks: parts.blocks,
-        heap: parts.heap,
-    })
+    Ok(TProgram::new(parts.blocks, parts.heap))
 }
 
 /// The program that an assembly text stands for. Refused by T01 to T07 and M1: by the first fault of the tokens, else

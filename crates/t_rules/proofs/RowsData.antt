@@ -8,7 +8,7 @@ use Rattle.t_types.specs.Fits.{lookup}
 use Rattle.t_terms.specs.Tree.{Int, Data, TValue, Plain, Pack, Ld, Mov, Halt, TBlock}
 use Rattle.t_terms.specs.Spanned.{SDatum, SData, SProg, plain_program}
 use Rattle.t_terms.specs.declared.fault.TCode.TheVariants.{T13, T15, T17, T20}
-use Rattle.t_terms.specs.Whole.{Whole}
+use Rattle.t_terms.specs.Whole.{WellFormedProgram}
 use Rattle.t_terms.specs.Registers.{with_reg}
 use Rattle.t_rules.specs.Rules.{Accepted}
 use Rattle.t_rules.specs.Known.{KnownAt}
@@ -43,7 +43,7 @@ through_data = record {
       ∷ tuple (span 39 41) (datum (Plain (Int (pos 6)) []) IntTy (span 49 50) ∷ []) ∷ [];
 }
 
-through_data_whole : Whole (plain_program through_data)
+through_data_whole : WellFormedProgram (plain_program through_data)
 through_data_whole = search arith
 
 through_data_accepted : Accepted (plain_program through_data)

@@ -5,7 +5,7 @@ use Rattle.std.specs.Prelude.{pos}
 use Rattle.t_types.specs.Tree.{IntTy, VarTy, CodeTy, ExistsTy, TupleTy, NoRegs, MoreRegs, NoFields, MoreFields}
 use Rattle.t_terms.specs.Tree.{Reg, Int, Label, Plain, Pack, Ld, Malloc, Mov, St, Unpack, Jmp, Halt}
 use Rattle.t_terms.specs.Spanned.{SProg, plain_program}
-use Rattle.t_terms.specs.Whole.{Whole}
+use Rattle.t_terms.specs.Whole.{WellFormedProgram}
 use Rattle.t_rules.specs.Rules.{Accepted}
 use Rattle.t_rules.specs.Machine.{Next, Into, HaltsWithin}
 use Rattle.t_rules.proofs.Rows.{span, block, only, start, step}
@@ -29,7 +29,7 @@ object = only (
     ∷ (Ld 1 3 0, span 180 192) ∷ []) (Jmp (Plain (Reg 2) [])) (span 193 199)
     ∷ block (span 200 202) 0 (MoreRegs 1 IntTy NoRegs) [] Halt (span 220 229) ∷ [])
 
-object_whole : Whole (plain_program object)
+object_whole : WellFormedProgram (plain_program object)
 object_whole = search arith
 
 object_accepted : Accepted (plain_program object)
@@ -111,7 +111,7 @@ package_unpacked = only (
     ) ∷ (Unpack 3 (Plain (Reg 2) []), span 90 106)
     ∷ (Mov 1 (Plain (Int (pos 4)) []), span 107 116) ∷ []) Halt (span 117 126) ∷ [])
 
-package_unpacked_whole : Whole (plain_program package_unpacked)
+package_unpacked_whole : WellFormedProgram (plain_program package_unpacked)
 package_unpacked_whole = search arith
 
 package_unpacked_accepted : Accepted (plain_program package_unpacked)
@@ -168,7 +168,7 @@ unpack_in_code = only (
     ∷ block (span 159 161) 0 (MoreRegs 2 IntTy NoRegs) ((Mov 1 (Plain (Reg 2) []), span 179 189) ∷ []) Halt
     (span 190 199) ∷ [])
 
-unpack_in_code_whole : Whole (plain_program unpack_in_code)
+unpack_in_code_whole : WellFormedProgram (plain_program unpack_in_code)
 unpack_in_code_whole = search arith
 
 unpack_in_code_accepted : Accepted (plain_program unpack_in_code)

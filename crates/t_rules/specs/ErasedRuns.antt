@@ -3,7 +3,7 @@
 use Rattle.std.specs.Prelude.{◌≡◌, ◌↔◌, ◌≤◌, ◌<◌, ◌+◌, ℕ, zero, suc, ℤ, List, [], ◌∷◌, Option, Some, None, option_map}
 use Rattle.std.specs.Prelude.{option_and_then, slice_get}
 use Rattle.t_terms.specs.Tree.{TBlock, TProg}
-use Rattle.t_terms.specs.Whole.{Whole}
+use Rattle.t_terms.specs.Whole.{WellFormedProgram}
 use Rattle.t_rules.specs.Rules.{Accepted}
 use Rattle.t_rules.specs.Machine.{State, Place, Spot, moved, After, HaltsWithin}
 use Rattle.t_rules.specs.Times.{places, entered_by, entries}
@@ -46,14 +46,14 @@ EHaltsWithin blocks x n i =
 -- a run of the typed machine is one of the erased machine, with the same place and entries
 abbrev pub RunsErase : Type 0
 RunsErase =
-    (P : TProg) → Whole P → Accepted P → (b : TBlock) → slice_get P.blocks 0 ≡ Some b →
+    (P : TProg) → WellFormedProgram P → Accepted P → (b : TBlock) → slice_get P.blocks 0 ≡ Some b →
     (m : ℕ) (s : State) (p : Place) (run : After P m s p) →
     erun (erase_blocks P) m (begun P b) ≡ Some (EOn (erase s) p (entries P m s p run))
 
 -- and each run of the erased machine comes of one
 abbrev pub RunsComeOf : Type 0
 RunsComeOf =
-    (P : TProg) → Whole P → Accepted P → (b : TBlock) → slice_get P.blocks 0 ≡ Some b →
+    (P : TProg) → WellFormedProgram P → Accepted P → (b : TBlock) → slice_get P.blocks 0 ≡ Some b →
     (m : ℕ) (e : EState) (p : Place) (log : List ℕ) →
     erun (erase_blocks P) m (begun P b) ≡ Some (EOn e p log) → (s : State) × (run : After P m s p) × (e ≡ erase s)
     × (log ≡ entries P m s p run)
@@ -61,7 +61,7 @@ RunsComeOf =
 -- a program halts with i within n steps exactly where its erasure does
 abbrev pub HaltsErased : Type 0
 HaltsErased =
-    (P : TProg) → Whole P → Accepted P → (b : TBlock) → slice_get P.blocks 0 ≡ Some b → (n : ℕ) (i : ℤ) →
+    (P : TProg) → WellFormedProgram P → Accepted P → (b : TBlock) → slice_get P.blocks 0 ≡ Some b → (n : ℕ) (i : ℤ) →
     HaltsWithin P n i ↔ EHaltsWithin (erase_blocks P) (begun P b) n i
 
 -- m steps and then n are m + n steps

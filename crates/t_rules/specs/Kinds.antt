@@ -3,7 +3,7 @@ use Rattle.std.specs.Prelude.{◌≡◌, ◌≢◌, ℕ, ℤ, ◌<◌, List, len
 use Rattle.t_types.specs.Tree.{Ty, IntTy, VarTy, CodeTy, ExistsTy, TupleTy}
 use Rattle.t_types.specs.Fits.{RegTypes}
 use Rattle.t_terms.specs.Tree.{TProg}
-use Rattle.t_terms.specs.Whole.{Whole}
+use Rattle.t_terms.specs.Whole.{WellFormedProgram}
 use Rattle.t_rules.specs.Rules.{Accepted}
 use Rattle.t_rules.specs.Known.{KnownAt}
 use Rattle.t_rules.specs.Machine.{Spot}
@@ -22,7 +22,7 @@ HasKind blocks tuples (ExistsTy t) w = w ≢ EEmpty
 -- type
 abbrev pub KnownWordsHaveKinds : Type 0
 KnownWordsHaveKinds =
-    (P : TProg) → Whole P → Accepted P →
+    (P : TProg) → WellFormedProgram P → Accepted P →
     (m : ℕ) (blocks : List ESeq) (h : EHeap) (r : ERegs) (c : ESeq) (block index : ℕ) →
     Erased P m blocks (EAt h r c) (Spot block index) → (n : ℕ) (g : RegTypes) → KnownAt P block index n g →
     (q : ℕ) (t : Ty) → g q ≡ Some t → (w : EWord) × (r q ≡ Some w) × HasKind (length P.blocks) (length h) t w

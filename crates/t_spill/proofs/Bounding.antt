@@ -6,7 +6,7 @@ use Rattle.t_types.specs.Tree.{Ty, TFile, NoRegs, MoreRegs}
 use Rattle.t_types.specs.Fits.{lookup}
 use Rattle.t_types.specs.WellFormed.{RegsAbove, WellFormedFile}
 use Rattle.t_terms.specs.Tree.{TBase, Reg, Int, Label, Data, Plain, TBlock, TData, TProg}
-use Rattle.t_terms.specs.Whole.{WellFormedBlocks, WellFormedHeap, Whole}
+use Rattle.t_terms.specs.Whole.{WellFormedBlocks, WellFormedHeap, WellFormedProgram}
 use Rattle.t_terms.specs.Labels.{label_type, data_type}
 use Rattle.t_spill_rules.specs.Spill.{or_int, base_type}
 use Rattle.t_types.specs.Bounds.{Bounded}
@@ -44,7 +44,7 @@ tuple_bounded n p q (x ∷ hs) d w = go d (λ k. tuple_bounded n p q hs k w.1)
     go zero f = data_bounded n x p q w.0
     go (suc k) f = f k
 
-base_bounded : (P : TProg) → Whole P → (n : ℕ) (x : TFile) (b : TBase) → WellFormedFile n x →
+base_bounded : (P : TProg) → WellFormedProgram P → (n : ℕ) (x : TFile) (b : TBase) → WellFormedFile n x →
     Bounded n (base_type P x b)
 base_bounded P w n x (Reg r) h = reg_bounded n 0 x r h
 base_bounded P w n x (Int i) h = tt
@@ -52,7 +52,7 @@ base_bounded P w n x (Label l) h = block_bounded n (length P.blocks) (length P.h
 base_bounded P w n x (Data d) h = tuple_bounded n (length P.blocks) (length P.heap) P.heap d w.2
 
 -- a value's types may go to its base
-pub may_apply : (P : TProg) → Whole P → (x : TFile) (b : TBase) (ts : List Ty) (t : Ty) → 0 < length ts →
+pub may_apply : (P : TProg) → WellFormedProgram P → (x : TFile) (b : TBase) (ts : List Ty) (t : Ty) → 0 < length ts →
     t ≡ base_type P x b → Typable P x (Plain b ts) → MayApply t ts
 may_apply P w x b [] t some e h = absurd (omega arith)
 may_apply P w x b (u ∷ us) t some e h =

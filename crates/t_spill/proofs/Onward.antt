@@ -17,7 +17,8 @@ use Rattle.t_spill_rules.specs.Spill.{step, code, high_part, Layout}
 use Rattle.t_spill_rules.proofs.Parts.{step_parts}
 use Rattle.t_spill_laws.proofs.Files.{lookup_ins, raised_lookup}
 use Rattle.t_spill_laws.proofs.Live.{Agree, among_left, among_right, among_first, value_same, next_alike, target_alike}
-use Rattle.t_spill_code.specs.Onto.{onto, ValueFits, InstrFits, EndFits}
+use Rattle.t_terms.specs.Values.{InstrValues, EndValues}
+use Rattle.t_spill_code.specs.Onto.{onto, HasNext}
 use Rattle.t_spill_code.specs.Homes.{home_in, has_in, with_slots}
 use Rattle.t_spill_code.specs.declared.homes.Homes.{Homes}
 use Rattle.t_spill.specs.Known.{given}
@@ -36,17 +37,17 @@ length_front [] ys = omega arith
 length_front (x ∷ xs) ys = let a = length_front xs ys in omega (arith, a)
 
 -- labels have a next
-value_fits : (p q n : ℕ) (v : TValue) → p < 2 ^ 64 → WellFormedValue p q n v → ValueFits v
+value_fits : (p q n : ℕ) (v : TValue) → p < 2 ^ 64 → WellFormedValue p q n v → HasNext v
 value_fits p q n (Plain (Reg r) ts) few h = tt
 value_fits p q n (Plain (Int i) ts) few h = tt
 value_fits p q n (Plain (Label l) ts) few h = omega (arith, h.0)
 value_fits p q n (Plain (Data d) ts) few h = tt
 value_fits p q n (Pack t v s) few h = value_fits p q n v few h.1
 
-pub some_value_fits : (p q n : ℕ) (v : TValue) → p < 2 ^ 64 → WellFormedValue p q n v → ValueFits v
+pub some_value_fits : (p q n : ℕ) (v : TValue) → p < 2 ^ 64 → WellFormedValue p q n v → HasNext v
 some_value_fits = value_fits
 
-instr_fits : (p q n : ℕ) (i : TInstr) → p < 2 ^ 64 → WellFormedInstr p q n i → InstrFits i
+instr_fits : (p q n : ℕ) (i : TInstr) → p < 2 ^ 64 → WellFormedInstr p q n i → InstrValues HasNext i
 instr_fits p q n (Arith op rd rs v) few h = value_fits p q n v few h.2
 instr_fits p q n (Bnz r v) few h = value_fits p q n v few h.1
 instr_fits p q n (Mov rd v) few h = value_fits p q n v few h.1
@@ -54,10 +55,11 @@ instr_fits p q n (Unpack rd v) few h = value_fits p q n v few h.1
 instr_fits p q n _ few h = tt
 
 pub fits_here : (P : TProg) (n : ℕ) (y : TFile) (i : TInstr) → length P.blocks < 2 ^ 64 → ReadyInstr P n y i →
-    InstrFits i
+    InstrValues HasNext i
 fits_here P n y i few h = instr_fits (length P.blocks) (length P.heap) n i few h.3
 
-pub end_fits : (P : TProg) (n : ℕ) (x : TFile) (e : TEnd) → length P.blocks < 2 ^ 64 → ReadyEnd P n x e → EndFits e
+pub end_fits : (P : TProg) (n : ℕ) (x : TFile) (e : TEnd) → length P.blocks < 2 ^ 64 → ReadyEnd P n x e →
+    EndValues HasNext e
 end_fits P n x (Jmp v) few h = value_fits (length P.blocks) (length P.heap) n v few h.2
 end_fits P n x Halt few h = tt
 

@@ -11,8 +11,9 @@ use Rattle.t_terms.specs.declared.block.Block.{Block}
 use Rattle.t_terms.specs.declared.data.Data.{Data}
 use Rattle.t_terms.specs.declared.value.Value.{Value}
 use Rattle.t_spill_rules.specs.Spill.{sp_block, sp_blocks, sp_datum, sp_data, entry}
-use Rattle.t_spill_code.specs.Onto.{ValueFits}
-use Rattle.t_spill.specs.Ready.{BlockReady, BlocksReady, DataReady, HeapReady}
+use Rattle.t_spill_code.specs.Onto.{HasNext}
+use Rattle.t_terms.specs.Values.{DataValues, HeapValues}
+use Rattle.t_spill.specs.Ready.{BlockReady, BlocksReady}
 use Rattle.t_terms.proofs.Items.{blocks_more}
 use Rattle.std.proofs.lemmas.List.{append-nil as no_more, take_all}
 
@@ -89,9 +90,9 @@ all_fields m ys xs n done le = plain_are ys ∙ done
     ∙ ap (λ (zs : List (Value × TType × Span)). map (spilled_field m) zs) (take_all n xs le) ∙ sym (spilled_are m xs)
 
 pub field_ready : (xs : List (Value × TType × Span)) (i : ℕ) (x : Value × TType × Span) → i < length xs → x
-    ≡ get_or xs i x → DataReady (plain_fields (data_items xs)) → ValueFits (value x.0)
+    ≡ get_or xs i x → DataValues HasNext (plain_fields (data_items xs)) → HasNext (value x.0)
 field_ready [] i x lt is h = absurd (omega arith)
-field_ready (y ∷ xs) zero x lt is h = subst (λ (z : Value × TType × Span). ValueFits (value z.0)) (sym is) h.0
+field_ready (y ∷ xs) zero x lt is h = subst (λ (z : Value × TType × Span). HasNext (value z.0)) (sym is) h.0
 field_ready (y ∷ xs) (suc i) x lt is h = field_ready xs i x (omega arith) is h.1
 
 -- data tuples
@@ -114,8 +115,9 @@ pub all_tuples : (m : ℕ) (ys xs : List Data) (n : ℕ) → map plain_tuple ys 
 all_tuples m ys xs n done le = tuples_are ys ∙ done ∙ ap (λ (zs : List Data). map (spilled_tuple m) zs)
     (take_all n xs le) ∙ sym (spilled_tuples_are m xs)
 
-pub tuple_ready : (xs : List Data) (i : ℕ) (x : Data) → i < length xs → x ≡ get_or xs i x → HeapReady (data_of xs) →
-    DataReady (plain_tuple x)
+pub tuple_ready : (xs : List Data) (i : ℕ) (x : Data) → i < length xs → x ≡ get_or xs i x →
+    HeapValues HasNext (data_of xs) →
+    DataValues HasNext (plain_tuple x)
 tuple_ready [] i x lt is h = absurd (omega arith)
-tuple_ready (y ∷ xs) zero x lt is h = subst (λ (z : Data). DataReady (plain_tuple z)) (sym is) h.0
+tuple_ready (y ∷ xs) zero x lt is h = subst (λ (z : Data). DataValues HasNext (plain_tuple z)) (sym is) h.0
 tuple_ready (y ∷ xs) (suc i) x lt is h = tuple_ready xs i x (omega arith) is h.1

@@ -5,13 +5,16 @@ use Rattle.t_types.specs.Fits.{RegTypes, lookup}
 use Rattle.t_types.specs.WellFormed.{max_names, WellFormedFile}
 use Rattle.t_terms.specs.Tree.{TValue, Plain, Pack, TInstr, Arith, Bnz, Mov, Unpack, TEnd, Jmp}
 use Rattle.t_terms.specs.Tree.{Halt, TSeq, Then, Ends, TBlock, TData, TProg, names_after}
-use Rattle.t_terms.specs.Whole.{WellFormedEnd, WellFormedSeq, WellFormedBlocks, WellFormedData, WellFormedHeap, Whole}
+use Rattle.t_terms.specs.Whole.{WellFormedEnd, WellFormedSeq, WellFormedBlocks, WellFormedData, WellFormedHeap}
+use Rattle.t_terms.specs.Whole.{WellFormedProgram}
 use Rattle.t_rules.specs.Rules.{Has, Typed, EndTyped, SeqAccepted, BlocksAccepted, Accepted}
 use Rattle.t_spill_rules.specs.Spill.{next, SeqFew, BlocksFew, TypesFew}
 use Rattle.t_spill_laws.proofs.Computed.{base_is, next_is}
 use Rattle.t_spill_laws.proofs.Scopes.{scoped_regs, regs_above, LabelsScoped, DataScoped, scoped_next, labels_scoped}
 use Rattle.t_spill_laws.proofs.Scopes.{data_scoped}
-use Rattle.t_spill.specs.Ready.{Enough, Applies, InstrApplies, ReadyEnd, Ready, BlocksReady, DataReady, HeapReady}
+use Rattle.t_terms.specs.Values.{DataValues, HeapValues}
+use Rattle.t_spill.specs.Ready.{Enough, Applies, InstrApplies, ReadyEnd, Ready, BlocksReady}
+use Rattle.t_spill_code.specs.Onto.{HasNext}
 use Rattle.t_spill.proofs.Onward.{some_value_fits}
 
 value_applies : (P : TProg) (n : ℕ) (x : TFile) (v : TValue) (t : Ty) → Has P n (lookup x) v t → Applies P x v
@@ -56,16 +59,16 @@ module _ (P : TProg) (labels : LabelsScoped P) (tuples : DataScoped P) where
   ready_blocks [] w k f = tt
   ready_blocks (b ∷ bs) w k f = (ready b.code b.owes b.file w.0.0 w.0.1 w.0.2 k.0.1 f.0, ready_blocks bs w.1 k.1 f.1)
 
-pub blocks_ready : (P : TProg) → Whole P → Accepted P → TypesFew P → BlocksReady P P.blocks
+pub blocks_ready : (P : TProg) → WellFormedProgram P → Accepted P → TypesFew P → BlocksReady P P.blocks
 blocks_ready P w k f = ready_blocks P (labels_scoped P w) (data_scoped P w) P.blocks w.1 k.2 f
 
-data_ready : (p q : ℕ) (xs : TData) → p < 2 ^ 64 → WellFormedData p q xs → DataReady xs
+data_ready : (p q : ℕ) (xs : TData) → p < 2 ^ 64 → WellFormedData p q xs → DataValues HasNext xs
 data_ready p q [] few w = tt
 data_ready p q (x ∷ xs) few w = (some_value_fits p q 0 x.value few w.0.0, data_ready p q xs few w.1)
 
-ready_heap : (p q : ℕ) (hs : List TData) → p < 2 ^ 64 → WellFormedHeap p q hs → HeapReady hs
+ready_heap : (p q : ℕ) (hs : List TData) → p < 2 ^ 64 → WellFormedHeap p q hs → HeapValues HasNext hs
 ready_heap p q [] few w = tt
 ready_heap p q (x ∷ hs) few w = (data_ready p q x few w.0, ready_heap p q hs few w.1)
 
-pub heap_ready : (P : TProg) → length P.blocks < 2 ^ 64 → Whole P → HeapReady P.heap
+pub heap_ready : (P : TProg) → length P.blocks < 2 ^ 64 → WellFormedProgram P → HeapValues HasNext P.heap
 heap_ready P few w = ready_heap (length P.blocks) (length P.heap) P.heap few w.2

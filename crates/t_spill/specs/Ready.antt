@@ -3,10 +3,9 @@ use Rattle.std.specs.Prelude.{ℕ, ◌≤◌, List, [], ◌∷◌, length}
 use Rattle.t_types.specs.Tree.{Ty, CodeTy, TFile}
 use Rattle.t_types.specs.WellFormed.{max_names, WellFormedFile}
 use Rattle.t_terms.specs.Tree.{TValue, Plain, Pack, TInstr, Arith, Bnz, Mov, Unpack, TEnd, Jmp, Halt}
-use Rattle.t_terms.specs.Tree.{TSeq, Then, Ends, TBlock, TData, TProg, names_after}
+use Rattle.t_terms.specs.Tree.{TSeq, Then, Ends, TBlock, TProg, names_after}
 use Rattle.t_terms.specs.Whole.{WellFormedValue, WellFormedInstr}
 use Rattle.t_spill_rules.specs.Spill.{base_type, next}
-use Rattle.t_spill_code.specs.Onto.{ValueFits}
 
 -- code owes as many types as go to it, at least
 abbrev pub Enough : Ty → List Ty → Type 0
@@ -59,12 +58,3 @@ BlockReady P b = Ready P b.owes b.file b.code
 abbrev pub BlocksReady : TProg → List TBlock → Type 0
 BlocksReady P [] = Unit {0}
 BlocksReady P (b ∷ bs) = BlockReady P b × BlocksReady P bs
-
--- the labels of data have a next
-abbrev pub DataReady : TData → Type 0
-DataReady [] = Unit {0}
-DataReady (x ∷ xs) = ValueFits x.value × DataReady xs
-
-abbrev pub HeapReady : List TData → Type 0
-HeapReady [] = Unit {0}
-HeapReady (x ∷ xs) = DataReady x × HeapReady xs

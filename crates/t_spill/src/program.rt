@@ -7,7 +7,9 @@ ghost use Rattle.t_rules.specs.Rules.{Accepted};
 ghost use Rattle.t_spill_rules.specs.Spill.{sp_blocks, sp_data, entry, spilled, TypesFew};
 ghost use Rattle.t_spill_laws.specs.Correct.{origin};
 ghost use Rattle.t_spill_laws.specs.Bounded.{Spills};
-ghost use Rattle.t_spill.specs.Ready.{BlocksReady, DataReady, HeapReady};
+ghost use Rattle.t_terms.specs.Values.{DataValues, HeapValues};
+ghost use Rattle.t_spill.specs.Ready.{BlocksReady};
+ghost use Rattle.t_spill_code.specs.Onto.{HasNext};
 
 use crate::block::spilled_block;
 use idx_core::{OutOfMemory, Span};
@@ -68,7 +70,7 @@ fn spilled_fields(
     split: Split,
     fields: &[(Value, TType, Span)],
 ) -> Result<Vec<(Value, TType, Span)>, OutOfMemory>
-    requires { DataReady (plain_fields (data_items fields.now)) }
+    requires { DataValues HasNext (plain_fields (data_items fields.now)) }
     ensures { IfOk result (λ r.
         plain_fields (data_items r.items) ≡ sp_data split.low (plain_fields (data_items fields.now))) }
 {
@@ -83,7 +85,7 @@ fn spilled_fields(
 }
 
 fn spilled_tuple(alloc: Global, split: Split, tuple: &Data) -> Result<Data, OutOfMemory>
-    requires { DataReady (plain_fields (data_items tuple.now.fields.items)) }
+    requires { DataValues HasNext (plain_fields (data_items tuple.now.fields.items)) }
     ensures { IfOk result (λ r.
         plain_fields (data_items r.fields.items) ≡
         sp_data split.low (plain_fields (data_items tuple.now.fields.items))) }
@@ -96,7 +98,7 @@ fn spilled_tuple(alloc: Global, split: Split, tuple: &Data) -> Result<Data, OutO
 }
 
 fn spilled_heap(alloc: Global, split: Split, heap: &[Data]) -> Result<Vec<Data>, OutOfMemory>
-    requires { HeapReady (data_of heap.now) }
+    requires { HeapValues HasNext (data_of heap.now) }
     ensures { IfOk result (λ r. data_of r.items ≡ map (sp_data split.low) (data_of heap.now)) }
 {
     let mut made = Vec::new(alloc);
@@ -118,7 +120,7 @@ fn spilled_program(alloc: Global, program: &TProgram, k: u64) -> Result<TProgram
     let split = Split::within(k);
     let blocks = spilled_blocks(alloc, program, split, &program.blocks)?;
     let heap = spilled_heap(alloc, split, &program.heap)?;
-    Ok(TProgram { blocks, heap })
+    Ok(TProgram::new(blocks, heap))
 }
 
 /// A program that means the same and has no register above `k`, in an instruction or in a register file at any depth of

@@ -6,7 +6,8 @@ ghost use Rattle.t_terms.specs.Tree.{TSeq, Then};
 ghost use Rattle.t_terms.specs.Read.{instr as instr_tree};
 ghost use Rattle.t_terms.specs.ReadProgram.{program as program_tree};
 ghost use Rattle.t_spill_rules.specs.Spill.{numbers, reads, sp};
-ghost use Rattle.t_spill_code.specs.Onto.{InstrFits};
+ghost use Rattle.t_terms.specs.Values.{InstrValues};
+ghost use Rattle.t_spill_code.specs.Onto.{HasNext};
 ghost use Rattle.t_spill.specs.Known.{alone, subject as instr_subject, given as given_type};
 ghost use Rattle.t_spill.specs.Moving.{Before, Between, Computes, Settles, Moves};
 ghost use Rattle.t_spill.specs.Ready.{InstrTypable, ReadyInstr};
@@ -52,7 +53,7 @@ fn compute(
     read: &RegFile,
     i: &Instr,
 ) -> Result<(), OutOfMemory>
-    requires fits { InstrFits (instr_tree i.now) }
+    requires fits { InstrValues HasNext (instr_tree i.now) }
     requires stands { (n : ℕ) × (y : TFile) × (x : TFile) × (c : TSeq)
         × Before (program_tree program.now) n y x walk.old (Then (instr_tree i.now) c)
         × (file_tree read.now ≡ alone (instr_subject (instr_tree i.now)) y) }

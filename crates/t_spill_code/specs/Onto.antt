@@ -4,8 +4,7 @@ use Rattle.idx_core.specs.declared.span.Span.{Span}
 use Rattle.t_types.specs.Tree.{Ty, TFile, MoreRegs, TFields, MoreFields}
 use Rattle.t_types.specs.Read.{tree}
 use Rattle.t_types.specs.declared.types.TType.{TType}
-use Rattle.t_terms.specs.Tree.{TBase, Label, TValue, Plain, Pack, TInstr, Arith, Bnz, Mov, Unpack, TEnd, Jmp, Halt}
-use Rattle.t_terms.specs.Tree.{TSeq, Then}
+use Rattle.t_terms.specs.Tree.{TBase, Label, TValue, Plain, Pack, TSeq, Then}
 use Rattle.t_terms.specs.declared.instr.Instr.{Instr}
 use Rattle.t_terms.specs.Read.{instr}
 
@@ -33,20 +32,9 @@ based (Plain b ts) = b
 based (Pack t v s) = based v
 
 -- the label of a value, if it has one, has a next
-abbrev pub BaseFits : TBase → Type 0
-BaseFits (Label l) = l + 1 < 2 ^ 64
-BaseFits _ = Unit {0}
+abbrev pub LabelHasNext : TBase → Type 0
+LabelHasNext (Label l) = l + 1 < 2 ^ 64
+LabelHasNext _ = Unit {0}
 
-abbrev pub ValueFits : TValue → Type 0
-ValueFits v = BaseFits (based v)
-
-abbrev pub InstrFits : TInstr → Type 0
-InstrFits (Arith op rd rs v) = ValueFits v
-InstrFits (Bnz r v) = ValueFits v
-InstrFits (Mov rd v) = ValueFits v
-InstrFits (Unpack rd v) = ValueFits v
-InstrFits _ = Unit {0}
-
-abbrev pub EndFits : TEnd → Type 0
-EndFits (Jmp v) = ValueFits v
-EndFits Halt = Unit {0}
+abbrev pub HasNext : TValue → Type 0
+HasNext v = LabelHasNext (based v)

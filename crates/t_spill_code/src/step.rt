@@ -5,7 +5,8 @@ ghost use Rattle.t_terms.specs.Tree.{Arith, Bnz, Ld, St, TSeq, Ends};
 ghost use Rattle.t_terms.specs.Read.{value as value_tree, instr as instr_tree, end_of as end_tree};
 ghost use Rattle.t_spill_rules.specs.Spill.{before, load, load_value as loads_value, loads, does, ended};
 ghost use Rattle.t_spill_rules.specs.Spill.{first_reg, second_reg};
-ghost use Rattle.t_spill_code.specs.Onto.{onto, ValueFits, InstrFits, EndFits};
+ghost use Rattle.t_terms.specs.Values.{InstrValues, EndValues};
+ghost use Rattle.t_spill_code.specs.Onto.{onto, HasNext};
 ghost use Rattle.t_spill_code.specs.Homes.{home_in};
 
 use crate::emit::{build, load_first, load_second, load_value, put, put_move};
@@ -25,7 +26,7 @@ fn emit_arith(
     head: (Op, u64, u64),
     v: &Value,
 ) -> Result<(), OutOfMemory>
-    requires { ValueFits (value_tree v.now) }
+    requires { HasNext (value_tree v.now) }
     ensures { OnOk result ((rest : TSeq) → onto code.new.items rest ≡ onto code.old.items
         (before (load homes.now.split.low (first_reg homes.now.split.low) (home_in homes.now head.2))
         (before (loads_value homes.now.split.low (home_in homes.now) (value_tree v.now))
@@ -53,7 +54,7 @@ fn emit_branch(
     r: u64,
     v: &Value,
 ) -> Result<(), OutOfMemory>
-    requires { ValueFits (value_tree v.now) }
+    requires { HasNext (value_tree v.now) }
     ensures { OnOk result ((rest : TSeq) → onto code.new.items rest ≡ onto code.old.items
         (before (load homes.now.split.low (first_reg homes.now.split.low) (home_in homes.now r))
         (before (loads_value homes.now.split.low (home_in homes.now) (value_tree v.now))
@@ -129,7 +130,7 @@ pub fn emit_step(
     i: &Instr,
     target: &[(u64, TType)],
 ) -> Result<(), OutOfMemory>
-    requires { InstrFits (instr_tree i.now) }
+    requires { InstrValues HasNext (instr_tree i.now) }
     ensures { OnOk result ((rest : TSeq) → onto code.new.items rest ≡ onto code.old.items
         (before (loads homes.now.split.low (home_in homes.now) (file target.now) (instr_tree i.now))
         (before (does homes.now.split.low (home_in homes.now) (instr_tree i.now)) rest))) }
@@ -171,7 +172,7 @@ pub fn emit_end(
     end: &End,
     target: &[(u64, TType)],
 ) -> Result<End, OutOfMemory>
-    requires { EndFits (end_tree end.now) }
+    requires { EndValues HasNext (end_tree end.now) }
     ensures { IfOk result (λ last. onto code.new.items (Ends (end_tree last)) ≡ onto code.old.items
         (ended homes.now.split.low (home_in homes.now) (file target.now) (end_tree end.now))) }
 {

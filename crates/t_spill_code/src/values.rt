@@ -2,7 +2,7 @@
 ghost use Rattle.std.specs.Prelude.{◌≡◌, ℕ, IfOk};
 ghost use Rattle.t_terms.specs.Read.{value as value_tree, base as base_tree};
 ghost use Rattle.t_spill_rules.specs.Spill.{sp_value, sp_base, second_at};
-ghost use Rattle.t_spill_code.specs.Onto.{BaseFits, ValueFits, based};
+ghost use Rattle.t_spill_code.specs.Onto.{LabelHasNext, HasNext, based};
 ghost use Rattle.t_spill_code.specs.Homes.{home_in};
 
 use crate::homes::Homes;
@@ -25,7 +25,7 @@ pub fn base_of(v: &Value) -> Base
 
 /// A base of data, in which no register is named: a block is one further on.
 pub fn moved_base(b: Base) -> Base
-    requires { BaseFits (base_tree b) }
+    requires { LabelHasNext (base_tree b) }
     ensures { base_tree result ≡ sp_base (λ r. 1) (base_tree b) }
 {
     match b {
@@ -38,7 +38,7 @@ pub fn moved_base(b: Base) -> Base
 
 // A base as an operand, after its register was loaded.
 fn loaded_base(homes: &Homes, b: Base) -> Base
-    requires { BaseFits (base_tree b) }
+    requires { LabelHasNext (base_tree b) }
     ensures { base_tree result ≡ sp_base (second_at homes.now.split.low (home_in homes.now)) (base_tree b) }
 {
     match b {
@@ -84,7 +84,7 @@ pub fn spilled_value(
 
 /// A value as an operand, after its register was loaded.
 pub fn operand(alloc: Global, homes: &Homes, v: &Value) -> Result<Value, OutOfMemory>
-    requires { ValueFits (value_tree v.now) }
+    requires { HasNext (value_tree v.now) }
     ensures { IfOk result (λ r. value_tree r
         ≡ sp_value homes.now.split.low (second_at homes.now.split.low (home_in homes.now)) (value_tree v.now)) }
 {

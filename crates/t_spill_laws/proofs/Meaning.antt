@@ -7,7 +7,7 @@ use Rattle.std.proofs.lemmas.List.{length-map}
 use Rattle.t_types.specs.Tree.{NoRegs}
 use Rattle.t_types.specs.Fits.{lookup}
 use Rattle.t_terms.specs.Tree.{Reg, Int, Label, Data, TValue, Plain, Pack, TBlock, TData, TProg}
-use Rattle.t_terms.specs.Whole.{WellFormedValue, WellFormedData, WellFormedHeap, Whole}
+use Rattle.t_terms.specs.Whole.{WellFormedValue, WellFormedData, WellFormedHeap, WellFormedProgram}
 use Rattle.t_rules.specs.Rules.{SeqAccepted, FirstTakesNothing, Accepted}
 use Rattle.t_rules.specs.Machine.{State, At, Where, Next, Into, Step, HaltedWith, Place, Spot, moved, After}
 use Rattle.t_rules.specs.Machine.{HaltsWithin, Halts, no_words, data_word, start_heap}
@@ -120,7 +120,8 @@ abbrev pub start_of : TProg → TBlock → PState
 start_of Q b = On (EAt (erase_heap Q) no_ewords (erase_block b)) (Spot 0 0) []
 
 -- the typed and the erased machine of an accepted program
-module _ (Q : TProg) (whole : Whole Q) (acc : Accepted Q) (b : TBlock) (first : slice_get Q.blocks 0 ≡ Some b) where
+module _ (Q : TProg) (whole : WellFormedProgram Q) (acc : Accepted Q) (b : TBlock)
+    (first : slice_get Q.blocks 0 ≡ Some b) where
   pub run_logged : (m : ℕ) (s : State) (p : Place) (run : After Q m s p) →
       after (erase_blocks Q) m (start_of Q b) ≡ Some (On (erase s) p (places Q m s p run))
   run_logged zero s p run =
@@ -240,7 +241,7 @@ module _ (top : ℕ) (P : TProg) where
   abbrev pub entered_regs : ERegs
   entered_regs = with_reg no_ewords (frame_reg top) (EAddress (length (erase_heap (spilled_above top P))))
 
-  data_heaps : Whole P → Heaps (row 0 P.heap) (start_heap P) (erase_heap (spilled_above top P) ++ ([] ∷ []))
+  data_heaps : WellFormedProgram P → Heaps (row 0 P.heap) (start_heap P) (erase_heap (spilled_above top P) ++ ([] ∷ []))
   data_heaps w = record {
     same = λ a ws e.
         let x = map_at (map (λ x. data_word x.value)) P.heap a ws e in
@@ -262,7 +263,7 @@ pub elabels : (top : ℕ) (P : TProg) → ELabels top P (erase_blocks (spilled_a
 elabels top P l b e = slice_get-map erase_block (sp_blocks top P P.blocks) l
     ∙ ap (option_map erase_block) (labels_of top P l b e)
 
-module _ (top : ℕ) (some : 1 ≤ top) (P : TProg) (whole : Whole P) (acc : Accepted P) where
+module _ (top : ℕ) (some : 1 ≤ top) (P : TProg) (whole : WellFormedProgram P) (acc : Accepted P) where
   abbrev B : List ESeq
   B = erase_blocks (spilled_above top P)
 
@@ -429,7 +430,7 @@ module _ (top : ℕ) (some : 1 ≤ top) (P : TProg) (whole : Whole P) (acc : Acc
       (sizes top P m.lay m.file (code_of t))). absurd (halted_no_step P s i halted y.0 y.1 y.3))
       (follow s x.e x.matches)
 
-  module _ (whole2 : Whole (spilled_above top P)) where
+  module _ (whole2 : WellFormedProgram (spilled_above top P)) where
     pub forth : (i : ℤ) → Halts P i → Halts (spilled_above top P) i
     forth i h =
         let x = h.1 in

@@ -10,7 +10,7 @@ use Rattle.t_terms.specs.Tree.{TBase, Reg, Int, Label, Data, TValue, Plain, Pack
 use Rattle.t_terms.specs.Tree.{St, Unpack, Jmp, Halt, TSeq, Then, Ends, TBlock, TData, TProg}
 use Rattle.t_terms.specs.Nesting.{type_nesting, regs_nesting, fields_nesting, types_nesting, value_nesting}
 use Rattle.t_terms.specs.Nesting.{seq_nesting, blocks_nesting, data_nesting, heap_nesting, nesting}
-use Rattle.t_terms.specs.Whole.{WellFormedBlocks, Whole}
+use Rattle.t_terms.specs.Whole.{WellFormedBlocks, WellFormedProgram}
 use Rattle.t_rules.specs.Rules.{BlocksAccepted, Accepted}
 use Rattle.t_spill_rules.specs.Spill.{frame_reg, first_reg, second_reg, with_if, without_if}
 use Rattle.t_spill_rules.specs.Spill.{high_part, low_part, frame, cells, split, sp, sp_regs, sp_fields, sp_value}
@@ -23,7 +23,8 @@ use Rattle.t_spill_rules.specs.Spill.{target, before, does}
 use Rattle.t_spill_rules.specs.Spill.{code, sp_blocks, sp_data, spilled_above}
 use Rattle.t_spill_rules.proofs.HighParts.{high_regs}
 use Rattle.t_spill_rules.proofs.Parts.{joined, loading, step_is}
-use Rattle.t_terms.specs.Flat.{FlatValue, FlatInstr, FlatSeq, FlatBlocks, FlatData, FlatHeap, Flat}
+use Rattle.t_terms.specs.Values.{InstrValues, SeqValues, BlocksValues, DataValues, HeapValues}
+use Rattle.t_terms.specs.Flat.{FlatValue, Flat}
 use Rattle.t_terms.specs.Reach.{type_reach, regs_reach, fields_reach, types_reach}
 use Rattle.t_spill_laws.specs.Reach.{value_reach, instr_reach, seq_reach, blocks_reach, data_reach, heap_reach, reach}
 use Rattle.t_spill_laws.proofs.Scopes.{scoped_regs, scoped_ascends}
@@ -194,7 +195,7 @@ module _ (n : ℕ) (some : 2 ≤ n) (m : ℕ) where
       load_most (first_reg m) (homes rd) _ (load_most (second_reg m) (homes rs) rest h)
   loading_most homes to (Unpack rd v) rest le h = load_value_most homes v rest h
 
-  does_most : (P : TProg) (x : TFile) (homes : ℕ → Home) (i : TInstr) (rest : TSeq) → FlatInstr i →
+  does_most : (P : TProg) (x : TFile) (homes : ℕ → Home) (i : TInstr) (rest : TSeq) → InstrValues FlatValue i →
       instr_reach P x i + 2 ≤ n → seq_nesting rest ≤ n → seq_nesting (before (does m homes i) rest) ≤ n
   does_most P x homes (Arith op rd rs v) rest f le h =
       let a = value_most m (second_at m homes) v f in omega (arith, a, h, le)
@@ -208,7 +209,8 @@ module _ (n : ℕ) (some : 2 ≤ n) (m : ℕ) where
   does_most P x homes (Unpack rd v) rest f le h =
       let a = value_most m (second_at m homes) v f in omega (arith, a, h, le, some)
 
-  code_most : (P : TProg) (k : ℕ) (c : TSeq) (L : Layout) (x : TFile) → k + 2 ≤ n → FlatSeq c → KeptReach P k x c →
+  code_most : (P : TProg) (k : ℕ) (c : TSeq) (L : Layout) (x : TFile) → k + 2 ≤ n → SeqValues FlatValue c →
+      KeptReach P k x c →
       seq_nesting (code m P L x c) ≤ n
   code_most P k (Then i c) L x le f h =
       let s = slots_most m k P (Then i c) L.used x h in
@@ -227,7 +229,7 @@ module _ (n : ℕ) (some : 2 ≤ n) (m : ℕ) where
   code_most P k (Ends Halt) L x le f h = omega (arith, some)
 
   blocks_most : (P : TProg) (p q : ℕ) (bs : List TBlock) → WellFormedBlocks p q bs → BlocksAccepted P bs →
-      FlatBlocks bs → blocks_reach P bs + 2 ≤ n → blocks_nesting (sp_blocks m P bs) ≤ n
+      BlocksValues FlatValue bs → blocks_reach P bs + 2 ≤ n → blocks_nesting (sp_blocks m P bs) ≤ n
   blocks_most P p q [] w k f le = omega arith
   blocks_most P p q (b ∷ bs) w k f le =
       let a = split_most m (sp_regs m b.file) in
@@ -239,7 +241,8 @@ module _ (n : ℕ) (some : 2 ≤ n) (m : ℕ) where
       let d = blocks_most P p q bs w.1 k.1 f.1 (omega (arith, le)) in
       omega (arith, a, a2, c, d, le)
 
-  data_most : (P : TProg) (xs : TData) → FlatData xs → data_reach P xs + 2 ≤ n → data_nesting (sp_data m xs) ≤ n
+  data_most : (P : TProg) (xs : TData) → DataValues FlatValue xs → data_reach P xs + 2 ≤ n →
+      data_nesting (sp_data m xs) ≤ n
   data_most P [] f le = omega arith
   data_most P (x ∷ xs) f le =
       let a = value_most m (λ r. 1) x.value f.0 in
@@ -247,7 +250,7 @@ module _ (n : ℕ) (some : 2 ≤ n) (m : ℕ) where
       let c = data_most P xs f.1 (omega (arith, le)) in
       omega (arith, a, b, c, le)
 
-heap_most : (n m : ℕ) (P : TProg) (hs : List TData) → FlatHeap hs → heap_reach P hs + 3 ≤ n →
+heap_most : (n m : ℕ) (P : TProg) (hs : List TData) → HeapValues FlatValue hs → heap_reach P hs + 3 ≤ n →
     heap_nesting (map (sp_data m) hs) ≤ n
 heap_most n m P [] f le = omega arith
 heap_most n m P (x ∷ hs) f le =
@@ -255,12 +258,14 @@ heap_most n m P (x ∷ hs) f le =
     let b = heap_most n m P hs f.1 (omega (arith, le)) in
     omega (arith, a, b)
 
-pub reached : (m : ℕ) (P : TProg) → Whole P → Accepted P → Flat P → nesting (spilled_above m P) ≤ reach P + 3
+pub reached : (m : ℕ) (P : TProg) → WellFormedProgram P → Accepted P → Flat P →
+    nesting (spilled_above m P) ≤ reach P + 3
 reached m P w k f =
     let a = blocks_most (reach P + 2) (omega arith) m P (length P.blocks) (length P.heap) P.blocks w.1 k.2 f.0
     (omega arith) in
     let b = heap_most (reach P + 3) m P P.heap f.1 (omega arith) in
     omega (arith, a, b)
 
-pub within_twenty : (m : ℕ) (P : TProg) → Whole P → Accepted P → Flat P → nesting (spilled_above m P) ≤ reach P + 20
+pub within_twenty : (m : ℕ) (P : TProg) → WellFormedProgram P → Accepted P → Flat P →
+    nesting (spilled_above m P) ≤ reach P + 20
 within_twenty m P w k f = let a = reached m P w k f in omega (arith, a)

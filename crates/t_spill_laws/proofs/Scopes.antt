@@ -14,7 +14,7 @@ use Rattle.t_types.specs.Fits.{RegTypes, lookup}
 use Rattle.t_terms.specs.Tree.{TBase, Reg, Int, Label, Data, TValue, Plain, Pack, TInstr, Arith, Bnz, Ld, Malloc, Mov}
 use Rattle.t_terms.specs.Tree.{St, Unpack, TSeq, TBlock, TData, TProg, names_after}
 use Rattle.t_terms.specs.Whole.{WellFormedValue, WellFormedInstr, WellFormedBlocks, WellFormedData, WellFormedHeap}
-use Rattle.t_terms.specs.Whole.{Whole}
+use Rattle.t_terms.specs.Whole.{WellFormedProgram}
 use Rattle.t_terms.specs.Registers.{inst_file}
 use Rattle.t_rules.specs.Rules.{BaseHas, Has, Enters, Typed}
 use Rattle.t_terms.specs.Labels.{data_fields}
@@ -304,7 +304,7 @@ scoped_blocks p q (x ∷ bs) w zero b e = let s : x ≡ b = cc in
     subst (λ y. ScopedRegs 0 y.owes y.file) s (scoped_regs 0 x.owes x.file w.0.1)
 scoped_blocks p q (x ∷ bs) w (suc l) b e = scoped_blocks p q bs w.1 l b e
 
-pub labels_scoped : (P : TProg) → Whole P → LabelsScoped P
+pub labels_scoped : (P : TProg) → WellFormedProgram P → LabelsScoped P
 labels_scoped P w l b e = scoped_blocks (length P.blocks) (length P.heap) P.blocks w.1 l b e
 
 scoped_datum : (p q : ℕ) (xs : TData) → WellFormedData p q xs → ScopedFields 0 (data_fields xs)
@@ -318,5 +318,5 @@ scoped_heap p q (y ∷ hs) w zero x e = let s : y ≡ x = cc in
     subst (λ z. ScopedFields 0 (data_fields z)) s (scoped_datum p q y w.0)
 scoped_heap p q (y ∷ hs) w (suc d) x e = scoped_heap p q hs w.1 d x e
 
-pub data_scoped : (P : TProg) → Whole P → DataScoped P
+pub data_scoped : (P : TProg) → WellFormedProgram P → DataScoped P
 data_scoped P w d x e = scoped_heap (length P.blocks) (length P.heap) P.heap w.2 d x e

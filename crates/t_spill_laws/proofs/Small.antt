@@ -4,7 +4,7 @@ use Rattle.t_types.specs.Tree.{Ty, IntTy, VarTy, CodeTy, ExistsTy, TupleTy, TFil
 use Rattle.t_types.specs.Tree.{MoreFields}
 use Rattle.t_terms.specs.Tree.{TBase, TValue, Plain, Pack, TInstr, Arith, Bnz, Ld, Malloc, Mov, St, Unpack, Jmp, Halt}
 use Rattle.t_terms.specs.Tree.{TSeq, Then, Ends, TBlock, TData, TProg}
-use Rattle.t_terms.specs.Whole.{Whole}
+use Rattle.t_terms.specs.Whole.{WellFormedProgram}
 use Rattle.t_rules.specs.Rules.{Accepted}
 use Rattle.t_rules.specs.Machine.{State, Place, Spot, After}
 use Rattle.t_rules.specs.Times.{places, Times, Entries}
@@ -14,7 +14,8 @@ use Rattle.t_spill_rules.specs.Spill.{next, lows, spilled, TypesFew}
 use Rattle.t_spill_laws.specs.Bound.{RegistersUpTo}
 use Rattle.t_spill_laws.specs.Bounded.{Spills}
 use Rattle.t_spill_laws.specs.Correct.{times_in, CountsKept, origin}
-use Rattle.t_terms.specs.Flat.{FlatValue, FlatInstr, FlatSeq, FlatBlocks, FlatData, FlatHeap, Flat}
+use Rattle.t_terms.specs.Values.{InstrValues, SeqValues, BlocksValues, DataValues, HeapValues}
+use Rattle.t_terms.specs.Flat.{FlatValue, Flat}
 use Rattle.t_terms.specs.Reach.{type_reach, regs_reach, fields_reach, types_reach}
 use Rattle.t_spill_laws.specs.Reach.{value_reach, instr_reach, seq_reach, blocks_reach, data_reach, heap_reach, reach}
 use Rattle.t_spill_laws.proofs.Standing.{standing_within_entries}
@@ -57,7 +58,7 @@ value_most (Pack t (Plain b ts) s) h = let a = type_most t in let c = plain_most
     omega (arith, a, c, d)
 value_most (Pack t (Pack u v w) s) h = absurd h
 
-instr_most : (P : TProg) (x : TFile) (i : TInstr) → FlatInstr i → instr_nesting i ≤ instr_reach P x i + 2
+instr_most : (P : TProg) (x : TFile) (i : TInstr) → InstrValues FlatValue i → instr_nesting i ≤ instr_reach P x i + 2
 instr_most P x (Arith op rd rs v) f = let a = value_most v f in omega (arith, a)
 instr_most P x (Bnz r v) f = let a = value_most v f in omega (arith, a)
 instr_most P x (Ld rd rs i) f = omega arith
@@ -66,24 +67,24 @@ instr_most P x (Mov rd v) f = let a = value_most v f in omega (arith, a)
 instr_most P x (St rd i rs) f = omega arith
 instr_most P x (Unpack rd v) f = let a = value_most v f in omega (arith, a)
 
-seq_most : (P : TProg) (c : TSeq) (x : TFile) → FlatSeq c → seq_nesting c ≤ seq_reach P x c + 2
+seq_most : (P : TProg) (c : TSeq) (x : TFile) → SeqValues FlatValue c → seq_nesting c ≤ seq_reach P x c + 2
 seq_most P (Then i c) x f = let a = instr_most P x i f.0 in let b = seq_most P c (next P x i) f.1 in
     omega (arith, a, b)
 seq_most P (Ends (Jmp v)) x f = let a = value_most v f in omega (arith, a)
 seq_most P (Ends Halt) x f = omega arith
 
-blocks_most : (P : TProg) (bs : List TBlock) → FlatBlocks bs → blocks_nesting bs ≤ blocks_reach P bs + 2
+blocks_most : (P : TProg) (bs : List TBlock) → BlocksValues FlatValue bs → blocks_nesting bs ≤ blocks_reach P bs + 2
 blocks_most P [] f = omega arith
 blocks_most P (b ∷ bs) f =
     let a = regs_most b.file in let c = seq_most P b.code b.file f.0 in let d = blocks_most P bs f.1 in
     omega (arith, a, c, d)
 
-data_most : (P : TProg) (xs : TData) → FlatData xs → data_nesting xs ≤ data_reach P xs + 2
+data_most : (P : TProg) (xs : TData) → DataValues FlatValue xs → data_nesting xs ≤ data_reach P xs + 2
 data_most P [] f = omega arith
 data_most P (x ∷ xs) f =
     let a = value_most x.value f.0 in let b = type_most x.ty in let c = data_most P xs f.1 in omega (arith, a, b, c)
 
-heap_most : (P : TProg) (hs : List TData) → FlatHeap hs → heap_nesting hs ≤ heap_reach P hs + 3
+heap_most : (P : TProg) (hs : List TData) → HeapValues FlatValue hs → heap_nesting hs ≤ heap_reach P hs + 3
 heap_most P [] f = omega arith
 heap_most P (x ∷ hs) f = let a = data_most P x f.0 in let b = heap_most P hs f.1 in omega (arith, a, b)
 
@@ -104,7 +105,7 @@ same_counts P = record {
   );
 }
 
-pub same : (k : ℕ) (P : TProg) → Whole P → Accepted P → RegistersUpTo k P → Spills k P P (λ p. p)
+pub same : (k : ℕ) (P : TProg) → WellFormedProgram P → Accepted P → RegistersUpTo k P → Spills k P P (λ p. p)
 same k P w a few = record {
   accepted = a;
   whole = w;
@@ -114,7 +115,8 @@ same k P w a few = record {
   shallow = λ f. let x = whole_most P f in omega (arith, x);
 }
 
-pub framed : (k : ℕ) (P : TProg) → 8 ≤ k → Whole P → Accepted P → TypesFew P → Spills k P (spilled k P) (origin k P)
+pub framed : (k : ℕ) (P : TProg) → 8 ≤ k → WellFormedProgram P → Accepted P → TypesFew P →
+    Spills k P (spilled k P) (origin k P)
 framed k P most w a f =
     record {
       accepted = kept_types (lows k) P (one_low k most) w a;

@@ -11,7 +11,7 @@ use Rattle.t_types.specs.Fields.{AField, filled, empty_fields}
 use Rattle.t_types.specs.Fits.{FitsFile, RegTypes, lookup}
 use Rattle.t_terms.specs.Tree.{Reg, Int, Label, Data, TValue, Plain, Pack, TInstr, Arith, Bnz, Ld, Malloc, Mov}
 use Rattle.t_terms.specs.Tree.{St, Unpack, Jmp, Halt, TSeq, Then, Ends, TBlock, TData, TProg, names_after}
-use Rattle.t_terms.specs.Whole.{WellFormedValue, WellFormedSeq, WellFormedBlocks, Whole}
+use Rattle.t_terms.specs.Whole.{WellFormedValue, WellFormedSeq, WellFormedBlocks, WellFormedProgram}
 use Rattle.t_terms.specs.Registers.{with_reg, raised, no_types}
 use Rattle.t_rules.specs.Rules.{Has, Enters, Typed, SeqAccepted, BlocksAccepted, DataAccepted, HeapAccepted}
 use Rattle.t_rules.specs.Rules.{FirstTakesNothing, Accepted}
@@ -514,7 +514,7 @@ entry_ok m Q P (b ∷ bs) labels h =
       ),
     )
 
-pub kept_types : (m : ℕ) (P : TProg) → 1 ≤ m → Whole P → Accepted P → Accepted (spilled_above m P)
+pub kept_types : (m : ℕ) (P : TProg) → 1 ≤ m → WellFormedProgram P → Accepted P → Accepted (spilled_above m P)
 kept_types m P one w h = (
   (refl, refl),
   heap_ok m P (spilled_above m P) (labels_of m P) (tuples_of m P) P.heap h.1,
@@ -526,5 +526,6 @@ kept_types m P one w h = (
 )
 
 -- the files of blocks ascend
-pub blocks_ascend : (P : TProg) → Whole P → (l : ℕ) (b : TBlock) → slice_get P.blocks l ≡ Some b → Ascends b.file
+pub blocks_ascend : (P : TProg) → WellFormedProgram P → (l : ℕ) (b : TBlock) → slice_get P.blocks l ≡ Some b →
+    Ascends b.file
 blocks_ascend P w l b e = scoped_ascends b.owes b.file (labels_scoped P w l b e)

@@ -9,7 +9,7 @@ use Rattle.std.proofs.lemmas.Bool.Decides.{nat_tests}
 use Rattle.std.proofs.lemmas.Option.{slice_get-map}
 use Rattle.t_types.specs.Tree.{TFile}
 use Rattle.t_terms.specs.Tree.{TBase, Label, TSeq, Then, Ends, Jmp, Halt, TBlock, TProg}
-use Rattle.t_terms.specs.Whole.{Whole}
+use Rattle.t_terms.specs.Whole.{WellFormedProgram}
 use Rattle.t_rules.specs.Rules.{FirstTakesNothing, Accepted}
 use Rattle.t_rules.specs.Machine.{State, At, Where, Next, Into, Step, HaltedWith, Place, Spot, moved, After}
 use Rattle.t_rules.specs.Times.{places, is_spot, Times}
@@ -256,7 +256,7 @@ within top P L x (Then i c) j left k e low le =
     origin_first (length (step top P L x i c)) (sizes top P (laid top L i to) to c) k (omega (arith, a, e, low, le))
 within top P L x (Ends t) j left k e low le = refl
 
-module _ (top : ℕ) (some : 1 ≤ top) (P : TProg) (whole : Whole P) (acc : Accepted P) where
+module _ (top : ℕ) (some : 1 ≤ top) (P : TProg) (whole : WellFormedProgram P) (acc : Accepted P) where
   B : List ESeq
   B = erase_blocks (spilled_above top P)
 
@@ -574,7 +574,7 @@ module _ (top : ℕ) (some : 1 ≤ top) (P : TProg) (whole : Whole P) (acc : Acc
   halted_ends L x (At h r (Ends (Jmp v))) i a k = absurd a
   halted_ends L x (At h r (Then j c)) i a k = absurd a
 
-  module _ (whole2 : Whole (spilled_above top P)) where
+  module _ (whole2 : WellFormedProgram (spilled_above top P)) where
     covered : (m2 : ℕ) (s2 : State) (p2 : Place) (run2 : After (spilled_above top P) m2 s2 p2) →
         Covered (places (spilled_above top P) m2 s2 p2 run2)
     covered m2 s2 p2 run2 =

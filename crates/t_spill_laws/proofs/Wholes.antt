@@ -12,7 +12,7 @@ use Rattle.t_terms.specs.Tree.{Reg, Int, Label, Data, TValue, Plain, Pack, TInst
 use Rattle.t_terms.specs.Tree.{Unpack}
 use Rattle.t_terms.specs.Tree.{Jmp, Halt, TSeq, Then, Ends, TBlock, TData, TProg, names_after}
 use Rattle.t_terms.specs.Whole.{WellFormedValue, WellFormedInstr, WellFormedSeq, WellFormedBlock, WellFormedBlocks}
-use Rattle.t_terms.specs.Whole.{HasNoRegister, WellFormedData, WellFormedHeap, Whole}
+use Rattle.t_terms.specs.Whole.{HasNoRegister, WellFormedData, WellFormedHeap, WellFormedProgram}
 use Rattle.t_rules.specs.Rules.{Enters, Typed, SeqAccepted, BlocksAccepted, Accepted}
 use Rattle.t_spill_rules.specs.Spill.{frame_reg, first_reg, second_reg, made_reg, with_if, without_if}
 use Rattle.t_spill_rules.specs.Spill.{high_part, low_part, frame, cells, split, sp, sp_regs, sp_fields, sp_value}
@@ -455,7 +455,8 @@ module _ (m : ℕ) (fit : m + 6 ≤ max_number) where
     heap_well [] h = tt
     heap_well (x ∷ hs) h = (data_well x h.0, heap_well hs h.1)
 
-pub whole : (m : ℕ) (P : TProg) → m + 6 ≤ max_number → Whole P → Accepted P → TypesFew P → Whole (spilled_above m P)
+pub whole : (m : ℕ) (P : TProg) → m + 6 ≤ max_number → WellFormedProgram P → Accepted P → TypesFew P →
+    WellFormedProgram (spilled_above m P)
 whole m P fit w k f =
     let n : length (sp_blocks m P P.blocks) ≡ length P.blocks = length-map P.blocks (sp_block m P) in
     let same : length P.heap ≡ length (map (sp_data m) P.heap) = sym (length-map P.heap (sp_data m)) in

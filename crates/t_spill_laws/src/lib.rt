@@ -6,7 +6,7 @@ ghost use Rattle.t_terms.specs.Nesting.{nesting};
 ghost use Rattle.t_terms.specs.Flat.{Flat};
 ghost use Rattle.t_spill_laws.specs.Reach.{reach};
 ghost use Rattle.t_terms.specs.Tree.{TProg};
-ghost use Rattle.t_terms.specs.Whole.{Whole};
+ghost use Rattle.t_terms.specs.Whole.{WellFormedProgram};
 ghost use Rattle.t_rules.specs.Rules.{Accepted};
 ghost use Rattle.t_spill_rules.specs.Spill.{spilled, TypesFew};
 ghost use Rattle.t_spill_laws.specs.Bound.{RegistersUpTo};
@@ -16,12 +16,13 @@ ghost use Rattle.t_spill_laws.specs.Correct.{HaltsAlike, CountsKept, origin};
 
 /// What is spilled of an accepted program is accepted.
 pub fn types_are_kept()
-    ensures { (k : ℕ) (P : TProg) → 8 ≤ k → Whole P → Accepted P → Accepted (spilled k P) }
+    ensures { (k : ℕ) (P : TProg) → 8 ≤ k → WellFormedProgram P → Accepted P → Accepted (spilled k P) }
 {}
 
-/// It is a whole program, where the types of the program have not too many names.
+/// It is well formed, where the types of the program have not too many names.
 pub fn programs_are_whole()
-    ensures { (k : ℕ) (P : TProg) → 8 ≤ k → Whole P → Accepted P → TypesFew P → Whole (spilled k P) }
+    ensures { (k : ℕ) (P : TProg) → 8 ≤ k → WellFormedProgram P → Accepted P → TypesFew P →
+        WellFormedProgram (spilled k P) }
 {}
 
 /// It has no register above k.
@@ -31,31 +32,31 @@ pub fn registers_are_few()
 
 /// It halts with the same integers, and never in fewer instructions.
 pub fn meaning_is_kept()
-    ensures { (k : ℕ) (P : TProg) → 8 ≤ k → Whole P → Accepted P → TypesFew P →
+    ensures { (k : ℕ) (P : TProg) → 8 ≤ k → WellFormedProgram P → Accepted P → TypesFew P →
         HaltsAlike P (spilled k P) }
 {}
 
 /// Each place comes from a place, and is executed no more often than that is the place of a state.
 pub fn counts_are_kept()
-    ensures { (k : ℕ) (P : TProg) → 8 ≤ k → Whole P → Accepted P → TypesFew P →
+    ensures { (k : ℕ) (P : TProg) → 8 ≤ k → WellFormedProgram P → Accepted P → TypesFew P →
         CountsKept P (spilled k P) (origin k P) }
 {}
 
 /// Where no pack stands inside a pack, its text has hardly more constructs open than the program's types reach.
 pub fn reach_is_kept()
-    ensures { (k : ℕ) (P : TProg) → 8 ≤ k → Whole P → Accepted P → Flat P →
+    ensures { (k : ℕ) (P : TProg) → 8 ≤ k → WellFormedProgram P → Accepted P → Flat P →
         nesting (spilled k P) ≤ reach P + 20 }
 {}
 
 /// The whole theorem.
 pub fn registers_are_bounded()
-    ensures { (k : ℕ) (P : TProg) → 8 ≤ k → Whole P → Accepted P → TypesFew P →
+    ensures { (k : ℕ) (P : TProg) → 8 ≤ k → WellFormedProgram P → Accepted P → TypesFew P →
         Spills k P (spilled k P) (origin k P) }
 {}
 
 /// A program that has no register above k may stay as it is.
 pub fn few_registers_may_stay()
-    ensures { (k : ℕ) (P : TProg) → Whole P → Accepted P → RegistersUpTo k P → Spills k P P (λ p. p) }
+    ensures { (k : ℕ) (P : TProg) → WellFormedProgram P → Accepted P → RegistersUpTo k P → Spills k P P (λ p. p) }
 {}
 
 /// Where counts are kept and no block of the program is entered more than n times, no place is executed more often.

@@ -1,4 +1,5 @@
 mod ProgramRows
 pub mod Blocks
 pub mod BodyWalks
+pub mod Fitting
 pub mod Items

@@ -2,7 +2,7 @@
 use Rattle.std.proofs.Common.{◌≡◌, [], ◌∷◌, arith, refl, pos, true}
 use Rattle.t_types.specs.Tree.{Ty, IntTy, VarTy, ExistsTy, CodeTy, TupleTy, NoRegs, NoFields, MoreFields}
 use Rattle.t_terms.specs.Tree.{Reg, Int, Label, Data, TValue, Plain, Pack, Mov, Ld, Halt, Then, Ends, TBlock, TProg}
-use Rattle.t_terms.specs.Whole.{Whole}
+use Rattle.t_terms.specs.Whole.{WellFormedProgram}
 use Rattle.t_terms.specs.Nesting.{nesting}
 
 -- a block that reads through two data tuples, of which the first holds a label and the address of the second
@@ -22,7 +22,7 @@ heap = record {
       ∷ ((record { value = Plain (Int (pos 6)) []; ty = IntTy } ∷ []) ∷ []);
 }
 
-whole : Whole heap
+whole : WellFormedProgram heap
 whole = search arith
 
 -- two brackets are open at once: those of a data tuple, and of a type in it
@@ -34,16 +34,17 @@ abbrev holding : TValue → Ty → TProg
 holding v t = record { blocks = block ∷ []; heap = (record { value = v; ty = t } ∷ []) ∷ [] }
 
 -- a register in a data tuple, also in a package
-no_register : ¬ Whole (holding (Plain (Reg 1) []) IntTy)
+no_register : ¬ WellFormedProgram (holding (Plain (Reg 1) []) IntTy)
 no_register w = w.2.0.0.1
 
-no_packed_register : ¬ Whole (holding (Pack IntTy (Plain (Reg 1) []) (ExistsTy (VarTy 0))) (ExistsTy (VarTy 0)))
+no_packed_register : ¬ WellFormedProgram (holding (Pack IntTy (Plain (Reg 1) []) (ExistsTy (VarTy 0)))
+    (ExistsTy (VarTy 0)))
 no_packed_register w = w.2.0.0.1
 
 -- a type variable in a field's type
-not_open : ¬ Whole (holding (Plain (Int (pos 1)) []) (VarTy 0))
+not_open : ¬ WellFormedProgram (holding (Plain (Int (pos 1)) []) (VarTy 0))
 not_open w = omega (arith, w.2.0.0.2)
 
 -- a data tuple that is not there
-not_beyond : ¬ Whole (holding (Plain (Data 1) []) (TupleTy NoFields))
+not_beyond : ¬ WellFormedProgram (holding (Plain (Data 1) []) (TupleTy NoFields))
 not_beyond w = omega (arith, w.2.0.0.0.0)

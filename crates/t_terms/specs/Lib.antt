@@ -8,6 +8,7 @@ pub mod Spanned
 pub mod SpannedLaws
 pub mod Tree
 pub mod TreeLaws
+pub mod Values
 pub mod Whole
 pub mod Registers
 pub mod Labels

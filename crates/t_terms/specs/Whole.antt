@@ -1,10 +1,11 @@
 -- The invariant of programs.
-use Rattle.std.specs.Prelude.{ℕ, ◌<◌, ◌≤◌, List, [], ◌∷◌, length}
+use Rattle.std.specs.Prelude.{ℕ, ◌<◌, ◌≤◌, ℤ, pos, negsuc, List, [], ◌∷◌, length}
 use Rattle.std.specs.Coded.{le_prop, Unit-prop}
 use Rattle.t_types.specs.WellFormed.{max_number, max_names, IsRegister, WellFormed, WellFormedFile, WellFormedTypes}
 use Rattle.t_types.specs.WellFormed.{well_formed_prop, regs_above_prop, types_prop}
 use Rattle.t_terms.specs.Tree.{TBase, Reg, Int, Label, Data, TValue, Plain, Pack, TInstr, Arith, Bnz, Ld, Malloc, Mov}
 use Rattle.t_terms.specs.Tree.{St, Unpack, TEnd, Jmp, Halt, TSeq, Then, Ends, TBlock, TDatum, TData, TProg, names_after}
+use Rattle.t_terms.specs.Values.{InstrValues, SeqValues, BlocksValues, DataValues, HeapValues, ProgramValues}
 
 -- in a program of p blocks and q data tuples, under n type names: labels, registers, fields and type indices are in
 -- range
@@ -62,11 +63,30 @@ abbrev pub WellFormedHeap : ℕ → ℕ → List TData → Type 0
 WellFormedHeap p q [] = Unit {0}
 WellFormedHeap p q (x ∷ xs) = WellFormedData p q x × WellFormedHeap p q xs
 
--- the program has a block, and each block and each data tuple is well formed in it
-abbrev pub Whole : TProg → Type 0
-Whole P =
+-- the program has a block, and each block and each data tuple is well formed in it; nothing is asked of its integers
+abbrev pub WellFormedProgram : TProg → Type 0
+WellFormedProgram P =
     (1 ≤ length P.blocks) × WellFormedBlocks (length P.blocks) (length P.heap) P.blocks
     × WellFormedHeap (length P.blocks) (length P.heap) P.heap
+
+-- the integer has 64 bits: it is from -(max_number + 1) to max_number
+abbrev pub IntFits : ℤ → Type 0
+IntFits (pos n) = n ≤ max_number
+IntFits (negsuc n) = n ≤ max_number
+
+-- so has that of a base or a value, where it is one
+abbrev pub BaseFits : TBase → Type 0
+BaseFits (Int i) = IntFits i
+BaseFits _ = Unit {0}
+
+abbrev pub ValueFits : TValue → Type 0
+ValueFits (Plain b ts) = BaseFits b
+ValueFits (Pack t v s) = ValueFits v
+
+-- The invariant: the program is well formed, and its integers have 64 bits. Typing and meaning hold of a well-formed
+-- program with any integers.
+abbrev pub Whole : TProg → Type 0
+Whole P = WellFormedProgram P × ProgramValues ValueFits P
 
 -- there is one proof of it at most
 base_prop : (p q : ℕ) (b : TBase) → IsProp (WellFormedBase p q b)
@@ -126,8 +146,52 @@ heap_prop : (p q : ℕ) (xs : List TData) → IsProp (WellFormedHeap p q xs)
 heap_prop p q [] = Unit-prop
 heap_prop p q (x ∷ xs) = let y = data_prop p q x in let z = heap_prop p q xs in hlevel (y, z)
 
-pub whole_prop : (P : TProg) → IsProp (Whole P)
-whole_prop P =
+pub program_prop : (P : TProg) → IsProp (WellFormedProgram P)
+program_prop P =
     let x = blocks_prop (length P.blocks) (length P.heap) P.blocks in
     let y = heap_prop (length P.blocks) (length P.heap) P.heap in
     hlevel (le_prop, x, y)
+
+base_fits_prop : (b : TBase) → IsProp (BaseFits b)
+base_fits_prop (Int (pos n)) = le_prop
+base_fits_prop (Int (negsuc n)) = le_prop
+base_fits_prop (Reg r) = Unit-prop
+base_fits_prop (Label l) = Unit-prop
+base_fits_prop (Data d) = Unit-prop
+
+value_fits_prop : (v : TValue) → IsProp (ValueFits v)
+value_fits_prop (Plain b ts) = base_fits_prop b
+value_fits_prop (Pack t v s) = value_fits_prop v
+
+module _ (S : TValue → Type 0) (one : (v : TValue) → IsProp (S v)) where
+  instr_values_prop : (i : TInstr) → IsProp (InstrValues S i)
+  instr_values_prop (Arith op rd rs v) = one v
+  instr_values_prop (Bnz r v) = one v
+  instr_values_prop (Ld rd rs i) = Unit-prop
+  instr_values_prop (Malloc rd ts) = Unit-prop
+  instr_values_prop (Mov rd v) = one v
+  instr_values_prop (St rd i rs) = Unit-prop
+  instr_values_prop (Unpack rd v) = one v
+
+  seq_values_prop : (c : TSeq) → IsProp (SeqValues S c)
+  seq_values_prop (Then i rest) = let x = instr_values_prop i in let y = seq_values_prop rest in hlevel (x, y)
+  seq_values_prop (Ends (Jmp v)) = one v
+  seq_values_prop (Ends Halt) = Unit-prop
+
+  blocks_values_prop : (bs : List TBlock) → IsProp (BlocksValues S bs)
+  blocks_values_prop [] = Unit-prop
+  blocks_values_prop (b ∷ bs) = let x = seq_values_prop b.code in let y = blocks_values_prop bs in hlevel (x, y)
+
+  data_values_prop : (xs : TData) → IsProp (DataValues S xs)
+  data_values_prop [] = Unit-prop
+  data_values_prop (x ∷ xs) = let y = one x.value in let z = data_values_prop xs in hlevel (y, z)
+
+  heap_values_prop : (xs : List TData) → IsProp (HeapValues S xs)
+  heap_values_prop [] = Unit-prop
+  heap_values_prop (x ∷ xs) = let y = data_values_prop x in let z = heap_values_prop xs in hlevel (y, z)
+
+  program_values_prop : (P : TProg) → IsProp (ProgramValues S P)
+  program_values_prop P = let x = blocks_values_prop P.blocks in let y = heap_values_prop P.heap in hlevel (x, y)
+
+pub whole_prop : (P : TProg) → IsProp (Whole P)
+whole_prop P = let x = program_prop P in let y = program_values_prop ValueFits value_fits_prop P in hlevel (x, y)

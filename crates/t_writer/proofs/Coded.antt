@@ -10,7 +10,6 @@ use Rattle.t_text.specs.declared.token.Kind.TheVariants as k
 use Rattle.t_terms.specs.Spanned.{seq_of}
 use Rattle.t_terms.specs.Read.{instr, body, block, blocks_of}
 use Rattle.t_terms.specs.Whole.{WellFormedInstr, WellFormedEnd, WellFormedSeq, WellFormedBlocks}
-use Rattle.t_writer.specs.Ints.{InstrFits, SeqFits, BlocksFit}
 use Rattle.t_writer.specs.Lexeme.{Lexeme, LabelName, Reserved, Sign, render}
 use Rattle.t_writer.specs.Written.{space, line_end, binds_written, file_written, instr_written, end_written}
 use Rattle.t_writer.specs.Written.{seq_written, block_written, blocks_written}
@@ -22,13 +21,12 @@ abbrev pub left_code : List (Instr × Span) → ℕ → TEnd → TSeq
 left_code xs i e = seq_of (body (drop i xs)) e
 
 -- what the loop over instructions keeps
-pub record Coding (xs : List (Instr × Span)) (e : TEnd) (i names : ℕ) (text whole : List ℕ) (all : TSeq) : Type 0 where
+pub record Coding (xs : List (Instr × Span)) (e : TEnd) (i names : ℕ) (text whole : List ℕ) : Type 0 where
   pub fits : (p q : ℕ) × WellFormedSeq p q names (left_code xs i e)
   pub written : text ++ render (seq_written names (left_code xs i e)) ≡ whole
-  pub ints : SeqFits (left_code xs i e) → SeqFits all
 
-module _ (xs : List (Instr × Span)) (e : TEnd) (i names : ℕ) (text whole : List ℕ) (all : TSeq)
-    (h : Coding xs e i names text whole all) where
+module _ (xs : List (Instr × Span)) (e : TEnd) (i names : ℕ) (text whole : List ℕ)
+    (h : Coding xs e i names text whole) where
   module _ (x : Instr × Span) (is : x ≡ get_or xs i x) (lt : i < length xs) where
     -- what is known of the next instruction
     next_fits : (p q : ℕ) × WellFormedSeq p q names (seq_of (body (x ∷ drop (i + 1) xs)) e)
@@ -39,9 +37,9 @@ module _ (xs : List (Instr × Span)) (e : TEnd) (i names : ℕ) (text whole : Li
     instr_fits = (next_fits.0, next_fits.1, next_fits.2.0)
 
     pub coding_more : (t1 t2 : List ℕ) (n : ℕ) → t1 ≡ text ++ render (instr_written names (instr x.0)) →
-        t2 ≡ t1 ++ 10 ∷ [] → n ≡ names_after (instr x.0) names → InstrFits (instr x.0) →
-        Coding xs e (i + 1) n t2 whole all
-    coding_more t1 t2 n e1 e2 m ints =
+        t2 ≡ t1 ++ 10 ∷ [] → n ≡ names_after (instr x.0) names →
+        Coding xs e (i + 1) n t2 whole
+    coding_more t1 t2 n e1 e2 m =
         let d = item_next xs i x is lt in
         let w : text ++ render (seq_written names (seq_of (body (x ∷ drop (i + 1) xs)) e)) ≡ whole =
         subst (λ (ys : List (Instr × Span)). text ++ render (seq_written names (seq_of (body ys) e)) ≡ whole) d
@@ -51,7 +49,6 @@ module _ (xs : List (Instr × Span)) (e : TEnd) (i names : ℕ) (text whole : Li
         record {
           fits = rw m (next_fits.0, next_fits.1, next_fits.2.2);
           written = rw (m, e2, e1) (simp append_assoc j);
-          ints = λ f. h.ints (subst (λ (ys : List (Instr × Span)). SeqFits (seq_of (body ys) e)) (sym d) (ints, f));
         }
 
   module _ (le : length xs ≤ i) where
@@ -74,7 +71,6 @@ module _ (xs : List (Instr × Span)) (e : TEnd) (i names : ℕ) (text whole : Li
 pub record Blocking (bs : List Block) (i : ℕ) (text whole : List ℕ) : Type 0 where
   pub fits : (p q : ℕ) × WellFormedBlocks p q (blocks_of (drop i bs))
   pub written : text ++ render (blocks_written i (blocks_of (drop i bs))) ≡ whole
-  pub ints : BlocksFit (blocks_of (drop i bs)) → BlocksFit (blocks_of bs)
 
 module _ (bs : List Block) (i : ℕ) (text whole : List ℕ) (h : Blocking bs i text whole) where
   module _ (b : Block) (is : b ≡ get_or bs i b) (lt : i < length bs) where
@@ -82,9 +78,9 @@ module _ (bs : List Block) (i : ℕ) (text whole : List ℕ) (h : Blocking bs i 
     next_blocks_fit =
         subst (λ (ys : List Block). (p q : ℕ) × WellFormedBlocks p q (blocks_of ys)) (item_next bs i b is lt) h.fits
 
-    pub blocking_more : (t1 : List ℕ) → t1 ≡ text ++ render (block_written i (block b)) → SeqFits (block b).code →
+    pub blocking_more : (t1 : List ℕ) → t1 ≡ text ++ render (block_written i (block b)) →
         Blocking bs (i + 1) t1 whole
-    blocking_more t1 e ints =
+    blocking_more t1 e =
         let d = item_next bs i b is lt in
         let w : text ++ render (block_written i (block b) ++ blocks_written (suc i) (blocks_of (drop (i + 1) bs)))
         ≡ whole = subst (λ (ys : List Block). text ++ render (blocks_written i (blocks_of ys)) ≡ whole) d h.written in
@@ -97,7 +93,6 @@ module _ (bs : List Block) (i : ℕ) (text whole : List ℕ) (h : Blocking bs i 
           written = rw e
               (subst (λ (n : ℕ). (text ++ render (block_written i (block b)))
               ++ render (blocks_written n (blocks_of (drop (i + 1) bs))) ≡ whole) (sym (add-one i)) k);
-          ints = λ f. h.ints (subst (λ (ys : List Block). BlocksFit (blocks_of ys)) (sym d) (ints, f));
         }
 
 regroup : (a b c d e f g : List ℕ) → a ++ b ++ c ++ d ++ e ++ f ++ g ≡ a ++ (b ++ (c ++ (d ++ (e ++ (f ++ g)))))

@@ -1,7 +1,6 @@
 -- What the loops over the fields of a data tuple and over data tuples keep, over plain lists.
-use Rattle.std.proofs.Common.{◌≡◌, ◌≤◌, ◌<◌, ℕ, suc, ◌+◌, List, [], ◌∷◌, ◌++◌, length, drop, get_or, sym, ◌∙◌}
+use Rattle.std.proofs.Common.{◌≡◌, ◌<◌, ℕ, suc, ◌+◌, List, [], ◌∷◌, ◌++◌, length, drop, get_or, sym, ◌∙◌}
 use Rattle.std.proofs.Common.{subst, append_assoc, add-one, codes, decimal}
-use Rattle.std.proofs.Math.ListN.{drop_of_length-le}
 use Rattle.idx_core.specs.declared.span.Span.{Span}
 use Rattle.t_types.specs.declared.types.TType.{TType}
 use Rattle.t_types.specs.Read.{tree}
@@ -13,7 +12,6 @@ use Rattle.t_terms.specs.Tree.{TValue, TDatum, TData}
 use Rattle.t_terms.specs.Spanned.{plain_fields}
 use Rattle.t_terms.specs.Read.{value, data_fields, data_of}
 use Rattle.t_terms.specs.Whole.{WellFormedValue, WellFormedData, WellFormedHeap}
-use Rattle.t_writer.specs.Ints.{ValueFits, DataFit, HeapFits}
 use Rattle.t_writer.specs.Lexeme.{Lexeme, DataName, Reserved, Sign, render}
 use Rattle.t_writer.specs.Written.{space, line_end, separator, value_written, type_written, datum_written}
 use Rattle.t_writer.specs.Written.{data_fields_written, data_written, heap_written}
@@ -36,7 +34,6 @@ field_in x = record { value = value x.0; ty = tree x.1 }
 pub record Filling (xs : List Field) (i : ℕ) (text whole : List ℕ) : Type 0 where
   pub fits : (p q : ℕ) × WellFormedData p q (fields_in (drop i xs))
   pub written : text ++ render (data_fields_written i (fields_in (drop i xs))) ≡ whole
-  pub ints : DataFit (fields_in (drop i xs)) → DataFit (fields_in xs)
 
 module _ (xs : List Field) (i : ℕ) (text whole : List ℕ) (h : Filling xs i text whole) where
   module _ (x : Field) (is : x ≡ get_or xs i x) (lt : i < length xs) where
@@ -48,8 +45,8 @@ module _ (xs : List Field) (i : ℕ) (text whole : List ℕ) (h : Filling xs i t
     value_fits = (next_field_fits.0, next_field_fits.1, next_field_fits.2.0.0)
 
     pub filling_more : (t1 t2 : List ℕ) → t1 ≡ text ++ render (separator i) →
-        t2 ≡ t1 ++ render (datum_written (field_in x)) → ValueFits (value x.0) → Filling xs (i + 1) t2 whole
-    filling_more t1 t2 e1 e2 ints =
+        t2 ≡ t1 ++ render (datum_written (field_in x)) → Filling xs (i + 1) t2 whole
+    filling_more t1 t2 e1 e2 =
         let d = item_next xs i x is lt in
         let rest = data_fields_written (suc i) (fields_in (drop (i + 1) xs)) in
         let w : text ++ render (separator i ++ (datum_written (field_in x) ++ rest)) ≡ whole =
@@ -65,21 +62,12 @@ module _ (xs : List Field) (i : ℕ) (text whole : List ℕ) (h : Filling xs i t
           written = rw (e2, e1)
               (subst (λ (n : ℕ). ((text ++ render (separator i)) ++ render (datum_written (field_in x)))
               ++ render (data_fields_written n (fields_in (drop (i + 1) xs))) ≡ whole) (sym (add-one i)) m);
-          ints = λ f. h.ints (subst (λ (ys : List Field). DataFit (fields_in ys)) (sym d) (ints, f));
         }
-
-  module _ (le : length xs ≤ i) where
-    last_field : drop i xs ≡ []
-    last_field = drop_of_length-le xs le
-
-    pub all_fit : DataFit (fields_in xs)
-    all_fit = h.ints (subst (λ (ys : List Field). DataFit (fields_in ys)) (sym last_field) tt)
 
 -- what the loop over data tuples keeps
 pub record Heaping (xs : List Data) (i : ℕ) (text whole : List ℕ) : Type 0 where
   pub fits : (p q : ℕ) × WellFormedHeap p q (data_of (drop i xs))
   pub written : text ++ render (heap_written i (data_of (drop i xs))) ≡ whole
-  pub ints : HeapFits (data_of (drop i xs)) → HeapFits (data_of xs)
 
 module _ (xs : List Data) (i : ℕ) (text whole : List ℕ) (h : Heaping xs i text whole) where
   module _ (x : Data) (is : x ≡ get_or xs i x) (lt : i < length xs) where
@@ -91,8 +79,8 @@ module _ (xs : List Data) (i : ℕ) (text whole : List ℕ) (h : Heaping xs i te
     data_fits = (next_data_fit.0, next_data_fit.1, next_data_fit.2.0)
 
     pub heaping_more : (t1 : List ℕ) → t1 ≡ text ++ render (data_written i (fields_in x.fields.items)) →
-        DataFit (fields_in x.fields.items) → Heaping xs (i + 1) t1 whole
-    heaping_more t1 e ints =
+        Heaping xs (i + 1) t1 whole
+    heaping_more t1 e =
         let d = item_next xs i x is lt in
         let first = data_written i (fields_in x.fields.items) in
         let rest = heap_written (suc i) (data_of (drop (i + 1) xs)) in
@@ -105,7 +93,6 @@ module _ (xs : List Data) (i : ℕ) (text whole : List ℕ) (h : Heaping xs i te
           written = rw e
               (subst (λ (n : ℕ). (text ++ render first) ++ render (heap_written n (data_of (drop (i + 1) xs))) ≡ whole)
               (sym (add-one i)) m);
-          ints = λ f. h.ints (subst (λ (ys : List Data). HeapFits (data_of ys)) (sym d) (ints, f));
         }
 
 -- a field, of its parts

@@ -15,7 +15,7 @@ use Rattle.t_types.specs.WellFormed.{IsRegister}
 use Rattle.t_text.specs.declared.token.Kind.{Kind}
 use Rattle.t_text.specs.declared.token.Kind.TheVariants as k
 use Rattle.t_text.specs.Tokens.{assembly, Keeps, word, signs}
-use Rattle.t_writer.specs.Ints.{IntFits}
+use Rattle.t_terms.specs.Whole.{IntFits}
 use Rattle.t_writer.specs.Lexeme.{Lexeme, Reserved, TypeName, LabelName, DataName, Register, Number, Digit, Sign}
 use Rattle.t_writer.specs.Lexeme.{Blank, bytes, number_kind}
 use Rattle.text_core.proofs.Characters.{AreDigits, is_digit, are_digits, value_is, Stops, run_digits, run_word}
@@ -160,11 +160,11 @@ lexeme_item (Register n) r v s =
     word_item 114 (decimal n) r refl (digits_of_word (decimal n) (are_digits n h)) s
     ∙ ap (λ x. Spelling x (length (114 ∷ decimal n))) (register_word n h)
 lexeme_item (Number (pos n)) r v s =
-    let h : n < 2 ^ 64 = omega (arith, ints, v.1) in
+    let h : n < 2 ^ 64 = omega (arith, v) in
     plain_item (decimal n) r (decimal_nonempty n h) (are_digits n h) s
     ∙ ap (λ m. Spelling (k.Plain (pos m)) (length (decimal n))) (value_is n h)
 lexeme_item (Number (negsuc n)) r v s =
-    let h : suc n < 2 ^ 64 = omega (arith, ints, v.0) in
+    let h : suc n < 2 ^ 64 = omega (arith, v) in
     let long : 1 + length (decimal (suc n)) ≡ length (126 ∷ decimal (suc n)) = omega arith in
     negative_item (decimal (suc n)) r (decimal_nonempty (suc n) h) (are_digits (suc n) h) s
     ∙ ap (λ m. Spelling (k.Negative (neg_ℤ (pos m))) (1 + length (decimal (suc n)))) (value_is (suc n) h)
@@ -181,8 +181,8 @@ lexeme_keeps (TypeName n) v = tt
 lexeme_keeps (LabelName n) v = tt
 lexeme_keeps (DataName n) v = tt
 lexeme_keeps (Register r) v = v
-lexeme_keeps (Number (pos n)) v = v.1
-lexeme_keeps (Number (negsuc n)) v = v.0
+lexeme_keeps (Number (pos n)) v = omega (arith, ints, v)
+lexeme_keeps (Number (negsuc n)) v = omega (arith, ints, v)
 lexeme_keeps (Digit n) v = omega (arith, ints)
 lexeme_keeps (Sign b kind) v = v.2
 lexeme_keeps (Blank b) v = tt

@@ -4,12 +4,13 @@ use Rattle.t_terms.specs.declared.block.Block.{Block}
 use Rattle.t_terms.specs.declared.data.Data.{Data}
 use Rattle.t_terms.specs.Tree.{TProg}
 use Rattle.t_terms.specs.Read.{blocks_of, data_of, parts}
-use Rattle.t_terms.specs.Whole.{Whole}
+use Rattle.t_terms.specs.Whole.{WellFormedProgram}
 use Rattle.t_text.specs.Text.{most_open, StandsFor, ReadsBack}
 use Rattle.t_terms.specs.Nesting.{nesting}
 use Rattle.t_text.specs.NestingLaws.{KeepsByNesting}
 use Rattle.t_terms.proofs.Blocks.{blocks_count, data_count}
-use Rattle.t_writer.specs.Ints.{BlocksFit, HeapFits}
+use Rattle.t_terms.specs.Values.{BlocksValues, HeapValues}
+use Rattle.t_terms.specs.Whole.{ValueFits}
 use Rattle.t_writer.specs.Lexeme.{render}
 use Rattle.t_writer.specs.Written.{blocks_written, heap_written, program_written, second_written}
 use Rattle.t_writer.proofs.Rendered.{render_append}
@@ -20,13 +21,13 @@ pub first_is : (text start : List ℕ) (bs : List Block) (xs : List Data) → st
 first_is text start bs xs e g = rw e at g
 
 pub first_text : (text start : List ℕ) (bs : List Block) (xs : List Data) → length bs < 2 ^ 63 → xs ≡ [] →
-    Whole (parts bs xs) → BlocksFit (blocks_of bs) → start ≡ codes "tal 1\n" →
+    WellFormedProgram (parts bs xs) → BlocksValues ValueFits (blocks_of bs) → start ≡ codes "tal 1\n" →
     text ≡ start ++ render (blocks_written 0 (blocks_of bs)) →
     StandsFor text (parts bs xs)
 first_text text start bs xs few n h f e g =
     subst (λ (ys : List Data). StandsFor text (parts bs ys)) (sym n)
     (first_stands text (blocks_of bs) (omega (arith, few, blocks_count bs))
-    (subst (λ (ys : List Data). Whole (parts bs ys)) n h) f (first_is text start bs xs e g))
+    (subst (λ (ys : List Data). WellFormedProgram (parts bs ys)) n h) f (first_is text start bs xs e g))
 
 pub second_is : (text start middle : List ℕ) (bs : List Block) (xs : List Data) → start ≡ codes "tal 2\n" →
     middle ≡ start ++ render (heap_written 0 (data_of xs)) →
@@ -38,7 +39,8 @@ second_is text start middle bs xs e m t =
     (sym (render_append (heap_written 0 (data_of xs)) (blocks_written 0 (blocks_of bs))))
 
 pub second_text : (text start middle : List ℕ) (bs : List Block) (xs : List Data) → length bs < 2 ^ 63 →
-    length xs < 2 ^ 63 → Whole (parts bs xs) → BlocksFit (blocks_of bs) → HeapFits (data_of xs) →
+    length xs < 2 ^ 63 → WellFormedProgram (parts bs xs) → BlocksValues ValueFits (blocks_of bs) →
+    HeapValues ValueFits (data_of xs) →
     start ≡ codes "tal 2\n" →
     middle ≡ start ++ render (heap_written 0 (data_of xs)) →
     text ≡ middle ++ render (blocks_written 0 (blocks_of bs)) → StandsFor text (parts bs xs)

@@ -15,7 +15,8 @@ use Rattle.t_text.specs.Grammar.{Is, is_none, is_more, End, Block, b_block, Bloc
 use Rattle.t_text.specs.Names.{spelled, bind, scope_after_all, body_of, end_of, block_of, Labels, item_labels}
 use Rattle.t_text.specs.NameFaults.{body_faults, end_faults, block_faults, items_faults}
 use Rattle.t_terms.specs.Whole.{WellFormedSeq, WellFormedBlock, WellFormedBlocks}
-use Rattle.t_writer.specs.Ints.{SeqFits, BlocksFit}
+use Rattle.t_terms.specs.Values.{SeqValues, BlocksValues}
+use Rattle.t_terms.specs.Whole.{ValueFits}
 use Rattle.t_writer.specs.Lexeme.{Reserved, LabelName, Sign, bytes}
 use Rattle.t_writer.specs.Written.{line_end, binds_written, file_written, instr_written, end_written, seq_written}
 use Rattle.t_writer.specs.Written.{block_written, blocks_written}
@@ -54,7 +55,7 @@ module _ (text : List ℕ) (p q : ℕ) (few : p ≤ 2 ^ 64) (small : q ≤ 2 ^ 6
     none : body_faults text names (scope d) body ≡ []
     none_last : end_faults text names (scope_after_all text body (scope d)) last.0 ≡ []
 
-  wrote_seq : (i d : ℕ) (c : TSeq) → d ≤ max_names → WellFormedSeq p q d c → SeqFits c →
+  wrote_seq : (i d : ℕ) (c : TSeq) → d ≤ max_names → WellFormedSeq p q d c → SeqValues ValueFits c →
       Written text i (seq_written d c) → WroteSeq i d c
   wrote_seq i d (Ends e) n h f w =
       let r = wrote_end text p q few small i d e n h f (written_append text i (end_written d e) (line_end ∷ []) w).0 in
@@ -103,7 +104,7 @@ module _ (text : List ℕ) (p q : ℕ) (few : p ≤ 2 ^ 64) (small : q ≤ 2 ^ 6
     pub none : block_faults text names raw ≡ []
     pub name : spelled text raw.name ≡ label_name l
 
-  pub wrote_block : (l i : ℕ) (b : TBlock) → l < 2 ^ 64 → WellFormedBlock p q b → SeqFits b.code →
+  pub wrote_block : (l i : ℕ) (b : TBlock) → l < 2 ^ 64 → WellFormedBlock p q b → SeqValues ValueFits b.code →
       Written text i (block_written l b) → WroteBlock l i b
   wrote_block l i b low h f w =
       let bs = binds_written 0 b.owes in
@@ -163,7 +164,8 @@ module _ (text : List ℕ) (p q : ℕ) (few : p ≤ 2 ^ 64) (small : q ≤ 2 ^ 6
     pub spell : (d : ℕ) → item_labels text l d (block_items raw) ≡ labels_from l (length bs)
     pub none : items_faults text names (before q l) (block_items raw) ≡ []
 
-  pub more_blocks : (l i : ℕ) (bs : List TBlock) → l + length bs ≤ 2 ^ 64 → WellFormedBlocks p q bs → BlocksFit bs →
+  pub more_blocks : (l i : ℕ) (bs : List TBlock) → l + length bs ≤ 2 ^ 64 → WellFormedBlocks p q bs →
+      BlocksValues ValueFits bs →
       Written text i (blocks_written l bs) → MoreBlocks l i bs
   more_blocks l i [] low h f w = record {
     raw = [];

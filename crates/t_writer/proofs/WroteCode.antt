@@ -2,13 +2,12 @@
 -- their depth and the labels those of the blocks in turn.
 use Rattle.std.proofs.Common.{◌≡◌, ◌≤◌, ◌^◌, pos, negsuc, ℕ, ◌+◌, List, [], ◌∷◌, ◌++◌, length, codes, true, refl, sym}
 use Rattle.std.proofs.Common.{ap, ap₂, ◌∙◌, arith, Some}
-use Rattle.std.proofs.lemmas.Int.{ints}
 use Rattle.idx_core.specs.declared.span.Span.{Span}
 use Rattle.idx_core.specs.declared.arith.Op.{Op}
 use Rattle.idx_core.specs.declared.arith.Op.TheVariants.{Add, Sub, Mul}
 use Rattle.idx_core.specs.Names.{Name}
 use Rattle.t_types.specs.Tree.{Ty}
-use Rattle.t_types.specs.WellFormed.{max_names, max_number}
+use Rattle.t_types.specs.WellFormed.{max_names}
 use Rattle.t_text.specs.declared.token.Kind.{Kind}
 use Rattle.t_text.specs.declared.token.Kind.TheVariants as k
 use Rattle.t_text.specs.declared.token.Token.{Token}
@@ -23,7 +22,8 @@ use Rattle.t_text.specs.Grammar.{i_unpack, End, e_jmp, e_halt}
 use Rattle.t_text.specs.Names.{Labels, spelled, named_by, base_of, value_of, instr_of, scope_after, end_of}
 use Rattle.t_text.specs.NameFaults.{base_faults, value_faults, instr_faults, end_faults}
 use Rattle.t_terms.specs.Whole.{WellFormedBase, WellFormedValue, WellFormedInstr, WellFormedEnd}
-use Rattle.t_writer.specs.Ints.{IntFits, BaseFits, ValueFits, InstrFits, EndFits}
+use Rattle.t_terms.specs.Values.{InstrValues, EndValues}
+use Rattle.t_terms.specs.Whole.{BaseFits, ValueFits}
 use Rattle.t_writer.specs.Lexeme.{Lexeme, Reserved, TypeName, LabelName, DataName, Register, Number, Sign, bytes}
 use Rattle.t_writer.specs.Written.{comma, space, type_written, types_written, list_written, base_written}
 use Rattle.t_writer.specs.Written.{value_written, op_written, instr_written, end_written}
@@ -37,10 +37,6 @@ use Rattle.t_writer.proofs.WroteTypes.{wrote_type, wrote_types}
 -- where a register ends that stands at a place
 abbrev after_reg : ℕ → ℕ → ℕ
 after_reg i r = i + length (bytes (Register r))
-
--- a field's number
-number_fits : (n : ℕ) → n ≤ max_number → IntFits (pos n)
-number_fits n h = (omega (arith, ints), omega (arith, ints))
 
 -- the word of an operation
 record WroteOp (i : ℕ) (op : Op) : Type 0 where
@@ -214,7 +210,7 @@ module _ (text : List ℕ) (p q : ℕ) (few : p ≤ 2 ^ 64) (small : q ≤ 2 ^ 6
     pub none : instr_faults text labels (scope d) raw.0 ≡ []
     pub after : scope_after text raw.0 (scope d) ≡ scope (tree_of.names_after x d)
 
-  pub wrote_instr : (i d : ℕ) (x : TInstr) → d ≤ max_names → WellFormedInstr p q d x → InstrFits x →
+  pub wrote_instr : (i d : ℕ) (x : TInstr) → d ≤ max_names → WellFormedInstr p q d x → InstrValues ValueFits x →
       Written text i (instr_written d x) → WroteInstr i d x
   wrote_instr i d (Arith op rd rs v) n h f w =
       let o = wrote_op i op in
@@ -276,7 +272,7 @@ module _ (text : List ℕ) (p q : ℕ) (few : p ≤ 2 ^ 64) (small : q ≤ 2 ^ 6
               (
                 h.1,
                 refl,
-                ((refl, refl, tt), tt, (number_fits x h.2, refl, ((refl, refl, tt), tt, tt))),
+                ((refl, refl, tt), tt, (h.2, refl, ((refl, refl, tt), tt, tt))),
               ),
             ),
           ),
@@ -353,7 +349,7 @@ module _ (text : List ℕ) (p q : ℕ) (few : p ≤ 2 ^ 64) (small : q ≤ 2 ^ 6
             (refl, refl, tt),
             tt,
             (
-              number_fits x h.1,
+              h.1,
               refl,
               ((refl, refl, tt), tt, ((refl, refl, tt), tt, (refl, tt, (h.2, refl, tt)))),
             ),
@@ -401,7 +397,7 @@ module _ (text : List ℕ) (p q : ℕ) (few : p ≤ 2 ^ 64) (small : q ≤ 2 ^ 6
     pub means : end_of text labels (scope d) raw.0 ≡ e
     pub none : end_faults text labels (scope d) raw.0 ≡ []
 
-  pub wrote_end : (i d : ℕ) (e : TEnd) → d ≤ max_names → WellFormedEnd p q d e → EndFits e →
+  pub wrote_end : (i d : ℕ) (e : TEnd) → d ≤ max_names → WellFormedEnd p q d e → EndValues ValueFits e →
       Written text i (end_written d e) → WroteEnd i d e
   wrote_end i d (Jmp v) n h f w =
       let r = wrote_value (i + 3 + 1) d v n h f w.1.1 in

@@ -17,7 +17,8 @@ use Rattle.t_text.specs.Grammar.{it_data, Items, its_more}
 use Rattle.t_text.specs.Names.{spelled, Labels, base_of, value_of, datum_of, data_of, item_labels}
 use Rattle.t_text.specs.NameFaults.{value_faults, data_faults, items_faults}
 use Rattle.t_terms.specs.Whole.{WellFormedValue, HasNoRegister, WellFormedDatum, WellFormedData, WellFormedHeap}
-use Rattle.t_writer.specs.Ints.{ValueFits, DataFit, HeapFits}
+use Rattle.t_terms.specs.Values.{DataValues, HeapValues}
+use Rattle.t_terms.specs.Whole.{ValueFits}
 use Rattle.t_writer.specs.Lexeme.{Reserved, DataName, Sign, bytes}
 use Rattle.t_writer.specs.Written.{comma, space, line_end, base_written, type_written, types_written, list_written}
 use Rattle.t_writer.specs.Written.{value_written, datum_written, data_fields_written, data_written, heap_written}
@@ -180,7 +181,7 @@ module _ (text : List ℕ) (p q : ℕ) (few : p ≤ 2 ^ 64) (small : q ≤ 2 ^ 6
       data_faults text names xs ≡ [] → data_faults text names (x ∷ xs) ≡ []
   one_more x xs e g = let a = rw append-nil at e in rw (a, g) refl
 
-  more_fields : (i nth : ℕ) (xs : TData) → WellFormedData p q xs → DataFit xs →
+  more_fields : (i nth : ℕ) (xs : TData) → WellFormedData p q xs → DataValues ValueFits xs →
       Written text i (data_fields_written (suc nth) xs) → MoreFields i nth xs
   more_fields i nth [] h f w = record {
     raw = [];
@@ -219,7 +220,7 @@ module _ (text : List ℕ) (p q : ℕ) (few : p ≤ 2 ^ 64) (small : q ≤ 2 ^ 6
     means : plain_fields (map (datum_of text names) raw) ≡ xs
     none : data_faults text names raw ≡ []
 
-  wrote_tuple : (i : ℕ) (xs : TData) → WellFormedData p q xs → DataFit xs →
+  wrote_tuple : (i : ℕ) (xs : TData) → WellFormedData p q xs → DataValues ValueFits xs →
       Written text (i + 1) (data_fields_written 0 xs) → WroteTuple i xs
   wrote_tuple i [] h f w = record {
     raw = [];
@@ -258,7 +259,7 @@ module _ (text : List ℕ) (p q : ℕ) (few : p ≤ 2 ^ 64) (small : q ≤ 2 ^ 6
     none : data_faults text names raw ≡ []
     spell : spelled text name ≡ data_name d
 
-  wrote_data : (d i : ℕ) (xs : TData) → d < 2 ^ 64 → WellFormedData p q xs → DataFit xs →
+  wrote_data : (d i : ℕ) (xs : TData) → d < 2 ^ 64 → WellFormedData p q xs → DataValues ValueFits xs →
       Written text i (data_written d xs) → WroteData d i xs
   wrote_data d i xs low h f w =
       let j = i + length (bytes (DataName d)) in
@@ -298,7 +299,8 @@ module _ (text : List ℕ) (p q : ℕ) (few : p ≤ 2 ^ 64) (small : q ≤ 2 ^ 6
     pub none : (more : List RawItem) → items_faults text names (data_before d) (raw ++ more)
         ≡ items_faults text names (data_before (d + length xs)) more
 
-  pub wrote_heap : (d i : ℕ) (xs : List TData) → d + length xs ≤ 2 ^ 64 → WellFormedHeap p q xs → HeapFits xs →
+  pub wrote_heap : (d i : ℕ) (xs : List TData) → d + length xs ≤ 2 ^ 64 → WellFormedHeap p q xs →
+      HeapValues ValueFits xs →
       Written text i (heap_written d xs) → WroteHeap d i xs
   wrote_heap d i [] low h f w =
       let e : d ≡ d + 0 = omega arith in

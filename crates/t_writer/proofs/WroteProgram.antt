@@ -10,10 +10,11 @@ use Rattle.t_text.specs.Raw.{RawBlock, RawData, RawItem, blocks_in, data_in, blo
 use Rattle.t_text.specs.Grammar.{bs_one, its_none, HasBlock, Program, p_blocks, p_items}
 use Rattle.t_text.specs.Names.{block_of, data_of, Labels, labels_of, program_of}
 use Rattle.t_text.specs.NameFaults.{items_faults, program_faults}
-use Rattle.t_terms.specs.Whole.{Whole}
+use Rattle.t_terms.specs.Whole.{WellFormedProgram}
 use Rattle.t_text.specs.Text.{StandsFor}
 use Rattle.t_text.proofs.ItemLaws.{blocks_in-append, data_in-append, blocks_alone, no_data_alone}
-use Rattle.t_writer.specs.Ints.{BlocksFit, HeapFits}
+use Rattle.t_terms.specs.Values.{BlocksValues, HeapValues}
+use Rattle.t_terms.specs.Whole.{ValueFits}
 use Rattle.t_writer.specs.Lexeme.{Lexeme, Reserved, Digit, render}
 use Rattle.t_writer.specs.Written.{block_written, blocks_written, heap_written, program_written, second_written}
 use Rattle.t_writer.proofs.Placed as placing
@@ -72,7 +73,8 @@ only_blocks bs = record { blocks = bs; heap = [] }
 
 -- a text in the first version
 module _ (text : List ℕ) (b : TBlock) (bs : List TBlock) (few : length (b ∷ bs) ≤ 2 ^ 64)
-    (h : Whole (only_blocks (b ∷ bs))) (f : BlocksFit (b ∷ bs)) (e : text ≡ render (program_written (b ∷ bs))) where
+    (h : WellFormedProgram (only_blocks (b ∷ bs))) (f : BlocksValues ValueFits (b ∷ bs))
+    (e : text ≡ render (program_written (b ∷ bs))) where
   stands_for : StandsFor text (only_blocks (b ∷ bs))
   stands_for =
       let n = length (b ∷ bs) in
@@ -110,14 +112,16 @@ module _ (text : List ℕ) (b : TBlock) (bs : List TBlock) (few : length (b ∷ 
       (program_is text (block_items raw) names raw [] (only_blocks (b ∷ bs)) spell (blocks_alone raw)
       (no_data_alone raw) (ap₂ (λ (c : TBlock) (cs : List TBlock). c ∷ cs) a.means r.means) refl)
 
-pub first_stands : (text : List ℕ) (bs : List TBlock) → length bs ≤ 2 ^ 64 → Whole (only_blocks bs) → BlocksFit bs →
+pub first_stands : (text : List ℕ) (bs : List TBlock) → length bs ≤ 2 ^ 64 → WellFormedProgram (only_blocks bs) →
+    BlocksValues ValueFits bs →
     text ≡ render (program_written bs) → StandsFor text (only_blocks bs)
 first_stands text [] few h f e = absurd (omega (arith, h.0))
 first_stands text (b ∷ bs) few h f e = stands_for text b bs few h f e
 
 -- a text in the second version
-pub second_stands : (text : List ℕ) (P : TProg) → length P.blocks ≤ 2 ^ 64 → length P.heap ≤ 2 ^ 64 → Whole P →
-    BlocksFit P.blocks → HeapFits P.heap → text ≡ render (second_written P) → StandsFor text P
+pub second_stands : (text : List ℕ) (P : TProg) → length P.blocks ≤ 2 ^ 64 → length P.heap ≤ 2 ^ 64 →
+    WellFormedProgram P →
+    BlocksValues ValueFits P.blocks → HeapValues ValueFits P.heap → text ≡ render (second_written P) → StandsFor text P
 second_stands text P few small h f g e =
     let p = length P.blocks in
     let q = length P.heap in

@@ -1,3 +1,2 @@
-pub mod Ints
 pub mod Lexeme
 pub mod Written

@@ -3,7 +3,6 @@ ghost use Rattle.std.specs.Prelude.{◌≡◌, ◌++◌, ℕ, OnOk};
 ghost use Rattle.t_terms.specs.Read.{body as body_of, end_of, block as block_of, blocks_of};
 ghost use Rattle.t_terms.specs.Spanned.{seq_of};
 ghost use Rattle.t_terms.specs.Whole.{WellFormedSeq, WellFormedBlock, WellFormedBlocks};
-ghost use Rattle.t_writer.specs.Ints.{SeqFits, BlocksFit};
 ghost use Rattle.t_writer.specs.Lexeme.{render};
 ghost use Rattle.t_writer.specs.Written.{seq_written, block_written, blocks_written};
 
@@ -21,9 +20,8 @@ fn write_code(
     depth: u64,
 ) -> Result<(), OutOfMemory>
     requires { (blocks heap : ℕ) × WellFormedSeq blocks heap depth (seq_of (body_of body.now) (end_of end.now)) }
-    ensures written { OnOk result (text.new.items ≡
+    ensures { OnOk result (text.new.items ≡
         text.old.items ++ render (seq_written depth (seq_of (body_of body.now) (end_of end.now)))) }
-    ensures ints { OnOk result (SeqFits (seq_of (body_of body.now) (end_of end.now))) }
 {
     let mut names = depth;
     for entry in body {
@@ -39,9 +37,8 @@ fn write_code(
 // A block by its number: a line for its label and what it takes, and then its code.
 fn write_block(text: &mut Vec<u8>, number: u64, block: &Block) -> Result<(), OutOfMemory>
     requires { (blocks heap : ℕ) × WellFormedBlock blocks heap (block_of block.now) }
-    ensures written { OnOk result (text.new.items ≡
+    ensures { OnOk result (text.new.items ≡
         text.old.items ++ render (block_written number (block_of block.now))) }
-    ensures ints { OnOk result (SeqFits (block_of block.now).code) }
 {
     write_name(text, b'L', number)?;
     text.extend_from_slice(b": code")?;
@@ -55,9 +52,8 @@ fn write_block(text: &mut Vec<u8>, number: u64, block: &Block) -> Result<(), Out
 // The blocks in turn.
 pub(crate) fn write_blocks(text: &mut Vec<u8>, blocks: &[Block]) -> Result<(), OutOfMemory>
     requires { (count heap : ℕ) × WellFormedBlocks count heap (blocks_of blocks.now) }
-    ensures written { OnOk result (text.new.items ≡
+    ensures { OnOk result (text.new.items ≡
         text.old.items ++ render (blocks_written 0 (blocks_of blocks.now))) }
-    ensures ints { OnOk result (BlocksFit (blocks_of blocks.now)) }
 {
     for (i, block) in blocks.iter().enumerate() {
         write_block(text, i as u64, block)?;

@@ -3,7 +3,6 @@ ghost use Rattle.std.specs.Prelude.{◌≡◌, ◌++◌, ◌∷◌, [], ℕ, OnO
 ghost use Rattle.t_terms.specs.Read.{instr as instr_of, end_of};
 ghost use Rattle.t_terms.specs.Whole.{WellFormedInstr, WellFormedEnd, WellFormedValue};
 ghost use Rattle.t_terms.specs.Read.{value as value_of};
-ghost use Rattle.t_writer.specs.Ints.{InstrFits, EndFits, ValueFits};
 ghost use Rattle.t_writer.specs.Lexeme.{Register, bytes, render};
 ghost use Rattle.t_writer.specs.Written.{comma, space, op_written, place_written, unpacked_written, value_written};
 ghost use Rattle.t_writer.specs.Written.{instr_written, end_written};
@@ -55,9 +54,8 @@ fn write_place(text: &mut Vec<u8>, r: u64, field: u64) -> Result<(), OutOfMemory
 // A register, a comma and a value.
 fn write_operands(text: &mut Vec<u8>, r: u64, v: &Value, depth: u64) -> Result<(), OutOfMemory>
     requires { (blocks heap : ℕ) × WellFormedValue blocks heap depth (value_of v.now) }
-    ensures written { OnOk result (text.new.items ≡
+    ensures { OnOk result (text.new.items ≡
         text.old.items ++ render (Register r ∷ (comma ∷ (space ∷ value_written depth (value_of v.now))))) }
-    ensures ints { OnOk result (ValueFits (value_of v.now)) }
 {
     write_target(text, r)?;
     write_value(text, v, depth)
@@ -78,9 +76,8 @@ fn write_unpacked(text: &mut Vec<u8>, rd: u64, depth: u64) -> Result<(), OutOfMe
 // An instruction inside `depth` type names.
 pub(crate) fn write_instr(text: &mut Vec<u8>, instr: &Instr, depth: u64) -> Result<(), OutOfMemory>
     requires { (blocks heap : ℕ) × WellFormedInstr blocks heap depth (instr_of instr.now) }
-    ensures written { OnOk result (text.new.items ≡
+    ensures { OnOk result (text.new.items ≡
         text.old.items ++ render (instr_written depth (instr_of instr.now))) }
-    ensures ints { OnOk result (InstrFits (instr_of instr.now)) }
 {
     match instr {
         Instr::Arith { op, rd, rs, v } => {
@@ -123,8 +120,7 @@ pub(crate) fn write_instr(text: &mut Vec<u8>, instr: &Instr, depth: u64) -> Resu
 // The end of a block.
 pub(crate) fn write_end(text: &mut Vec<u8>, end: &End, depth: u64) -> Result<(), OutOfMemory>
     requires { (blocks heap : ℕ) × WellFormedEnd blocks heap depth (end_of end.now) }
-    ensures written { OnOk result (text.new.items ≡ text.old.items ++ render (end_written depth (end_of end.now))) }
-    ensures ints { OnOk result (EndFits (end_of end.now)) }
+    ensures { OnOk result (text.new.items ≡ text.old.items ++ render (end_written depth (end_of end.now))) }
 {
     match end {
         End::Jmp(v) => {

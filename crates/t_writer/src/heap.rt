@@ -5,7 +5,6 @@ ghost use Rattle.t_types.specs.WellFormed.{WellFormed};
 ghost use Rattle.t_terms.specs.Read.{value as value_of, data_fields, data_of};
 ghost use Rattle.t_terms.specs.Spanned.{plain_fields};
 ghost use Rattle.t_terms.specs.Whole.{WellFormedValue, WellFormedData, WellFormedHeap};
-ghost use Rattle.t_writer.specs.Ints.{ValueFits, DataFit, HeapFits};
 ghost use Rattle.t_writer.specs.Lexeme.{render};
 ghost use Rattle.t_writer.specs.Written.{datum_written, data_fields_written, data_written, heap_written};
 
@@ -20,9 +19,8 @@ use t_types::TType;
 fn write_datum(text: &mut Vec<u8>, value: &Value, ty: &TType) -> Result<(), OutOfMemory>
     requires value { (blocks heap : ℕ) × WellFormedValue blocks heap 0 (value_of value.now) }
     requires ty { WellFormed 0 (tree ty.now) }
-    ensures written { OnOk result (text.new.items ≡
+    ensures { OnOk result (text.new.items ≡
         text.old.items ++ render (datum_written (record { value = value_of value.now; ty = tree ty.now }))) }
-    ensures ints { OnOk result (ValueFits (value_of value.now)) }
 {
     write_value(text, value, 0)?;
     text.extend_from_slice(b" : ")?;
@@ -33,9 +31,8 @@ fn write_datum(text: &mut Vec<u8>, value: &Value, ty: &TType) -> Result<(), OutO
 // The fields of a data tuple.
 fn write_data_fields(text: &mut Vec<u8>, fields: &[(Value, TType, Span)]) -> Result<(), OutOfMemory>
     requires { (blocks heap : ℕ) × WellFormedData blocks heap (plain_fields (data_fields fields.now)) }
-    ensures written { OnOk result (text.new.items ≡
+    ensures { OnOk result (text.new.items ≡
         text.old.items ++ render (data_fields_written 0 (plain_fields (data_fields fields.now)))) }
-    ensures ints { OnOk result (DataFit (plain_fields (data_fields fields.now))) }
 {
     for (i, field) in fields.iter().enumerate() {
         write_separator(text, i)?;
@@ -51,9 +48,8 @@ fn write_data(
     fields: &[(Value, TType, Span)],
 ) -> Result<(), OutOfMemory>
     requires { (blocks heap : ℕ) × WellFormedData blocks heap (plain_fields (data_fields fields.now)) }
-    ensures written { OnOk result (text.new.items ≡
+    ensures { OnOk result (text.new.items ≡
         text.old.items ++ render (data_written number (plain_fields (data_fields fields.now)))) }
-    ensures ints { OnOk result (DataFit (plain_fields (data_fields fields.now))) }
 {
     write_name(text, b'D', number)?;
     text.extend_from_slice(b": data <")?;
@@ -65,9 +61,8 @@ fn write_data(
 // The data tuples in turn.
 pub(crate) fn write_heap(text: &mut Vec<u8>, heap: &[Data]) -> Result<(), OutOfMemory>
     requires { (blocks count : ℕ) × WellFormedHeap blocks count (data_of heap.now) }
-    ensures written { OnOk result (text.new.items ≡
+    ensures { OnOk result (text.new.items ≡
         text.old.items ++ render (heap_written 0 (data_of heap.now))) }
-    ensures ints { OnOk result (HeapFits (data_of heap.now)) }
 {
     for (i, tuple) in heap.iter().enumerate() {
         write_data(text, i as u64, &tuple.fields)?;

@@ -4,7 +4,6 @@ ghost use Rattle.t_types.specs.Read.{types as types_of};
 ghost use Rattle.t_types.specs.WellFormed.{WellFormedTypes};
 ghost use Rattle.t_terms.specs.Read.{base as base_of, value as value_of};
 ghost use Rattle.t_terms.specs.Whole.{WellFormedValue};
-ghost use Rattle.t_writer.specs.Ints.{BaseFits, ValueFits};
 ghost use Rattle.t_writer.specs.Lexeme.{bytes, render};
 ghost use Rattle.t_writer.specs.Written.{base_written, args_written, value_written};
 
@@ -17,8 +16,7 @@ use t_types::TType;
 
 // A base of a value.
 fn write_base(text: &mut Vec<u8>, base: &Base) -> Result<(), OutOfMemory>
-    ensures written { OnOk result (text.new.items ≡ text.old.items ++ bytes (base_written (base_of base.now))) }
-    ensures ints { BaseFits (base_of base.now) }
+    ensures { OnOk result (text.new.items ≡ text.old.items ++ bytes (base_written (base_of base.now))) }
 {
     match base {
         Base::Reg(r) => write_name(text, b'r', *r),
@@ -42,8 +40,7 @@ fn write_args(text: &mut Vec<u8>, args: &[TType], depth: u64) -> Result<(), OutO
 // A value inside `depth` type names.
 pub(crate) fn write_value(text: &mut Vec<u8>, v: &Value, depth: u64) -> Result<(), OutOfMemory>
     requires { (blocks heap : ℕ) × WellFormedValue blocks heap depth (value_of v.now) }
-    ensures written { OnOk result (text.new.items ≡ text.old.items ++ render (value_written depth (value_of v.now))) }
-    ensures ints { OnOk result (ValueFits (value_of v.now)) }
+    ensures { OnOk result (text.new.items ≡ text.old.items ++ render (value_written depth (value_of v.now))) }
 {
     match v {
         Value::Plain { base, types } => {

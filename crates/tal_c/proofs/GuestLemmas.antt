@@ -3,7 +3,7 @@ use Rattle.std.proofs.Common.{◌≡◌, ℕ, ◌+◌, ◌≤◌, max, min, List
 use Rattle.std.proofs.Common.{sym, ap, ◌∙◌, subst, inl, inr}
 use Rattle.std.proofs.lemmas.Option.{none-some, same_Some}
 use Rattle.t_terms.specs.Tree.{TProg}
-use Rattle.t_terms.specs.Whole.{Whole}
+use Rattle.t_terms.specs.Whole.{WellFormedProgram}
 use Rattle.t_rules.specs.Rules.{Accepted}
 use Rattle.t_machine.specs.declared.machine.Machine.{Machine}
 use Rattle.t_machine.specs.declared.machine.Ran.{Ran}
@@ -65,13 +65,14 @@ stays_within old new before after x y had is_x has is_y within =
 -- from the machine before the run to the one after it
 module _ (fuel : ℕ) (old new : Guest) (before after : Machine) (ran : Ran) (answer : Answer)
     (had : Has old before) (has : Has new after) (is : answer ≡ of_run fuel ran)
-    (stands : (P : TProg) → Whole P → Accepted P → (m : ℕ) → Stands P m before →
+    (stands : (P : TProg) → WellFormedProgram P → Accepted P → (m : ℕ) → Stands P m before →
     Stands P (m + steps_made fuel ran) after)
-    (runs : (P : TProg) → Whole P → Accepted P → (m : ℕ) → Stands P m before → RanFrom P m fuel ran)
-    (lowers : (P : TProg) → Whole P → Accepted P → (m : ℕ) → Stands P m before →
+    (runs : (P : TProg) → WellFormedProgram P → Accepted P → (m : ℕ) → Stands P m before → RanFrom P m fuel ran)
+    (lowers : (P : TProg) → WellFormedProgram P → Accepted P → (m : ℕ) → Stands P m before →
     LowersAlong P m (steps_made fuel ran) before after)
-    (wants : (P : TProg) → Whole P → Accepted P → (m : ℕ) → Stands P m before → WantsUncovered P m before ran)
-    (reached : (P : TProg) → Whole P → Accepted P → (m : ℕ) → Stands P m before → StopsReached after ran)
+    (wants : (P : TProg) → WellFormedProgram P → Accepted P → (m : ℕ) → Stands P m before → WantsUncovered P m before
+    ran)
+    (reached : (P : TProg) → WellFormedProgram P → Accepted P → (m : ℕ) → Stands P m before → StopsReached after ran)
     (within : StaysWithin before after) where
   ran_on : (P : TProg) (n : ℕ) → IsAt P n old → RunsOn P n fuel old new answer
   ran_on P n a =

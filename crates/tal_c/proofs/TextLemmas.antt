@@ -3,7 +3,7 @@ use Rattle.std.proofs.Common.{◌≡◌, ℕ, List, inl, inr}
 use Rattle.t_terms.specs.ReadProgram.{program, spanned_program}
 use Rattle.t_terms.specs.Spanned.{plain_program}
 use Rattle.t_text.specs.Text.{ReadsAs, IsFirstFault}
-use Rattle.t_terms.specs.Whole.{Whole}
+use Rattle.t_terms.specs.Whole.{WellFormedProgram}
 use Rattle.t_terms.specs.declared.program.TProgram.{TProgram}
 use Rattle.t_terms.specs.declared.fault.TFault.{TFault}
 use Rattle.t_terms.specs.declared.fault.TFault.TheVariants.{Memory, Refused}
@@ -29,7 +29,7 @@ unaccepted text p (Refused code span) read says =
     inr (record { program = spanned_program p; read = read; fault = says })
 
 pub loaded : (text : List ℕ) (p : TProgram) (machine : Machine) → IsAcceptedText text (spanned_program p) →
-    Whole (program p) → Stands (program p) 0 machine → IsUncapped machine.heap → IsLoaded text machine
+    WellFormedProgram (program p) → Stands (program p) 0 machine → IsUncapped machine.heap → IsLoaded text machine
 loaded text p machine accepted whole stands uncapped = record {
   program = spanned_program p;
   accepted = accepted;
@@ -39,7 +39,7 @@ loaded text p machine accepted whole stands uncapped = record {
 }
 
 pub accepted_told : NothingSticks → (text : List ℕ) (p : TProgram) (answer : Answer) →
-    IsAcceptedText text (spanned_program p) → Whole (program p) → answer ≡ bare done → CheckTold text answer
+    IsAcceptedText text (spanned_program p) → WellFormedProgram (program p) → answer ≡ bare done → CheckTold text answer
 accepted_told sticks text p answer accepted whole is = inl (record {
   program = spanned_program p;
   accepted = accepted;

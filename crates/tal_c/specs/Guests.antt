@@ -4,7 +4,7 @@ use Rattle.idx_core.specs.declared.memory.OutOfMemory.{OutOfMemory}
 use Rattle.t_terms.specs.declared.shown.Shown.{Shown}
 use Rattle.t_terms.specs.Tree.{TProg}
 use Rattle.t_terms.specs.Spanned.{SProg, plain_program}
-use Rattle.t_terms.specs.Whole.{Whole}
+use Rattle.t_terms.specs.Whole.{WellFormedProgram}
 use Rattle.t_rules.specs.Rules.{Accepted}
 use Rattle.t_machine.specs.declared.machine.Machine.{Machine}
 use Rattle.t_machine.specs.declared.machine.Ran.{Ran}
@@ -28,7 +28,7 @@ empty = record { machine = None }
 pub record IsAt (P : TProg) (n : ℕ) (guest : Guest) : Type 0 where
   pub machine : Machine
   pub has : guest.machine ≡ Some machine
-  pub whole : Whole P
+  pub whole : WellFormedProgram P
   pub accepted : Accepted P
   pub stands : Stands P n machine
 

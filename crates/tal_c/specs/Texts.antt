@@ -7,7 +7,7 @@ use Rattle.t_terms.specs.declared.fault.TFault.TheVariants.{Memory, Refused}
 use Rattle.t_terms.specs.Spanned.{SProg, plain_program}
 use Rattle.t_terms.specs.ReadProgram.{spanned_program}
 use Rattle.t_text.specs.Text as reading
-use Rattle.t_terms.specs.Whole.{Whole}
+use Rattle.t_terms.specs.Whole.{WellFormedProgram}
 use Rattle.t_rules.specs.Rules.{Accepted}
 use Rattle.t_rules.specs.Faults as checking
 use Rattle.t_rules.specs.Machine.{NeverSticks}
@@ -44,7 +44,7 @@ ChecksText text (Err fault) = IsFaultOf text fault
 pub record IsLoaded (text : List ℕ) (machine : Machine) : Type 0 where
   pub program : SProg
   pub accepted : IsAcceptedText text program
-  pub whole : Whole (plain_program program)
+  pub whole : WellFormedProgram (plain_program program)
   pub stands : Stands (plain_program program) 0 machine
   pub uncapped : IsUncapped machine.heap
 

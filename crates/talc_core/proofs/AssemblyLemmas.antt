@@ -1,7 +1,7 @@
 -- What the checking of an assembly text says of its program.
 use Rattle.std.proofs.Common.{◌≡◌, ◌≤◌, ℕ, List, refl, sym, subst, inr}
 use Rattle.t_terms.specs.ReadProgram.{program, spanned_program}
-use Rattle.t_terms.specs.Whole.{Whole}
+use Rattle.t_terms.specs.Whole.{WellFormedProgram}
 use Rattle.t_text.specs.Text.{most_open, ReadsBack}
 use Rattle.t_terms.specs.Nesting.{nesting}
 use Rattle.t_text.specs.NestingLaws.{KeepsByNesting}
@@ -30,7 +30,7 @@ refused text p (Refused code span) why read says is =
     subst (RefusedBy AnAssembly text) (sym is)
     (inr (record { program = spanned_program p; read = read; fault = says }))
 
-pub accepted_shown : NothingSticks → (text line : List ℕ) (p : TProgram) → Whole (program p) →
+pub accepted_shown : NothingSticks → (text line : List ℕ) (p : TProgram) → WellFormedProgram (program p) →
     IsAcceptedText text (spanned_program p) → line ≡ accepted_line → AcceptedShown text line
 accepted_shown sticks text line p whole accepted is = record {
   program = spanned_program p;

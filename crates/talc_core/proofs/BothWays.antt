@@ -7,7 +7,7 @@ use Rattle.f_terms.specs.Tm.{Term}
 use Rattle.f_terms.specs.Typing.{IsProgram}
 use Rattle.f_terms.specs.Eval.{VInt, Gives, Spent, Evaluates, IsSpent}
 use Rattle.t_terms.specs.Tree.{TProg, Then, Ends, Jmp, Halt}
-use Rattle.t_terms.specs.Whole.{Whole}
+use Rattle.t_terms.specs.Whole.{WellFormedProgram}
 use Rattle.t_rules.specs.Rules.{Accepted}
 use Rattle.t_rules.specs.Machine.{State, At, Where, Step, Place, After, HaltedWith}
 use Rattle.t_rules.specs.Machine.{HaltsWithin, Halts, GoesOnAfter}
@@ -37,7 +37,7 @@ Earlier P n = (k : ℕ) × (s : State) × (p : Place) × (i : ℤ) × (k < n) ×
 
 module _ (laws : TextLaws) where
   -- an accepted program is halted after so many instructions, or goes on
-  pub settled : (P : TProg) → Whole P → Accepted P → (n : ℕ) → Halted P n ⊎ GoesOnAfter P n
+  pub settled : (P : TProg) → WellFormedProgram P → Accepted P → (n : ℕ) → Halted P n ⊎ GoesOnAfter P n
   settled P whole accepted n = ⊎_elim
       (λ (x : Here P n). ⊎_elim
       (λ (y : ((i : ℤ) × HaltedWith x.0 i) × NoStep P x.0). inl (y.0.0, (n, omega arith, (x.0, x.1, x.2, y.0.1))))
@@ -57,7 +57,7 @@ module _ (laws : TextLaws) where
       let most = halts.1 in going_not_halted laws P halts.0 m i halts.2 on (omega (arith, most, le))
 
   -- a term and a program that mean the same
-  module _ (e : Term) (P : TProg) (program : IsProgram e) (whole : Whole P) (accepted : Accepted P)
+  module _ (e : Term) (P : TProg) (program : IsProgram e) (whole : WellFormedProgram P) (accepted : Accepted P)
       (meaning : ∥ SameMeaning e P ∥₁) where
     same_integer : (n m : ℕ) (i j : ℤ) → Evaluates e n i → HaltsWithin P m j → i ≡ j
     same_integer n m i j evaluates halts =

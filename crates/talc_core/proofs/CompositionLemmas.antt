@@ -9,7 +9,7 @@ use Rattle.f_terms.specs.Eval.{Empty, VInt, Evaluates}
 use Rattle.f_terms.specs.Laws.{OneAnswer}
 use Rattle.t_terms.specs.Spanned.{SProg, plain_program}
 use Rattle.t_terms.specs.Tree.{TProg}
-use Rattle.t_terms.specs.Whole.{Whole}
+use Rattle.t_terms.specs.Whole.{WellFormedProgram}
 use Rattle.t_rules.specs.Rules.{Accepted}
 use Rattle.t_rules.specs.Machine.{HaltsWithin, GoesOnAfter}
 use Rattle.t_rules.specs.Times.{program_size}
@@ -76,8 +76,8 @@ module _ (laws : TextLaws) (source target : List ℕ) (made : IsCompiled source 
       RunsSeldom (plain term) (plain_program program)
   runs_seldom = both RunsSeldom made.seldom
 
-  pub whole : (program : SProg) → IsAcceptedText target program → Whole (plain_program program)
-  whole program accepted = subst Whole (sym (same_assembly program accepted)) made.whole
+  pub whole : (program : SProg) → IsAcceptedText target program → WellFormedProgram (plain_program program)
+  whole program accepted = subst WellFormedProgram (sym (same_assembly program accepted)) made.whole.0
 
 pub compiled_means_the_same : TextLaws → CompiledMeansTheSame
 compiled_means_the_same laws source target made term checked program accepted =
@@ -200,7 +200,7 @@ upgraded_is_the_same laws source target made old new accepted read =
 pub upgraded_never_sticks : TextLaws → UpgradedNeverSticks
 upgraded_never_sticks laws source target made program accepted =
     let same = reads_same laws (plain_program made.program) target made.written program accepted.0 in
-    laws.nothing_sticks (plain_program program) (subst Whole (sym same) made.whole) accepted.1
+    laws.nothing_sticks (plain_program program) (subst WellFormedProgram (sym same) made.whole.0) accepted.1
 
 -- what is shown of one text is shown of another whose program is the same
 shows_the_same : (a b : List ℕ) (there : SProg) → IsAcceptedText b there →

@@ -12,7 +12,7 @@ use Rattle.t_types.specs.Fits.{lookup}
 use Rattle.t_types.specs.Read.{file}
 use Rattle.t_types.specs.declared.types.TType.{TType}
 use Rattle.t_terms.specs.Tree.{TSeq, TProg}
-use Rattle.t_terms.specs.Whole.{Whole}
+use Rattle.t_terms.specs.Whole.{WellFormedProgram}
 use Rattle.t_terms.specs.declared.shown.Shown.{Shown}
 use Rattle.t_rules.specs.Rules.{Accepted}
 use Rattle.t_rules.specs.Known.{code_at}
@@ -106,7 +106,7 @@ code_there : (P : TProg) (p : HeapTypes) (u : State) (block index : ℕ) → Sta
 code_there P p (At h r c) block index typed = (typed.1.body, typed.1.at)
 
 -- a machine that stands for the state after m steps, at its place
-module _ (P : TProg) (whole : Whole P) (acc : Accepted P) (m : ℕ) (x : Machine) (stands : Stands P m x)
+module _ (P : TProg) (whole : WellFormedProgram P) (acc : Accepted P) (m : ℕ) (x : Machine) (stands : Stands P m x)
     (block index : ℕ) (place : IsPlaceAfter P m block index) where
   -- the words of the machine's registers are those of the state
   erased_is : EAt stands.erased.heap (words_in x) stands.rest ≡ erase stands.erased.erased.1.0

@@ -8,7 +8,7 @@ use Rattle.text_core.specs.Tokens.{Tokens, Cut, c_end, c_gap, c_token, Next, n_s
 use Rattle.text_core.specs.Tokens.{s_plain, s_negative, s_sign, s_pair}
 use Rattle.t_types.specs.WellFormed.{max_number}
 use Rattle.t_terms.specs.Spanned.{SProg, plain_program}
-use Rattle.t_terms.specs.Whole.{Whole}
+use Rattle.t_terms.specs.Whole.{WellFormedProgram}
 use Rattle.t_text.specs.Text.{Stands}
 use Rattle.t_reader.proofs.Fitting.{fits_Program, kept_cut}
 use Rattle.t_reader.proofs.Well.{whole_program}
@@ -40,8 +40,9 @@ few_tokens (c_token {i} {n} {k} {s} next keeps rest) =
     let l = shorter next in
     omega (arith, h, l)
 
-pub whole_text : (text : List ℕ) (P : SProg) → length text ≤ max_number → Stands text P → Whole (plain_program P)
+pub whole_text : (text : List ℕ) (P : SProg) → length text ≤ max_number → Stands text P →
+    WellFormedProgram (plain_program P)
 whole_text text P short h =
     let few = few_tokens h.cut in
     let k = fits_Program h.shape (kept_cut h.cut) (omega (arith, few, short)) in
-    subst (λ (P : SProg). Whole (plain_program P)) (sym h.is) (whole_program text h.raw k.0 k.1 h.named)
+    subst (λ (P : SProg). WellFormedProgram (plain_program P)) (sym h.is) (whole_program text h.raw k.0 k.1 h.named)

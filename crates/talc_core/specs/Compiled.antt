@@ -11,11 +11,11 @@ use Rattle.talc_core.specs.FirstFault.{IsChecked}
 use Rattle.talc_core.specs.Written.{IsWritten}
 
 -- The source text is a text of a program, and the target text the one that is written of an assembly program. That one
--- is well formed, and the typing rules accept it. It means the same: it halts with an integer exactly where the source
--- evaluates to it, in no fewer instructions than turns. Where n turns are enough for the source, each place of it is
--- executed at most n + 1 times, so that it halts within n + 1 times the number of its instructions and jumps. How it
--- comes of the source is not said here. What stands between bars is promised as a fact alone: a proof of it holds a
--- derivation or a number of steps, and none is handed out.
+-- is well formed, its integers have 64 bits, and the typing rules accept it. It means the same: it halts with an
+-- integer exactly where the source evaluates to it, in no fewer instructions than turns. Where n turns are enough for
+-- the source, each place of it is executed at most n + 1 times, so that it halts within n + 1 times the number of its
+-- instructions and jumps. How it comes of the source is not said here. What stands between bars is promised as a fact
+-- alone: a proof of it holds a derivation or a number of steps, and none is handed out.
 pub record IsCompiled (source target : List ℕ) : Type 0 where
   pub term : Tm
   pub program : TProg

@@ -2,7 +2,7 @@
 use Rattle.std.specs.Prelude.{◌≡◌, ◌≤◌, ◌+◌, ◌-◌, ◌++◌, ℕ, zero, suc, ℤ, List, [], ◌∷◌, Some, length}
 use Rattle.t_types.specs.Tree.{TFile, NoRegs, MoreRegs}
 use Rattle.t_terms.specs.Tree.{TProg}
-use Rattle.t_terms.specs.Whole.{Whole}
+use Rattle.t_terms.specs.Whole.{WellFormedProgram}
 use Rattle.t_terms.specs.declared.shown.Shown.{Shown}
 use Rattle.t_rules.specs.Rules.{Accepted}
 use Rattle.t_rules.specs.Machine.{State, Spot, After, HaltedAfter, GoesOnAfter}
@@ -76,5 +76,5 @@ OneLine = (P : TProg) (m : ℕ) (a b : List ℕ) → IsLine P m a → IsLine P m
 -- state's heap, one of a code type the label of a block
 abbrev pub LinesShowKinds : Type 0
 LinesShowKinds =
-    (P : TProg) → Whole P → Accepted P → (m : ℕ) (line : List ℕ) (l : IsLine P m line) →
+    (P : TProg) → WellFormedProgram P → Accepted P → (m : ℕ) (line : List ℕ) (l : IsLine P m line) →
     AreOfKinds (length P.blocks) (length (heap_of l.state)) l.words l.file

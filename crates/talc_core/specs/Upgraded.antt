@@ -5,7 +5,8 @@ use Rattle.t_terms.specs.Whole.{Whole}
 use Rattle.talc_core.specs.FirstFault.{IsAcceptedText}
 use Rattle.talc_core.specs.Written.{IsWritten}
 
--- The source text stands for a well-formed program that the typing rules accept, within the limit on open constructs.
+-- The source text stands for a well-formed program with integers of 64 bits that the typing rules accept, within the
+-- limit on open constructs.
 -- The target text is the one that is written of that program, places aside.
 pub record IsUpgraded (source target : List ℕ) : Type 0 where
   pub program : SProg

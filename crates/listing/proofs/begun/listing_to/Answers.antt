@@ -14,7 +14,7 @@ returns-then-is_before_blocks c =
 pub seal-checked-requires : goal.seal-checked-requires
 seal-checked-requires c =
     ∣ subst (λ (P : SProg). Accepted (plain_program P)) (sym c.in_ok-shorter.ensures)
-    (c.cut_is_accepted.ensures (spanned_program c.args.program) c.requires.0 c.args.place c.args.program.whole
+    (c.cut_is_accepted.ensures (spanned_program c.args.program) c.requires.0 c.args.place c.args.program.whole.0
     c.requires.1 (sym c.is_before_blocks.ensures ∙ c.if-is_before_blocks.false)) ∣₁
 
 pub returns : goal.returns

@@ -1,7 +1,7 @@
 use Rattle.std.proofs.Common.{◌≡◌, List, sym, ap, subst}
 use Rattle.idx_core.specs.declared.span.Span.{Span}
 use Rattle.t_terms.specs.Spanned.{SBlock, SProg, plain_program}
-use Rattle.t_terms.specs.Whole.{Whole}
+use Rattle.t_terms.specs.Whole.{WellFormedProgram}
 use Rattle.t_terms.specs.Read.{spanned_blocks, spanned_heap}
 use Rattle.t_terms.specs.ReadProgram.{spanned_program}
 use Rattle.t_terms.specs.declared.block.Block.{Block}
@@ -19,14 +19,12 @@ made : (p : TProgram) (place : Span) (bs : List Block) →
     beside p (spanned_blocks bs) ≡ cut place (spanned_program p)
 made p place bs is = ap (beside p) is
 
-pub invariant_of-result : goal.invariant_of-result
-invariant_of-result c =
+pub new-requires : goal.new-requires
+new-requires c =
     let p = c.args.program in
     let is = made p c.args.place c.in_ok-made.made.items c.in_ok-made.ensures in
-    record {
-      whole = subst (λ (Q : SProg). Whole (plain_program Q)) (sym is)
-          (cut_whole c.args.place (spanned_program p) p.whole);
-    }
+    subst (λ (Q : SProg). WellFormedProgram (plain_program Q)) (sym is)
+    (cut_whole c.args.place (spanned_program p) p.whole.0)
 
 pub returns : goal.returns
 returns c = made c.args.program c.args.place c.in_ok-made.made.items c.in_ok-made.ensures

@@ -34,7 +34,7 @@ returns-clause-compiled c =
     (c.generated_programs_are_by_rules.ensures (A.program_in a) (A.main_in a) bound.0.0))
     (is_made e k d (H.blocks_in h) (H.main_in h) (A.program_in a) (A.main_in a) (program c.in_ok-generated.generated)
     c.in_ok-converted.ensures.tree closed.same hoisted.blocks hoisted.main allocated.program allocated.main made.is)
-    accepted keeps c.in_ok-generated.generated.whole)))))
+    accepted keeps c.in_ok-generated.generated.whole.0)))))
 
 pub returns-clause-entered : goal.returns-clause-entered
 returns-clause-entered c =
@@ -59,7 +59,7 @@ returns-clause-entered c =
     (c.generated_programs_are_by_rules.ensures (A.program_in a) (A.main_in a) bound.0.0))
     (is_made e k d (H.blocks_in h) (H.main_in h) (A.program_in a) (A.main_in a) (program c.in_ok-generated.generated)
     c.in_ok-converted.ensures.tree closed.same hoisted.blocks hoisted.main allocated.program allocated.main made.is)
-    accepted keeps c.in_ok-generated.generated.whole)))))
+    accepted keeps c.in_ok-generated.generated.whole.0)))))
 
 pub returns-clause-made : goal.returns-clause-made
 returns-clause-made c =

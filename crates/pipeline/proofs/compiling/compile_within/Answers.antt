@@ -41,7 +41,7 @@ returns-then-is_within-clause-compiled c =
     let seldom = c.places_run_seldom.ensures in
     subst (λ (x : TProgram). ∥ IsCompilationWithin k e (program x) ∥₁) (sym c.seal.ensures)
     (∥∥₁_map₂ c.in_ok-made.ensures.compiled c.in_ok-made.ensures.entered (λ made entered.
-    let spills = c.few_registers_may_stay.ensures k P c.in_ok-made.made.whole made.accepted within in
+    let spills = c.few_registers_may_stay.ensures k P c.in_ok-made.made.whole.0 made.accepted within in
     bounded k e P P (λ (p : Place). p) times seldom made entered spills (λ h. refl) (λ above. absurd (above within))
     (record {
       stays = λ h. (c.in_ok-made.ensures.work, c.in_ok-made.ensures.weights);

@@ -18,7 +18,7 @@ check_block-requires-clause-formed c =
     let i = c.loop-i.i in
     let x = c.index-blocks-i.result in
     formed_at p i x (subst (λ (xs : List Block). i < length xs) c.requires.blocks c.loop-i-test.true)
-    (subst (λ (xs : List Block). x ≡ get_or xs i x) c.requires.blocks c.index-blocks-i.is) p.whole
+    (subst (λ (xs : List Block). x ≡ get_or xs i x) c.requires.blocks c.index-blocks-i.is) p.whole.0
 
 pub check_block-requires-clause-labels : goal.check_block-requires-clause-labels
 check_block-requires-clause-labels c =

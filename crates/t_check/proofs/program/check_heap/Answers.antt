@@ -23,7 +23,7 @@ check_data-requires-clause-formed c =
     let x = c.tuple-item.result in
     subst (λ (xs : List Field). FormedData p (data_fields xs)) (sym c.deref.ensures.value)
     (formed_data_at p i x (subst (λ (xs : List Data). i < length xs) c.requires.heap c.loop-tuple-test.true)
-    (subst (λ (xs : List Data). x ≡ get_or xs i x) c.requires.heap c.tuple-item.is) p.whole)
+    (subst (λ (xs : List Data). x ≡ get_or xs i x) c.requires.heap c.tuple-item.is) p.whole.0)
 
 pub check_data-requires-clause-place : goal.check_data-requires-clause-place
 check_data-requires-clause-place c =

@@ -22,7 +22,7 @@ check_blocks-requires-clause-labels c =
 pub returns-then-not-takes_nothing : goal.returns-then-not-takes_nothing
 returns-then-not-takes_nothing c =
     let p = c.args.program.now in
-    let some = p.whole.0 in
+    let some = p.whole.0.0 in
     let lt : 0 < length p.blocks.items = omega (arith, blocks_count p.blocks.items) in
     subst (λ (r : Result (Unit {0}) Refusal). IsProgram (spanned_program p) c.args.types.now r) (sym c.refused.ensures)
     (first_fault p c.index-first.result.now lt c.index-first.ensures
@@ -31,7 +31,7 @@ returns-then-not-takes_nothing c =
 pub returns : goal.returns
 returns c =
     let p = c.args.program.now in
-    let some = p.whole.0 in
+    let some = p.whole.0.0 in
     let lt : 0 < length p.blocks.items = omega (arith, blocks_count p.blocks.items) in
     let first = first_takes p.blocks.items c.index-first.result.now lt c.index-first.ensures
     (c.if-not-takes_nothing.ensures.0 refl) in
@@ -45,7 +45,7 @@ returns c =
 pub returns-in_err-check_heap : goal.returns-in_err-check_heap
 returns-in_err-check_heap c =
     let p = c.args.program.now in
-    let some = p.whole.0 in
+    let some = p.whole.0.0 in
     let lt : 0 < length p.blocks.items = omega (arith, blocks_count p.blocks.items) in
     let first = first_takes p.blocks.items c.index-first.result.now lt c.index-first.ensures
     (c.if-not-takes_nothing.ensures.0 refl) in

@@ -26,7 +26,7 @@ load_code-requires c =
       length P.blocks,
       subst (λ q. WellFormedBlocks (length P.blocks) q (blocks_of c.deref-2.result.now)) count
           (subst (λ bs. WellFormedBlocks (length P.blocks) (length P.heap) (blocks_of bs))
-          (sym c.deref-2.ensures.value) p.whole.1),
+          (sym c.deref-2.ensures.value) p.whole.0.1),
     )
 
 pub load_heap-requires : goal.load_heap-requires
@@ -39,7 +39,7 @@ load_heap-requires c =
       length P.blocks,
       subst (λ q. WellFormedHeap (length P.blocks) q (data_of c.deref-4.result.now)) count
           (subst (λ xs. WellFormedHeap (length P.blocks) (length P.heap) (data_of xs))
-          (sym c.deref-4.ensures.value) p.whole.2),
+          (sym c.deref-4.ensures.value) p.whole.0.2),
     )
 
 pub invariant_of-result : goal.invariant_of-result
@@ -48,7 +48,7 @@ invariant_of-result c =
     let ss = c.in_ok-starts.starts.items in
     let starts_are = c.in_ok-starts.ensures
     ∙ ap (λ (ds : List Data). starts_from 0 (tuples_of ds)) (c.deref.ensures.value ∙ sym c.deref-4.ensures.value) in
-    let shows = starts c.programs_keep_laws.ensures p p.whole.0 c.deref-2.result.now
+    let shows = starts c.programs_keep_laws.ensures p p.whole.0.0 c.deref-2.result.now
     c.deref-2.ensures.value c.in_ok-code.code c.in_ok-code.ensures.code c.in_ok-code.ensures.laid
     c.in_ok-code.ensures.paired
     c.len-count.ensures.places
@@ -65,7 +65,7 @@ invariant_of-result c =
       stands = ∥∥₁_map c.program-program.ensures.accepted (λ a. record {
         program = program p;
         steps = 0;
-        whole = p.whole;
+        whole = p.whole.0;
         accepted = a;
         shows = shows;
       });
@@ -77,7 +77,7 @@ returns-clause-stands c =
     let ss = c.in_ok-starts.starts.items in
     let starts_are = c.in_ok-starts.ensures
     ∙ ap (λ (ds : List Data). starts_from 0 (tuples_of ds)) (c.deref.ensures.value ∙ sym c.deref-4.ensures.value) in
-    let shows = starts c.programs_keep_laws.ensures p p.whole.0 c.deref-2.result.now
+    let shows = starts c.programs_keep_laws.ensures p p.whole.0.0 c.deref-2.result.now
     c.deref-2.ensures.value c.in_ok-code.code c.in_ok-code.ensures.code c.in_ok-code.ensures.laid
     c.in_ok-code.ensures.paired
     c.len-count.ensures.places

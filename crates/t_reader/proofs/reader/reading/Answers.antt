@@ -22,8 +22,8 @@ returns-in_err-parts c =
     let p = err_from_is_err_and c.from_residual-in_err-parts.result c.from_residual-in_err-parts.ensures.1 in
     rw (p.1, p.2) (c.in_err-parts.ensures)
 
-pub invariant_of-result : goal.invariant_of-result
-invariant_of-result c =
+pub new-requires : goal.new-requires
+new-requires c =
     let h = c.in_ok-parts.ensures in
     let t = c.in_ok-tokens.tokens in
     let s = shaped c.args.text.now (tokens_of t) h.raw c.in_ok-tokens.ensures.right h.program
@@ -35,10 +35,7 @@ invariant_of-result c =
       length-map t.words.items
           (λ (w : Word). token_in t.long.items w),
     )) in
-    record {
-      whole = is_whole c.args.text.now h.raw c.in_ok-parts.parts.blocks.items c.in_ok-parts.parts.heap.items s
-          h.named h.is;
-    }
+    is_whole c.args.text.now h.raw c.in_ok-parts.parts.blocks.items c.in_ok-parts.parts.heap.items s h.named h.is
 
 pub returns : goal.returns
 returns c =

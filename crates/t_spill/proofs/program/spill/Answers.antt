@@ -11,4 +11,4 @@ returns-clause-spills c =
     let P = program c.args.program.now in
     ∥∥₁_map₂ c.requires.accepted c.requires.names (λ a f.
     subst (λ (q : TProg). Spills c.args.k P q (origin c.args.k P)) (sym c.in_ok-made.ensures)
-    (c.registers_are_bounded.ensures c.args.k P c.requires.least c.args.program.now.whole a f))
+    (c.registers_are_bounded.ensures c.args.k P c.requires.least c.args.program.now.whole.0 a f))

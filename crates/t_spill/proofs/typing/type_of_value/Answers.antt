@@ -27,5 +27,5 @@ applied-requires c =
       ap (λ (us : List TType). length us) c.deref.ensures.value,
     ) in
     subst (λ (us : List TType). MayApply (tree c.in_ok-found-in-Plain.found) (types us)) (sym c.deref.ensures.value)
-    (may_apply P c.args.program.now.whole x (base c.in-Plain.base) (types ts) (tree c.in_ok-found-in-Plain.found) some
+    (may_apply P c.args.program.now.whole.0 x (base c.in-Plain.base) (types ts) (tree c.in_ok-found-in-Plain.found) some
     c.in_ok-found-in-Plain.ensures typable)

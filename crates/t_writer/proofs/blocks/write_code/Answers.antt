@@ -4,23 +4,22 @@ use Rattle.t_writer.proofs.blocks.write_code.Goals as goal
 
 pub write_instr-requires : goal.write_instr-requires
 write_instr-requires c =
-    instr_fits c.args.body.now (end_of c.args.end.now) c.loop-entry.entry-index c.loop-entry.names _ _ _
+    instr_fits c.args.body.now (end_of c.args.end.now) c.loop-entry.entry-index c.loop-entry.names _ _
     c.loop-entry.invariant c.entry-item.result c.entry-item.is c.loop-entry-test.true
 
 pub write_end-requires : goal.write_end-requires
 write_end-requires c =
-    end_fits c.args.body.now (end_of c.args.end.now) c.loop-entry.entry-index c.loop-entry.names _ _ _
+    end_fits c.args.body.now (end_of c.args.end.now) c.loop-entry.entry-index c.loop-entry.names _ _
     c.loop-entry.invariant c.loop-entry-test.false
 
 pub loop-entry-preserved : goal.loop-entry-preserved
 loop-entry-preserved c =
-    coding_more c.args.body.now (end_of c.args.end.now) c.loop-entry.entry-index c.loop-entry.names _ _ _
+    coding_more c.args.body.now (end_of c.args.end.now) c.loop-entry.entry-index c.loop-entry.names _ _
     c.loop-entry.invariant c.entry-item.result c.entry-item.is c.loop-entry-test.true _ _ _
-    c.in_ok-write_instr.ensures.written c.in_ok-push.ensures.items c.names_after-names.ensures
-    c.in_ok-write_instr.ensures.ints
+    c.in_ok-write_instr.ensures c.in_ok-push.ensures.items c.names_after-names.ensures
 
-pub returns-clause-written : goal.returns-clause-written
-returns-clause-written c =
-    coding_end c.args.body.now (end_of c.args.end.now) c.loop-entry.entry-index c.loop-entry.names _ _ _
-    c.loop-entry.invariant c.loop-entry-test.false _ _ c.in_ok-write_end.ensures.written
+pub returns : goal.returns
+returns c =
+    coding_end c.args.body.now (end_of c.args.end.now) c.loop-entry.entry-index c.loop-entry.names _ _
+    c.loop-entry.invariant c.loop-entry-test.false _ _ c.in_ok-write_end.ensures
     c.in_ok-push-2.ensures.items

@@ -10,4 +10,3 @@ abbrev pub invariant-loop-entry : goal.invariant-loop-entry
 invariant-loop-entry l =
     Coding l.body (end_of l.end) l.entry-index l.names l.text.items
     (l.initial.text.items ++ render (seq_written l.depth (seq_of (body l.body) (end_of l.end))))
-    (seq_of (body l.body) (end_of l.end))

@@ -8,4 +8,4 @@ write_datum-requires-clause-value c =
 pub loop-i-preserved : goal.loop-i-preserved
 loop-i-preserved c =
     filling_more c.args.fields.now c.loop-i.i _ _ c.loop-i.invariant _ c.index-fields-i.is c.loop-i-test.true _ _
-    c.in_ok-write_separator.ensures c.in_ok-write_datum.ensures.written c.in_ok-write_datum.ensures.ints
+    c.in_ok-write_separator.ensures c.in_ok-write_datum.ensures

@@ -9,5 +9,4 @@ write_data-requires c =
 pub loop-i-preserved : goal.loop-i-preserved
 loop-i-preserved c =
     heaping_more c.args.heap.now c.loop-i.i _ _ c.loop-i.invariant _ c.index-heap-i.is c.loop-i-test.true _
-    (rw c.deref.ensures.value at c.in_ok-write_data.ensures.written)
-    (rw c.deref.ensures.value at c.in_ok-write_data.ensures.ints)
+    (rw c.deref.ensures.value at c.in_ok-write_data.ensures)

@@ -7,8 +7,8 @@ use Rattle.t_writer.specs.Written.{value_written}
 use Rattle.t_writer.proofs.Rendered.{pack_done}
 use Rattle.t_writer.proofs.values.+write_value.Goals as goal
 
-pub returns-in_ok-write_type-in-Pack-2-clause-written : goal.returns-in_ok-write_type-in-Pack-2-clause-written
-returns-in_ok-write_type-in-Pack-2-clause-written t c =
+pub returns-in_ok-write_type-in-Pack-2 : goal.returns-in_ok-write_type-in-Pack-2
+returns-in_ok-write_type-in-Pack-2 t c =
     let hidden = tree c.deref-in-Pack.result.now in
     let inner = value c.deref-in-Pack-2.result.now in
     let shape = tree c.deref-in-Pack-3.result.now in
@@ -17,7 +17,7 @@ returns-in_ok-write_type-in-Pack-2-clause-written t c =
     cc (c.deref-in-Pack.ensures, c.deref-in-Pack-2.ensures, c.deref-in-Pack-3.ensures) in
     pack_done c.args.depth hidden shape inner _ _ _ _ _ _ _ c.in_ok-extend_from_slice-in-Pack.ensures.items
     c.in_ok-write_type-in-Pack.ensures c.in_ok-extend_from_slice-in-Pack-2.ensures.items
-    c.in_ok-write_value-in-Pack.ensures.written c.in_ok-extend_from_slice-in-Pack-3.ensures.items
+    c.in_ok-write_value-in-Pack.ensures c.in_ok-extend_from_slice-in-Pack-3.ensures.items
     c.in_ok-write_type-in-Pack-2.ensures
     ∙ ap (λ (v : TValue). c.args.text.now.items ++ render (value_written c.args.depth v))
     (same ∙ ap value (sym c.in-Pack.is))

@@ -46,7 +46,7 @@ returns-in-Label-clause-typed c =
     let number =
     numbered_at ts code_type bs c.args.self.now.labels.now.blocks.items c.requires.place.labels.blocks l b n lt there.1
     c.index.ensures in
-    let formed = formed_at p l b lt there.1 p.whole in (
+    let formed = formed_at p l b lt there.1 p.whole.0 in (
       number.0,
       subst (λ (x : Base). BaseHas (program p) (known ts k) (base x) (at ts n)) (sym c.in-Label.is)
           (block b, block_at bs l b lt there.1, number.1),
@@ -67,7 +67,7 @@ returns-in-Data-clause-typed c =
     let number =
     numbered_at ts tuple_type xs c.args.self.now.labels.now.tuples.items c.requires.place.labels.tuples d x n lt
     there.1 c.index-in-Data.ensures in
-    let formed = formed_data_at p d x lt there.1 p.whole in (
+    let formed = formed_data_at p d x lt there.1 p.whole.0 in (
       number.0,
       subst (λ (b : Base). BaseHas (program p) (known ts k) (base b) (at ts n)) (sym c.in-Data.is)
           (plain_fields (spanned_data x).fields, data_at xs d x lt there.1, number.1),

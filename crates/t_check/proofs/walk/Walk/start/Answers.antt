@@ -24,13 +24,13 @@ pub header-requires-clause-few : goal.header-requires-clause-few
 header-requires-clause-few c =
     let p = c.args.self.now.program.now in
     (formed_at p c.args.block c.index.result.now
-    (block_there p c.args.block c.args.index c.requires.there.0 c.requires.there.1) c.index.ensures p.whole).0
+    (block_there p c.args.block c.args.index c.requires.there.0 c.requires.there.1) c.index.ensures p.whole.0).0
 
 pub header-requires-clause-file : goal.header-requires-clause-file
 header-requires-clause-file c =
     let p = c.args.self.now.program.now in
     (formed_at p c.args.block c.index.result.now
-    (block_there p c.args.block c.args.index c.requires.there.0 c.requires.there.1) c.index.ensures p.whole).1
+    (block_there p c.args.block c.args.index c.requires.there.0 c.requires.there.1) c.index.ensures p.whole.0).1
 
 pub header-requires-clause-code : goal.header-requires-clause-code
 header-requires-clause-code c =

@@ -6,4 +6,4 @@ pub returns : goal.returns
 returns c =
     let program = checked_program c.in_ok-checked.checked in
     accepted_shown c.accepted_programs_are_never_stuck.ensures.runs c.args.text.now c.in_ok-line.line.items program
-    program.whole c.in_ok-checked.ensures c.in_ok-line.ensures.items
+    program.whole.0 c.in_ok-checked.ensures c.in_ok-line.ensures.items

@@ -24,10 +24,11 @@ pub write_state-requires-then-made-gt0-clause-stands : goal.write_state-requires
 write_state-requires-then-made-gt0-clause-stands c =
     let w = c.args.walk.now in
     let m = c.loop-m.m in
-    let h = c.in-Halted.ensures.answer (walked w) w.program.now.whole c.requires.accepted m c.loop-m.invariant.stands in
+    let h = c.in-Halted.ensures.answer (walked w) w.program.now.whole.0 c.requires.accepted m c.loop-m.invariant.stands
+    in
     let one : m + c.in-Halted.made ≡ m + 1 = omega (arith, h.0, c.if-made-gt0.true) in
     let stands =
-    c.in-Halted.ensures.stands (walked w) w.program.now.whole c.requires.accepted m c.loop-m.invariant.stands in
+    c.in-Halted.ensures.stands (walked w) w.program.now.whole.0 c.requires.accepted m c.loop-m.invariant.stands in
     let same = one_program c.write_state.new.walk w (c.in_ok-write_state.ensures.program ∙ c.loop-m.invariant.same) in
     subst (λ (P : TProg). Stands P (m + 1) c.run.new.self) (sym same)
     (subst (λ k. Stands (walked w) k c.run.new.self) one stands)
@@ -41,7 +42,7 @@ returns-in-Halted c =
     let k = c.in-Halted.made in
     let i = c.in-Halted.value in
     let kept : i ≡ to_z w64 (of_z w64 i) = search (rules, c.run.type_inv, c.in-Halted.is) in
-    let h = c.in-Halted.ensures.answer P w.program.now.whole c.requires.accepted m c.loop-m.invariant.stands in
+    let h = c.in-Halted.ensures.answer P w.program.now.whole.0 c.requires.accepted m c.loop-m.invariant.stands in
     let le : from ≤ m = omega (arith, c.loop-m.auto.m) in
     let within : m + k ≤ c.args.window.to = omega (arith, h.0, c.loop-m-test.true) in
     let old = c.write_state.new.lines.items in
@@ -76,7 +77,7 @@ loop-m-preserved c =
     let first =
     one_line c.loop-m.walk w m c.loop-m.lines.items new c.loop-m.invariant.same c.in_ok-write_state.ensures.line in
     record {
-      stands = c.in-Spent.ensures.stands P w.program.now.whole c.requires.accepted m c.loop-m.invariant.stands;
+      stands = c.in-Spent.ensures.stands P w.program.now.whole.0 c.requires.accepted m c.loop-m.invariant.stands;
       walk = c.in_ok-write_state.ensures.walk;
       same = c.in_ok-write_state.ensures.program ∙ c.loop-m.invariant.same;
       lines = subst (λ k. AreLines P from (k - from) new) (sym (add-one m))
@@ -94,7 +95,7 @@ returns-in_ok-reply-in-Halted-run c =
     let i = c.in-Halted-run.value in
     let k = c.in-Halted-run.made in
     let kept : i ≡ to_z w64 (of_z w64 i) = search (rules, c.run-2.type_inv, c.in-Halted-run.is) in
-    let h = c.in-Halted-run.ensures.answer P w.program.now.whole c.requires.accepted to stands in
+    let h = c.in-Halted-run.ensures.answer P w.program.now.whole.0 c.requires.accepted to stands in
     let at : to + k ≡ to = omega (arith, h.0) in
     let new = c.write_state-2.new.lines.items in
     let last = one_line c.loop-m.walk w to c.loop-m.lines.items new c.loop-m.invariant.same
@@ -112,7 +113,7 @@ returns-in_ok-reply-in-Spent-run c =
     let to = c.args.window.to in
     let same : c.loop-m.m ≡ to = omega (arith, c.loop-m-test.false, c.loop-m.auto.m-end) in
     let stands = subst (λ k. Stands P k c.loop-m.machine) same c.loop-m.invariant.stands in
-    let h = c.in-Spent-run.ensures.answer P w.program.now.whole c.requires.accepted to stands in
+    let h = c.in-Spent-run.ensures.answer P w.program.now.whole.0 c.requires.accepted to stands in
     let at : to + 0 ≡ to = omega arith in
     let new = c.write_state-2.new.lines.items in
     let last = one_line c.loop-m.walk w to c.loop-m.lines.items new c.loop-m.invariant.same

@@ -15,7 +15,7 @@ returns-then-made-window c =
     let i = c.in-Halted.value in
     let k = c.in-Halted.made in
     let kept : i ≡ to_z w64 (of_z w64 i) = search (rules, c.run.type_inv, c.in-Halted.is) in
-    let h = c.in-Halted.ensures.answer P p.whole c.requires.accepted 0 c.requires.stands in
+    let h = c.in-Halted.ensures.answer P p.whole.0 c.requires.accepted 0 c.requires.stands in
     let at : 0 + k ≡ k = omega arith in
     let before : k < c.args.window.from = omega (arith, c.if-made-window.true) in
     let within : k ≤ c.args.window.to = omega (arith, before, c.requires.order) in
@@ -30,13 +30,13 @@ states_from-requires-clause-stands c =
     let from = c.args.window.from in
     let stands : Stands P from c.run.new.self = elim c.match-run.branch [
       | in-Halted+else-made-window w ↦
-          let h = w.in-Halted.ensures.answer P p.whole c.requires.accepted 0 c.requires.stands in
+          let h = w.in-Halted.ensures.answer P p.whole.0 c.requires.accepted 0 c.requires.stands in
           let same : 0 + w.in-Halted.made ≡ from = omega (arith, h.0, w.if-made-window.false) in
           subst (λ k. Stands P k c.run.new.self) same
-          (w.in-Halted.ensures.stands P p.whole c.requires.accepted 0 c.requires.stands)
+          (w.in-Halted.ensures.stands P p.whole.0 c.requires.accepted 0 c.requires.stands)
       | in-Spent w ↦
           let same : 0 + from ≡ from = omega arith in
           subst (λ k. Stands P k c.run.new.self) same
-          (w.in-Spent.ensures.stands P p.whole c.requires.accepted 0 c.requires.stands)
+          (w.in-Spent.ensures.stands P p.whole.0 c.requires.accepted 0 c.requires.stands)
     ] in
     subst (λ (Q : TProg). Stands Q from c.run.new.self) (sym c.in_ok-walk.ensures.program) stands

@@ -14,7 +14,7 @@ to-requires-clause-there c =
     let b = c.place-block.result.0 in
     let i = c.place-block.result.1 in
     let place = c.place-block.ensures (program p) c.args.m c.requires.stands in
-    place_there (program p) p.whole c.requires.accepted c.args.m c.args.machine.now c.requires.stands b i place
+    place_there (program p) p.whole.0 c.requires.accepted c.args.m c.args.machine.now c.requires.stands b i place
     c.states_are_typed.ensures
 
 pub words_of-requires : goal.words_of-requires
@@ -26,7 +26,7 @@ words_of-requires c =
     let f = file c.in_ok-vars.known.regs.items in
     let known = c.in_ok-vars.ensures.known in
     subst (λ (xs : Regs). HaveAll (words_in c.args.machine.now) (file xs)) (sym c.deref.ensures.value)
-    (known_have (program p) p.whole c.requires.accepted c.args.m c.args.machine.now c.requires.stands b i place
+    (known_have (program p) p.whole.0 c.requires.accepted c.args.m c.args.machine.now c.requires.stands b i place
     c.in_ok-vars.vars f known c.erased_words_are_of_their_kind.ensures)
 
 pub write_line-requires-clause-words : goal.write_line-requires-clause-words
@@ -50,6 +50,6 @@ returns-clause-line c =
     let line = subst
     (λ (ws : Words). c.write_line.new.text.items ≡ c.args.lines.now.items
     ++ line_text c.args.m b i c.in_ok-vars.vars ws f) c.deref-2.ensures.value c.in_ok-write_line.ensures in
-    line_is (program p) p.whole c.requires.accepted c.args.m c.args.machine.now c.requires.stands b i place
+    line_is (program p) p.whole.0 c.requires.accepted c.args.m c.args.machine.now c.requires.stands b i place
     c.in_ok-vars.vars f known c.in_ok-words.words.items have c.args.lines.now.items c.write_line.new.text.items
     line

@@ -239,8 +239,8 @@ pair_is = refl
 other : (i : ℕ) → Some i ≢ Some (i + 1)
 other i e = let q : i ≡ i + 1 = cc in omega (arith, q)
 
--- by the rules: the free variables x and y are 1 and 0, and their names are 1 and 0 too; inside the code these are 3 and 2,
--- and their names again 1 and 0
+-- by the rules: the free variables x and y are 1 and 0, and so are their names; inside the code they are 3 and 2, and
+-- their names again 1 and 0
 pair_translated : IsTranslation pair pair_closed
 pair_translated = (
   _,

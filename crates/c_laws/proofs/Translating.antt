@@ -1,8 +1,8 @@
 -- The conversion gives a translation.
 use Rattle.std.proofs.Common.{◌≡◌, ◌<◌, ◌⊎◌, inl, inr, ℕ, zero, suc, ◌+◌, Bool, true, false, ◌||◌, List, [], ◌∷◌}
 use Rattle.std.proofs.Common.{Option, Some, None, length, refl, sym, ap, ap₂, ◌∙◌, subst, arith, eq-eqb, cond}
-use Rattle.std.specs.Prelude.{◌≢◌, if◌then◌else◌, ◌++◌, map, filter, reverse, option_map}
 use Rattle.std.proofs.Common.{length-append, append_assoc}
+use Rattle.std.specs.Prelude.{◌≢◌, if◌then◌else◌, ◌++◌, map, filter, reverse, option_map}
 use Rattle.std.specs.List.{range_with_len}
 use mathlib.Core.List.{reverse_aux}
 use Rattle.std.proofs.lemmas.List.{length-map, length-reverse, reverse-reverse}
@@ -18,13 +18,12 @@ use Rattle.c_rules.specs.Places.{Places, further, place, from_on, kept_places, k
 use Rattle.c_rules.specs.Free.{IsClosed, occurs_v, occurs_vs, occurs_d, occurs_t}
 use Rattle.c_rules.specs.Close.{Scope, ctype, ctypes, uses, keeps, tkeeps, rank, var_value, pick_one, picked, pick_type}
 use Rattle.c_rules.specs.Close.{picked_types, picked_tvars, projections, named, closure, outside}
-use Rattle.c_rules.specs.Close.{inner, closed_code, closed_body, with_var, open_if, with_decl, close_v, close_vs, close_d, close_t}
-use Rattle.c_rules.specs.Close.{close_of, no_scope}
+use Rattle.c_rules.specs.Close.{inner, closed_code, closed_body, with_var, open_if, with_decl, close_v, close_vs}
+use Rattle.c_rules.specs.Close.{close_d, close_t, close_of, no_scope}
 use Rattle.c_rules.specs.Close as L
 use Rattle.c_laws.specs.Row.{Names, IsPlace, Where, outermost_first, Stands, AllStand, types_of, tvars_of, frees}
-use Rattle.c_laws.specs.Row.{tfrees_of, packed, arguments, own, variables, inside, closed_over, with_name, with_tvar, ClosesValue}
-use Rattle.c_laws.specs.Row.{CloseValues, ClosesDecl, ClosesTerm}
-use Rattle.c_laws.specs.Row.{IsTranslation}
+use Rattle.c_laws.specs.Row.{tfrees_of, packed, arguments, own, variables, inside, closed_over, with_name, with_tvar}
+use Rattle.c_laws.specs.Row.{ClosesValue, CloseValues, ClosesDecl, ClosesTerm, IsTranslation}
 use Rattle.c_laws.proofs.Envs.{or_left, or_right}
 use Rattle.calc_core.proofs.Lifts.{lift_add}
 use Rattle.calc_core.proofs.Scopes.{scope_length as length_krens}
@@ -207,7 +206,8 @@ code_is s names owes args body t same =
     (ap₂ (λ x m. projections x 1 m
     (named (uses args body 0) (closure s owes args body r (CVar (lift k (suc n))) (CVar (lift k n))) t)) fields
     (sym (at_args args))
-    ∙ ap (λ v. projections (length (frees w args body)) 1 (length (arguments args)) (named (uses args body 0) v t)) again)
+    ∙ ap
+    (λ v. projections (length (frees w args body)) 1 (length (arguments args)) (named (uses args body 0) v t)) again)
 
 -- scopes
 pub place_further : (ps : Places) (i j : ℕ) → place ps i ≡ Some j → place (further ps) i ≡ Some (suc j)
@@ -226,7 +226,8 @@ next_place : (i : ℕ) (names : Names) (j : ℕ) → IsPlace i names j → IsPla
 next_place i [] j h = h
 next_place i (x ∷ names) zero h = ap (option_map suc) h
 next_place i (None ∷ names) (suc j) h = (none (suc i), next_place i names j h.1)
-next_place i (Some k ∷ names) (suc j) h = (other (suc k) (suc i) (λ e. h.0 (ap Some (omega (arith, e)))), next_place i names j h.1)
+next_place i (Some k ∷ names) (suc j) h =
+    (other (suc k) (suc i) (λ e. h.0 (ap Some (omega (arith, e)))), next_place i names j h.1)
 
 near_further : (live : ℕ → Bool) (ps : Places) (names : Names) → Near live ps names →
     Near live (further ps) (None ∷ names)
@@ -236,7 +237,8 @@ near_name : (live : ℕ → Bool) (ps : Places) (names : Names) → Near (λ i. 
     Near live (Some 0 ∷ further ps) (Some 0 ∷ map (option_map suc) names)
 near_name live ps names h zero q = (0, refl, refl)
 near_name live ps names h (suc i) q =
-    let r = h i q in (suc r.0, place_further ps i r.0 r.1, (other 0 (suc i) (λ e. omega (arith, e)), next_place i names r.0 r.2))
+    let r = h i q in
+    (suc r.0, place_further ps i r.0 r.1, (other 0 (suc i) (λ e. omega (arith, e)), next_place i names r.0 r.2))
 
 fewer : (live few : ℕ → Bool) (ps : Places) (names : Names) → ((i : ℕ) → few i ≡ true → live i ≡ true) →
     Near live ps names → Near few ps names

@@ -76,8 +76,8 @@ own args body = if uses args body 0 then Some (kcount args) ∷ [] else []
 abbrev pub variables : Where → KTys → KTm → Names
 variables w args body = map (λ y. Some (lift (kcount args) (suc y))) (reverse (frees w args body))
 
--- inside a closed code: its own closure where it is used, its free variables, its arguments, and then its environment and
--- itself, which stand for no variable
+-- inside a closed code: its own closure where it is used, its free variables, its arguments, and then its environment
+-- and itself, which stand for no variable
 abbrev pub inside : Where → ℕ → KTys → KTm → Where
 inside w owes args body =
     let environment : Option ℕ = None in

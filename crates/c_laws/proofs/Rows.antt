@@ -1,6 +1,6 @@
 -- Programs before and after: a recursive function, a polymorphic one, one that recurs through a cell, and a package.
 use Rattle.std.specs.Int.{int_wrap}
-use Rattle.std.proofs.Common.{pos, ◌≡◌, ◌<◌, ◌+◌, ℕ, arith, Some, [], ◌∷◌, refl, sym, ap, ◌∙◌, subst}
+use Rattle.std.proofs.Common.{pos, ◌≡◌, ◌<◌, ◌+◌, ℕ, arith, Some, None, [], ◌∷◌, refl, sym, ap, ◌∙◌, subst}
 use Rattle.std.specs.Prelude.{◌≢◌}
 use Rattle.idx_core.specs.declared.arith.Op.TheVariants.{Add, Sub, Mul}
 use Rattle.calc_core.specs.Ends.{Halted, Spent}
@@ -14,7 +14,7 @@ use Rattle.c_terms.specs.C.{CCall, CHalt}
 use Rattle.c_terms.specs.Meaning.{crun}
 use Rattle.k_terms.specs.Typing.{KTyped}
 use Rattle.c_rules.specs.Close.{close_of}
-use Rattle.c_laws.specs.Row.{IsPlace, IsTranslation}
+use Rattle.c_laws.specs.Row.{IsPlace, Where, inside, with_name, nowhere, IsTranslation}
 
 abbrev cont : KTy
 cont = TKCode 0 (MoreKTys TKInt NoKTys)
@@ -235,6 +235,20 @@ pair_closed =
 
 pair_is : close_of pair ≡ pair_closed
 pair_is = refl
+
+-- inside the code: y, x, the argument, the environment and the code; and where a code with two arguments uses itself,
+-- its own closure first
+abbrev ints : Where
+ints = with_name TKInt (with_name TKInt nowhere)
+
+names_inside : (inside ints 0 (MoreKTys TKInt NoKTys) (KLet (KArith Sub (KVar 3) (KVar 2)) (KHalt (KVar 0)))).names
+    ≡ Some 2 ∷ Some 3 ∷ Some 0 ∷ None ∷ None ∷ []
+names_inside = refl
+
+names_with_own : (inside ints 0 (MoreKTys TKInt (MoreKTys TKInt NoKTys))
+    (KCall (KVar 2) NoKTys (MoreKVals (KVar 1) (MoreKVals (KVar 4) NoKVals)))).names
+    ≡ Some 2 ∷ Some 4 ∷ Some 0 ∷ Some 1 ∷ None ∷ None ∷ []
+names_with_own = refl
 
 other : (i : ℕ) → Some i ≢ Some (i + 1)
 other i e = let q : i ≡ i + 1 = cc in omega (arith, q)

@@ -28,7 +28,7 @@ use Rattle.calc_core.proofs.Levels.{level_below}
 use Rattle.calc_core.proofs.Substituting.{low_or_past as near_or_far}
 use Rattle.c_laws.proofs.Meaning.{ctypes_count as count_ctypes}
 use Rattle.c_laws.proofs.Envs.{or_left, or_right}
-use Rattle.c_laws.proofs.Translating.{place_further, after_sum, count_rank, place_kept, place_near, place_far}
+use Rattle.c_laws.proofs.Translating.{place_further, count_rank, place_kept, place_near, place_far}
 use Rattle.c_laws.proofs.Translating.{length_from, length_kept, length_further}
 
 fewer : (f : Frame) (d e : ℕ) (ps : Places) (live few : ℕ → Bool) → ((i : ℕ) → few i ≡ true → live i ≡ true) →
@@ -62,6 +62,10 @@ under_decl false u f d e s live is st = under_name f d e s.vars live is st
 pub level_lift : (n d i : ℕ) → level_of (lift n d) (lift n i) ≡ level_of d i
 level_lift zero d i = refl
 level_lift (suc n) d i = level_lift n d i
+
+after_sum : (b : Bool) (x : ℕ) → after_one b x ≡ x + after_one b 0
+after_sum true x = omega arith
+after_sum false x = omega arith
 
 kept_length : (d : ℕ) (s : Scope) (owes : ℕ) (args : KTys) (body : KTm) → length s.vars ≡ d →
     length (info_of d s owes args body).kept ≡ kept_count (keeps args body) s.vars

@@ -1,6 +1,7 @@
 -- Programs before and after: a recursive function, a polymorphic one, one that recurs through a cell, and a package.
 use Rattle.std.specs.Int.{int_wrap}
-use Rattle.std.proofs.Common.{pos, ◌≡◌, ◌<◌, ◌+◌, ℕ, arith, [], ◌∷◌, refl, sym, ap, ◌∙◌}
+use Rattle.std.proofs.Common.{pos, ◌≡◌, ◌<◌, ◌+◌, ℕ, arith, Some, None, [], ◌∷◌, refl, sym, ap, ◌∙◌, subst}
+use Rattle.std.specs.Prelude.{◌≢◌}
 use Rattle.idx_core.specs.declared.arith.Op.TheVariants.{Add, Sub, Mul}
 use Rattle.calc_core.specs.Ends.{Halted, Spent}
 use Rattle.k_terms.specs.K.{KTy, TKInt, TKVar, TKTuple, TKCode, TKExists, NoKTys, MoreKTys, KVar, KInt, KTuple, KCode}
@@ -13,7 +14,7 @@ use Rattle.c_terms.specs.C.{CCall, CHalt}
 use Rattle.c_terms.specs.Meaning.{crun}
 use Rattle.k_terms.specs.Typing.{KTyped}
 use Rattle.c_rules.specs.Close.{close_of}
-use Rattle.c_laws.specs.Row.{IsTranslation}
+use Rattle.c_laws.specs.Row.{IsPlace, Where, inside, with_name, nowhere, IsTranslation}
 
 abbrev cont : KTy
 cont = TKCode 0 (MoreKTys TKInt NoKTys)
@@ -235,7 +236,25 @@ pair_closed =
 pair_is : close_of pair ≡ pair_closed
 pair_is = refl
 
--- by the rules: the free variables x and y are the indices 1 and 0, and their names have the levels 0 and 1
+-- inside the code: y, x, the argument, the environment and the code; and where a code with two arguments uses itself,
+-- its own closure first
+abbrev ints : Where
+ints = with_name TKInt (with_name TKInt nowhere)
+
+names_inside : (inside ints 0 (MoreKTys TKInt NoKTys) (KLet (KArith Sub (KVar 3) (KVar 2)) (KHalt (KVar 0)))).names
+    ≡ Some 2 ∷ Some 3 ∷ Some 0 ∷ None ∷ None ∷ []
+names_inside = refl
+
+names_with_own : (inside ints 0 (MoreKTys TKInt (MoreKTys TKInt NoKTys))
+    (KCall (KVar 2) NoKTys (MoreKVals (KVar 1) (MoreKVals (KVar 4) NoKVals)))).names
+    ≡ Some 2 ∷ Some 4 ∷ Some 0 ∷ Some 1 ∷ None ∷ None ∷ []
+names_with_own = refl
+
+other : (i : ℕ) → Some i ≢ Some (i + 1)
+other i e = let q : i ≡ i + 1 = cc in omega (arith, q)
+
+-- by the rules: the free variables x and y are 1 and 0, and so are their names; inside the code they are 3 and 2, and
+-- their names again 1 and 0
 pair_translated : IsTranslation pair pair_closed
 pair_translated = (
   _,
@@ -255,8 +274,8 @@ pair_translated = (
         _,
         _,
         refl,
-        (_, _, refl, (1, refl, refl), (_, _, refl, (0, refl, refl), refl)),
-        (_, _, refl, (_, _, refl, (1, refl, refl), (0, refl, refl)), (_, refl, (0, refl, refl))),
+        (_, _, refl, (1, refl, (other 0, refl)), (_, _, refl, (0, refl, refl), refl)),
+        (_, _, refl, (_, _, refl, (1, refl, (other 2, refl)), (0, refl, refl)), (_, refl, (0, refl, refl))),
       ),
       (_, _, refl, refl, refl),
     ),
@@ -310,15 +329,17 @@ first_value (MoreCVals v vs) = v
 
 turned_is_none : IsTranslation pair pair_turned → ⊥
 turned_is_none
-    (d, rest, e, rd, (d2, rest2, e2, rd2, (c, us, e3, (ys, body, ec, (v, vs, ev, (j, is, level), more), rt), rvs))) =
+    (d, rest, e, rd, (d2, rest2, e2, rd2, (c, us, e3, (ys, body, ec, (v, vs, ev, (j, is, place), more), rt), rvs))) =
     let first : rest ≡ after pair_turned = sym (ap after e) in
     let second : rest2 ≡ after (after pair_turned) = sym (ap after e2) ∙ ap after first in
     let same : env_of (after (after pair_turned)) ≡ env_in c = ap env_of (sym second ∙ e3) in
-    clash v vs j (same ∙ ap env_in ec ∙ ev) is level
+    clash v vs j (same ∙ ap env_in ec ∙ ev) is place
   where
     clash : (v : CVal) (vs : CVals) (j : ℕ) → MoreCVals (CVar 0) (MoreCVals (CVar 1) NoCVals) ≡ MoreCVals v vs →
-        v ≡ CVar j → j + 1 ≡ 2 → ⊥
-    clash v vs j e is level = let q : 0 ≡ j = ap number (ap first_value e ∙ is) in absurd (omega (arith, q, level))
+        v ≡ CVar j → IsPlace 1 (Some 0 ∷ Some 1 ∷ []) j → ⊥
+    clash v vs j e is place =
+        let q : 0 ≡ j = ap number (ap first_value e ∙ is) in
+        other 0 (subst (IsPlace 1 (Some 0 ∷ Some 1 ∷ [])) (sym q) place)
 
 -- a function makes its own closure again from its code and the environment that it was given:
 -- (f = code(x: int). f(x))(3)

@@ -1,6 +1,8 @@
 -- The translation as a relation between a term and a closed one, rule by rule.
-use Rattle.std.specs.Prelude.{◌≡◌, ℕ, zero, suc, ◌+◌, ◌-◌, Bool, true, false, List, [], ◌∷◌, length}
-use Rattle.calc_core.specs.Ends.{lift, under, after_one}
+use Rattle.std.specs.Prelude.{◌≡◌, ◌≢◌, if◌then◌else◌, ℕ, zero, suc, ◌+◌, Bool, true, false, Option, Some, None}
+use Rattle.std.specs.Prelude.{option_map, List, [], ◌∷◌, ◌++◌, length, map, filter, reverse}
+use Rattle.std.specs.List.{range_with_len}
+use Rattle.calc_core.specs.Ends.{lift, under}
 use Rattle.k_terms.specs.K.{KTy, KTys, TKCode, KVal, KVar, KInt, KTuple, KCode, KVals, NoKVals, MoreKVals, KDecl, KName}
 use Rattle.k_terms.specs.K.{KProj, KArith, KPack, KUnpack, KCell, KGet, KSet, KTm, KLet, KCall, KIf, KHalt, kcount}
 use Rattle.k_terms.specs.K.{kbody_scope, krens_scope, opens}
@@ -10,31 +12,31 @@ use Rattle.c_terms.specs.C.{CVals, NoCVals, MoreCVals, CDecl, CName, CProj, CAri
 use Rattle.c_terms.specs.C.{CLet, CCall, CIf, CHalt}
 use Rattle.c_rules.specs.Close.{ctype, ctypes, uses, keeps, tkeeps, rank, projections, named}
 
--- what is in scope: the types of the variables and how many type variables there are, before;
--- how many names there are after, the level there of what stands for each variable, and where each type variable stands
+-- the names of the closed term that are in scope, innermost first, each with the variable that it stands for, or none
+abbrev pub Names : Type 0
+Names = List (Option ℕ)
+
+-- name j is the first that stands for variable i
+abbrev pub IsPlace : ℕ → Names → ℕ → Type 0
+IsPlace i [] j = ⊥
+IsPlace i (x ∷ xs) zero = x ≡ Some i
+IsPlace i (x ∷ xs) (suc j) = (x ≢ Some i) × IsPlace i xs j
+
+-- what is in scope: before, the types of the variables and how many type variables there are;
+-- after, the names, and where each type variable stands
 pub record Where : Type 0 where
   pub types : List KTy
   pub tcount : ℕ
-  pub names : ℕ
-  pub level : ℕ → ℕ
+  pub names : Names
   pub tvar : ℕ → ℕ
 
--- f i for the kept i of the first n, outermost first, before others
-abbrev pub pick_index : Bool → ℕ → List ℕ → List ℕ
-pick_index true i is = i ∷ is
-pick_index false i is = is
-
-abbrev pub kept_indices : (keep : ℕ → Bool) (f : ℕ → ℕ) → ℕ → List ℕ → List ℕ
-kept_indices keep f zero is = is
-kept_indices keep f (suc n) is = kept_indices (λ i. keep (suc i)) (λ i. f (suc i)) n (pick_index (keep 0) (f 0) is)
-
--- the indices below n that are kept, outermost first
+-- the numbers below n that are kept, outermost first
 abbrev pub outermost_first : (ℕ → Bool) → ℕ → List ℕ
-outermost_first keep n = kept_indices keep (λ i. i) n []
+outermost_first keep n = reverse (filter keep (range_with_len 0 n))
 
 -- the name that stands for variable i
 abbrev pub Stands : Where → ℕ → CVal → Type 0
-Stands w i v = (j : ℕ) × (v ≡ CVar j) × (j + suc (w.level i) ≡ w.names)
+Stands w i v = (j : ℕ) × (v ≡ CVar j) × IsPlace i w.names j
 
 abbrev pub AllStand : Where → List ℕ → CVals → Type 0
 AllStand w [] vs = vs ≡ NoCVals
@@ -64,29 +66,26 @@ packed r w owes args body code env =
     (CTuple (MoreCVals (CApply code (tvars_of r (tfrees_of w owes args body))) (MoreCVals env NoCVals)))
     (ctype r (TKCode owes args))
 
--- the first n by f, and those past them by g
-abbrev pub first_by : ℕ → (ℕ → ℕ) → (ℕ → ℕ) → ℕ → ℕ
-first_by zero f g i = g i
-first_by (suc n) f g zero = f zero
-first_by (suc n) f g (suc i) = first_by n (λ j. f (suc j)) g i
+-- in the body of a code the arguments are the first variables; then come its own name, and the variables around it
+abbrev pub arguments : KTys → Names
+arguments args = map Some (range_with_len 0 (kcount args))
 
-abbrev pub then_next : ℕ → (ℕ → ℕ) → ℕ → ℕ
-then_next x f zero = x
-then_next x f (suc i) = f i
+abbrev pub own : KTys → KTm → Names
+own args body = if uses args body 0 then Some (kcount args) ∷ [] else []
 
--- inside a closed code of n arguments that projects k variables: level 0 is the code, 1 the environment, then come the
--- arguments, the variables, and the code's own closure where it is used
+abbrev pub variables : Where → KTys → KTm → Names
+variables w args body = map (λ y. Some (lift (kcount args) (suc y))) (reverse (frees w args body))
+
+-- inside a closed code: its own closure where it is used, its free variables, its arguments, and then its environment
+-- and itself, which stand for no variable
 abbrev pub inside : Where → ℕ → KTys → KTm → Where
 inside w owes args body =
-    let n = kcount args in
-    let k = rank (keeps args body) (length w.types) in
+    let environment : Option ℕ = None in
+    let code : Option ℕ = None in
     record {
       types = kbody_scope owes args w.types;
       tcount = lift owes w.tcount;
-      names = after_one (uses args body 0) (lift k (suc (suc n)));
-      level =
-          first_by n (λ i. suc n - i)
-          (then_next (suc (suc n) + k) (λ y. suc (suc n) + (k - suc (rank (keeps args body) y))));
+      names = own args body ++ variables w args body ++ arguments args ++ environment ∷ code ∷ [];
       tvar = under owes (rank (tkeeps w.types owes args body));
     }
 
@@ -94,16 +93,16 @@ inside w owes args body =
 abbrev pub from_inside : Where → ℕ → KTys → KTm → ℕ → ℕ
 from_inside w owes args body j = lift owes (rank (tkeeps w.types owes args body) j)
 
--- c: the code [bs, as](env, xs), which projects the ys from env, names its own closure where it is used, and goes on
+-- c: the code [bs, as](env, xs), which projects the ys from env, names its own closure where it is used, and goes on;
+-- env stands behind the xs, then behind the ys and the xs, and the code behind env
 abbrev pub closed_over : Where → ℕ → KTys → KTm → CTm → CVal
 closed_over w owes args body rest =
-    let n = kcount args in
-    let k = rank (keeps args body) (length w.types) in
     let r = from_inside w owes args body in
-    CCode (lift owes (rank (tkeeps w.types owes args body) w.tcount))
+    let env = length (variables w args body ++ arguments args) in
+    CCode (owes + length (tfrees_of w owes args body))
     (MoreCTys (TCTuple (types_of r w.types (frees w args body))) (ctypes (inside w owes args body).tvar args))
-    (projections k 1 n (named (uses args body 0)
-    (packed r w owes args body (CVar (lift k (suc n))) (CVar (lift k n))) rest))
+    (projections (length (frees w args body)) 1 (length (arguments args))
+    (named (uses args body 0) (packed r w owes args body (CVar (suc env)) (CVar env)) rest))
 
 -- under one more name, and one more type variable where there is one
 abbrev pub with_name : KTy → Where → Where
@@ -111,8 +110,7 @@ with_name t w =
     record {
       types = t ∷ w.types;
       tcount = w.tcount;
-      names = suc w.names;
-      level = then_next w.names w.level;
+      names = Some 0 ∷ map (option_map suc) w.names;
       tvar = w.tvar;
     }
 
@@ -122,19 +120,17 @@ with_tvar true w =
       types = krens_scope suc w.types;
       tcount = suc w.tcount;
       names = w.names;
-      level = w.level;
       tvar = under 1 w.tvar;
     }
 with_tvar false w = w
 
--- under the package that a call opens, its code and its environment
+-- under the package that a call opens, its code and its environment, which stand for no variable
 abbrev pub in_call : Where → Where
 in_call w =
     record {
       types = w.types;
       tcount = w.tcount;
-      names = suc (suc (suc w.names));
-      level = w.level;
+      names = None ∷ None ∷ None ∷ w.names;
       tvar = λ i. suc (w.tvar i);
     }
 
@@ -179,7 +175,7 @@ abbrev mutual
 
 -- a whole program
 abbrev pub nowhere : Where
-nowhere = record { types = []; tcount = 0; names = 0; level = λ i. 0; tvar = λ i. i }
+nowhere = record { types = []; tcount = 0; names = []; tvar = λ i. i }
 
 abbrev pub IsTranslation : KTm → CTm → Type 0
 IsTranslation t u = ClosesTerm nowhere t u

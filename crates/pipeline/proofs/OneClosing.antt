@@ -1,19 +1,24 @@
 -- The rules of closure conversion give one closed term.
-use Rattle.std.proofs.Common.{◌≡◌, ℕ, List, [], ◌∷◌, sym, ap, ap₂, ◌∙◌, arith}
+use Rattle.std.proofs.Common.{◌≡◌, ℕ, zero, suc, List, [], ◌∷◌, refl, sym, ap, ap₂, ◌∙◌}
 use Rattle.k_terms.specs.K.{KVal, KVar, KInt, KTuple, KCode, KVals, NoKVals, MoreKVals, KDecl, KName, KProj, KArith}
 use Rattle.k_terms.specs.K.{KPack, KUnpack, KCell, KGet, KSet, KTm, KLet, KCall, KIf, KHalt, opens}
 use Rattle.k_terms.specs.Types.{kd_type}
 use Rattle.c_terms.specs.C.{CVal, CVar, CTuple, CPack, CVals, MoreCVals, CDecl, CName, CProj, CArith, CUnpack}
 use Rattle.c_terms.specs.C.{CCell, CGet, CSet, CTm, CLet, CCall, CIf, CHalt}
 use Rattle.c_rules.specs.Close.{ctype, ctypes}
-use Rattle.c_laws.specs.Row.{Where, Stands, AllStand, ClosesValue, CloseValues, ClosesDecl, ClosesTerm, IsTranslation}
-use Rattle.c_laws.specs.Row.{packed, closed_over, frees}
+use Rattle.c_laws.specs.Row.{Names, IsPlace, Where, Stands, AllStand, ClosesValue, CloseValues, ClosesDecl, ClosesTerm}
+use Rattle.c_laws.specs.Row.{IsTranslation, packed, closed_over, frees}
 use Rattle.c_laws.specs.Row.{inside, in_call, nowhere, with_name, with_tvar}
 
+one_place : (i : ℕ) (names : Names) (j k : ℕ) → IsPlace i names j → IsPlace i names k → j ≡ k
+one_place i (x ∷ names) zero zero a b = refl
+one_place i (x ∷ names) zero (suc k) a b = absurd (b.0 a)
+one_place i (x ∷ names) (suc j) zero a b = absurd (a.0 b)
+one_place i (x ∷ names) (suc j) (suc k) a b = ap suc (one_place i names j k a.1 b.1)
+one_place i [] j k a b = absurd a
+
 one_name : (w : Where) (i : ℕ) (x y : CVal) → Stands w i x → Stands w i y → x ≡ y
-one_name w i x y a b =
-    let same : a.0 ≡ b.0 = omega (arith, a.2, b.2) in
-    a.1 ∙ ap CVar same ∙ sym b.1
+one_name w i x y a b = a.1 ∙ ap CVar (one_place i w.names a.0 b.0 a.2 b.2) ∙ sym b.1
 
 all_names : (w : Where) (is : List ℕ) (xs ys : CVals) → AllStand w is xs → AllStand w is ys → xs ≡ ys
 all_names w [] xs ys a b = a ∙ sym b

@@ -24,7 +24,7 @@ module _ (source target : List ℕ) (term : Tm) (p : TProgram) (checked : IsChec
     term = term;
     program = program p;
     checked = checked;
-    written = written;
+    reads = written.reads;
     whole = p.whole;
     accepted = ∥∥₁_elim accepted (accepted_prop (program p)) (λ is. is);
     meaning = meaning;

@@ -19,7 +19,7 @@ use Rattle.talc_words.specs.declared.form.Form.TheVariants.{Source, Assembly}
 use Rattle.talc_core.specs.FirstFault.{AProgram, AnAssembly, IsChecked, IsAssembly, IsAcceptedText, IsTaken}
 use Rattle.talc_core.specs.Written.{IsWritten}
 use Rattle.talc_core.specs.Compiled.{IsCompiled, IsCompiledWithin}
-use Rattle.talc_core.specs.Translated.{IsTranslated}
+use Rattle.talc_core.specs.Translated.{IsTranslated, IsTranslatedWithin}
 use Rattle.talc_core.specs.Upgraded.{IsUpgraded}
 use Rattle.talc_core.specs.Lines.{integer_line}
 use Rattle.talc_core.specs.Shown.{ValueShown, HaltedShown, ShowsRun, ShowsTrace}
@@ -170,7 +170,13 @@ UpgradedIsKept = (source target again : List ℕ) → IsUpgraded source target �
 
 -- and so is what `compile` wrote
 abbrev pub CompiledIsKept : Type 0
-CompiledIsKept = (source target again : List ℕ) → IsCompiled source target → IsUpgraded target again → again ≡ target
+CompiledIsKept = (source target again : List ℕ) → IsTranslated source target → IsUpgraded target again → again ≡ target
+
+-- also within registers 1 to k
+abbrev pub BoundedIsKept : Type 0
+BoundedIsKept =
+    (k : ℕ) (source target again : List ℕ) → IsTranslatedWithin k source target → IsUpgraded target again →
+    again ≡ target
 
 -- what `show` shows of a text in a form is one text
 abbrev pub OneForm : Type 0

@@ -6,7 +6,7 @@ ghost use Rattle.talc_core.specs.Composition.{CompiledRunsAreEvaluations, Compil
 ghost use Rattle.talc_core.specs.Composition.{CompiledEvaluationsRun, CompiledValuesRun};
 ghost use Rattle.talc_core.specs.Composition.{CompiledNeverSticks, CompiledGoesOn, CompiledIsKept, CompiledIsCovered};
 ghost use Rattle.talc_core.specs.Composition.{BoundedIsTaken, BoundedMeansTheSame, BoundedShowsTheSame};
-ghost use Rattle.talc_core.specs.Composition.{BoundedHasFewRegisters};
+ghost use Rattle.talc_core.specs.Composition.{BoundedHasFewRegisters, BoundedIsKept};
 ghost use Rattle.talc_core.specs.Composition.{UpgradedIsTaken, UpgradedIsTheSame, UpgradedRunsTheSame};
 ghost use Rattle.talc_core.specs.Composition.{UpgradedTracesTheSame, UpgradedNeverSticks, UpgradedIsKept};
 ghost use Rattle.talc_core.specs.Composition.{OneCompiledText, OneUpgrade, OneWrittenText};
@@ -198,6 +198,13 @@ pub fn bounded_shows_the_same()
 /// And the program that is read of it has no register above that number.
 pub fn bounded_has_few_registers()
     ensures { BoundedHasFewRegisters }
+{
+    texts_keep_laws();
+}
+
+/// It is upgraded to the same bytes.
+pub fn bounded_is_kept()
+    ensures { BoundedIsKept }
 {
     texts_keep_laws();
 }

@@ -9,7 +9,7 @@ ghost use Rattle.talc_core.specs.Composition.{BoundedIsTaken, BoundedMeansTheSam
 ghost use Rattle.talc_core.specs.Composition.{BoundedHasFewRegisters, BoundedIsKept};
 ghost use Rattle.talc_core.specs.Composition.{UpgradedIsTaken, UpgradedIsTheSame, UpgradedRunsTheSame};
 ghost use Rattle.talc_core.specs.Composition.{UpgradedTracesTheSame, UpgradedNeverSticks, UpgradedIsKept};
-ghost use Rattle.talc_core.specs.Composition.{OneCompiledText, OneUpgrade, OneWrittenText};
+ghost use Rattle.talc_core.specs.Composition.{OneBoundedText, OneCompiledText, OneUpgrade, OneWrittenText};
 ghost use Rattle.talc_core.specs.Composition.{OneForm, ShownAssemblyIsCompiled, ShownSourceIsTheSame};
 ghost use Rattle.talc_core.specs.Composition.{ShownSourceIsTaken, ShownSourceShowsTheSame, ShownSourceIsKept};
 ghost use Rattle.talc_core.specs.CostLaws.{OneCost, CostEndsAsRun};
@@ -267,6 +267,13 @@ pub fn one_written_text()
 /// Two source texts of one program, places aside, are compiled to the same bytes.
 pub fn one_compiled_text()
     ensures { OneCompiledText }
+{
+    texts_keep_laws();
+}
+
+/// So too with a number of registers.
+pub fn one_bounded_text()
+    ensures { OneBoundedText }
 {
     texts_keep_laws();
 }

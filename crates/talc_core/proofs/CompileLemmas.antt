@@ -10,10 +10,12 @@ use Rattle.t_rules.specs.Rules.{Accepted}
 use Rattle.t_rules.proofs.Once.{accepted_prop}
 use Rattle.pipeline.specs.Meaning.{SameMeaning, RunsSeldom, HaltsSoon}
 use Rattle.pipeline.specs.Compilation.{IsCompilation, IsCompilationWithin}
+use Rattle.pipeline.specs.Made.{IsMade}
 use Rattle.pipeline.specs.Work.{HasBlocks, SameWeights, WorkWithin}
 use Rattle.talc_core.specs.FirstFault.{IsChecked}
 use Rattle.talc_core.specs.Written.{IsWritten}
 use Rattle.talc_core.specs.Compiled.{IsCompiled}
+use Rattle.talc_core.specs.Translated.{IsTranslationWithin}
 use Rattle.talc_core.specs.CompiledText.{CompiledText, CompiledTextWithin}
 
 module _ (source target : List ℕ) (term : Tm) (p : TProgram) (checked : IsChecked source term TInt)
@@ -24,7 +26,7 @@ module _ (source target : List ℕ) (term : Tm) (p : TProgram) (checked : IsChec
     term = term;
     program = program p;
     checked = checked;
-    written = written;
+    reads = written.reads;
     whole = p.whole;
     accepted = ∥∥₁_elim accepted (accepted_prop (program p)) (λ is. is);
     meaning = meaning;
@@ -32,44 +34,54 @@ module _ (source target : List ℕ) (term : Tm) (p : TProgram) (checked : IsChec
     soon = soon;
   }
 
-  pub compiled_text : ∥ IsCompilation (plain term) (program p) ∥₁ → HasBlocks (plain term) (program p) →
-      SameWeights (plain term) (program p) → CompiledText source target
-  compiled_text made blocks weights = record {
-    compiled = means (∥∥₁_map made (λ c. c.accepted)) (∥∥₁_map made (λ c. c.meaning))
-        (∥∥₁_map made (λ c. c.seldom)) (∥∥₁_map made (λ c. c.soon));
+  pub compiled_text : ∥ IsCompilation (plain term) (program p) ∥₁ → IsMade (plain term) (program p) →
+      HasBlocks (plain term) (program p) → SameWeights (plain term) (program p) → CompiledText source target
+  compiled_text compiled made blocks weights = record {
+    compiled = means (∥∥₁_map compiled (λ c. c.accepted)) (∥∥₁_map compiled (λ c. c.meaning))
+        (∥∥₁_map compiled (λ c. c.seldom)) (∥∥₁_map compiled (λ c. c.soon));
     translated = record {
       term = term;
       program = program p;
       checked = checked;
       written = written;
-      translation = ∥∥₁_map made (λ c. c.translation);
-      made = ∥∥₁_map made (λ c. c.made);
+      translation = ∥∥₁_map compiled (λ c. c.translation);
     };
+    made = record { term = term; program = program p; checked = checked; written = written; made = made };
     blocks = blocks;
     weights = weights;
   }
 
+  abbrev by_rules : (k : ℕ) → IsCompilationWithin k (plain term) (program p) →
+      IsTranslationWithin k (plain term) (program p)
+  by_rules k c = record {
+    translated = c.translated;
+    translation = c.translation;
+    stays = c.stays;
+    framed = c.framed;
+    work = c.work;
+  }
+
   pub compiled_text_within : (k : ℕ) → ∥ IsCompilationWithin k (plain term) (program p) ∥₁ →
       WorkWithin (plain term) (program p) → CompiledTextWithin k source target
-  compiled_text_within k made work = record {
+  compiled_text_within k compiled work = record {
     compiled = record {
-      compiled = means (∥∥₁_map made (λ c. c.accepted)) (∥∥₁_map made (λ c. c.meaning))
-          (∥∥₁_map made (λ c. c.seldom)) (∥∥₁_map made (λ c. c.soon));
-      few = ∥∥₁_map made (λ c. c.few);
+      compiled = means (∥∥₁_map compiled (λ c. c.accepted)) (∥∥₁_map compiled (λ c. c.meaning))
+          (∥∥₁_map compiled (λ c. c.seldom)) (∥∥₁_map compiled (λ c. c.soon));
+      few = ∥∥₁_map compiled (λ c. c.few);
     };
     translated = record {
       term = term;
       program = program p;
       checked = checked;
       written = written;
-      translation = ∥∥₁_map made (λ c. record {
-        translated = c.translated;
-        translation = c.translation;
-        made = c.made;
-        stays = c.stays;
-        framed = c.framed;
-        work = c.work;
-      });
+      translation = ∥∥₁_map compiled (λ c. by_rules k c);
+    };
+    made = record {
+      term = term;
+      program = program p;
+      checked = checked;
+      written = written;
+      made = ∥∥₁_map compiled (λ c. record { by_rules = by_rules k c; made = c.made });
     };
     work = work;
   }

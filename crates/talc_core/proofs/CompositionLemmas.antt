@@ -10,6 +10,7 @@ use Rattle.f_terms.specs.Laws.{OneAnswer}
 use Rattle.t_terms.specs.Spanned.{SProg, plain_program}
 use Rattle.t_terms.specs.Tree.{TProg}
 use Rattle.t_terms.specs.Whole.{WellFormedProgram}
+use Rattle.t_text.specs.Text.{ReadsBack}
 use Rattle.t_rules.specs.Rules.{Accepted}
 use Rattle.t_rules.specs.Machine.{HaltsWithin, GoesOnAfter}
 use Rattle.t_rules.specs.Times.{program_size}
@@ -20,7 +21,6 @@ use Rattle.talc_core.specs.FirstFault.{IsChecked, IsAcceptedText}
 use Rattle.talc_core.specs.declared.status.Status.{Status}
 use Rattle.talc_core.specs.declared.status.Status.TheVariants.{Done, Refused, Usage, Limit, Budget, ReadFault}
 use Rattle.talc_core.specs.declared.status.Status.TheVariants.{WriteFault, Memory}
-use Rattle.talc_core.specs.Written.{IsWritten}
 use Rattle.talc_core.specs.Compiled.{IsCompiled}
 use Rattle.talc_core.specs.Upgraded.{IsUpgraded}
 use Rattle.talc_core.specs.Lines.{value_line}
@@ -38,21 +38,19 @@ use Rattle.talc_core.proofs.FaultLemmas.{same_term, same_program}
 use Rattle.talc_core.proofs.WrittenLemmas.{reads_same}
 use Rattle.talc_core.proofs.BothWays.{evaluates, halts, on_where_spent, spent_where_on}
 
--- a text that is written of an accepted program is one that `check` takes
-accepted_where_written : (P : TProg) (target : List ℕ) (written : IsWritten P target) → Accepted P →
-    IsAcceptedText target written.reads.0
-accepted_where_written P target written accepted =
-    let read = written.reads in
-    (read.1, subst Accepted (sym read.2) accepted)
+-- a text that reads as an accepted program is one that `check` takes
+accepted_where_read : (P : TProg) (target : List ℕ) (reads : ReadsBack target P) → Accepted P →
+    IsAcceptedText target reads.0
+accepted_where_read P target reads accepted = (reads.1, subst Accepted (sym reads.2) accepted)
 
 pub compiled_is_taken : CompiledIsTaken
 compiled_is_taken source target made =
-    (made.written.reads.0, accepted_where_written made.program target made.written made.accepted)
+    (made.reads.0, accepted_where_read made.program target made.reads made.accepted)
 
 module _ (laws : TextLaws) (source target : List ℕ) (made : IsCompiled source target) where
   -- the program that is read is the one that stands in the record, and so is the term
   pub same_assembly : (program : SProg) → IsAcceptedText target program → plain_program program ≡ made.program
-  same_assembly program accepted = reads_same laws made.program target made.written program accepted.0
+  same_assembly program accepted = reads_same laws made.program target made.reads program accepted.0
 
   pub same_source : (term : Tm) → IsChecked source term TInt → term ≡ made.term
   same_source term checked = same_term laws source term made.term checked.0 made.checked.0
@@ -187,7 +185,7 @@ bounded_has_few_registers laws k source target made program accepted =
 pub upgraded_accepted : (source target : List ℕ) (made : IsUpgraded source target) →
     IsAcceptedText target made.written.reads.0
 upgraded_accepted source target made =
-    accepted_where_written (plain_program made.program) target made.written made.accepted.1
+    accepted_where_read (plain_program made.program) target made.written.reads made.accepted.1
 
 pub upgraded_is_taken : UpgradedIsTaken
 upgraded_is_taken source target made = (made.written.reads.0, upgraded_accepted source target made)
@@ -195,11 +193,11 @@ upgraded_is_taken source target made = (made.written.reads.0, upgraded_accepted 
 pub upgraded_is_the_same : TextLaws → UpgradedIsTheSame
 upgraded_is_the_same laws source target made old new accepted read =
     let olds : old ≡ made.program = same_program laws source old made.program accepted.0 made.accepted.0 in
-    ap plain_program olds ∙ sym (reads_same laws (plain_program made.program) target made.written new read.0)
+    ap plain_program olds ∙ sym (reads_same laws (plain_program made.program) target made.written.reads new read.0)
 
 pub upgraded_never_sticks : TextLaws → UpgradedNeverSticks
 upgraded_never_sticks laws source target made program accepted =
-    let same = reads_same laws (plain_program made.program) target made.written program accepted.0 in
+    let same = reads_same laws (plain_program made.program) target made.written.reads program accepted.0 in
     laws.nothing_sticks (plain_program program) (subst WellFormedProgram (sym same) made.whole.0) accepted.1
 
 -- what is shown of one text is shown of another whose program is the same

@@ -15,7 +15,7 @@ use Rattle.talc_core.specs.declared.status.Status.TheVariants.{WriteFault, Memor
 use Rattle.talc_core.specs.declared.reply.TextListing.{TextListing}
 use Rattle.talc_core.specs.Fault.{is_limit, status_of}
 use Rattle.talc_core.specs.Lines.{fault_line}
-use Rattle.talc_core.specs.Headline.{Outside, Shows, Unwritten, ReadAlone, FaultPut, ListedRefused, ListAnswer}
+use Rattle.talc_core.specs.Headline.{Outside, TakesLine, Unwritten, ReadAlone, FaultPut, ListedRefused, ListAnswer}
 use Rattle.talc_core.specs.Listed.{ListingShown, FaultListed, ShowsListed}
 use Rattle.talc_core.specs.OnTexts.{status_at}
 use Rattle.talc_core.specs.Steps.{ListsFile, IsListed, PutsLine, Reports, ended_by}
@@ -46,7 +46,7 @@ shows_some name text l h = by_fault name text l.shown.items l.fault h
 module _ (f f' : FilesState) (o o' e e' : SinkState) where
   list_refused : (input : List ℕ) (fault : Fault) (status : Status) →
       ListsFile input f f' o o' (Err (failed.Refused fault)) →
-      (status_of fault ≡ status) × Shows e e' (fault_line fault) →
+      (status_of fault ≡ status) × TakesLine e e' (fault_line fault) →
       ListedRefused status input (outside f o e) (outside f' o' e')
   list_refused input fault status shown told =
       record {

@@ -53,8 +53,8 @@ refused no_fault programs seed text is refusal.Memory first = tt
 
 pub compiles : NoFaultWhereTaken → SourcesArePrograms → (seed : ℕ) (text : List ℕ) → text ≡ source_of seed →
     (r : Result (Vec ℕ Global) Refusal) → MakesText CompiledText AProgram text r →
-    OrMemory (λ target. IsCompiled (source_of seed) target.items) r
-compiles no_fault programs seed text is (Ok target) made = subst (λ t. IsCompiled t target.items) is made.compiled
+    OrMemory (λ target. CompiledText (source_of seed) target.items) r
+compiles no_fault programs seed text is (Ok target) made = subst (λ t. CompiledText t target.items) is made
 compiles no_fault programs seed text is (Err why) first = refused no_fault programs seed text is why first
 
 pub reads : NoFaultWhereTaken → SourcesArePrograms → (seed : ℕ) (text : List ℕ) → text ≡ source_of seed →
@@ -120,12 +120,12 @@ same_value laws one seed target made value used evaluated program accepted halte
     one (plain evaluated.term) halts.0 seed_turns halted value (same.back halts.0 halted halts.1)
     (evaluated.left, evaluated.evaluates))
 
-pub shown : TextLaws → OneAnswer → (seed : ℕ) (target : List ℕ) → IsCompiled (source_of seed) target →
+pub shown : TextLaws → OneAnswer → (seed : ℕ) (target : List ℕ) → CompiledText (source_of seed) target →
     (value : ℤ) (used : ℕ) → Evaluated seed value used → (program : SProg) → IsAcceptedText target program →
     (halted : ℤ) → Halts (plain_program program) halted → (text lines : List ℕ) → text ≡ source_of seed →
     lines ≡ seed_lines (length text) value used halted → SeedShown seed lines
 shown laws one seed target made value used evaluated program accepted halted halts text lines text_is lines_are =
-    let same = same_value laws one seed target made value used evaluated program accepted halted halts in
+    let same = same_value laws one seed target made.compiled value used evaluated program accepted halted halts in
     record {
       term = evaluated.term;
       value = value;

@@ -1,5 +1,5 @@
 -- What `trace` shows of a text is one answer, and ends as what `run` shows.
-use Rattle.std.proofs.Common.{◌≡◌, ◌∙◌, ℕ, ℤ, zero, suc, ◌+◌, ◌-◌, List, ◌++◌, refl, sym, ap, ap₂, subst}
+use Rattle.std.proofs.Common.{◌≡◌, ◌∙◌, ℕ, ℤ, zero, suc, List, ◌++◌, inl, inr, refl, sym, ap, ap₂, subst, arith}
 use Rattle.t_terms.specs.Tree.{TProg}
 use Rattle.t_terms.specs.Spanned.{plain_program}
 use Rattle.t_rules.specs.Machine.{HaltedAfter}
@@ -43,15 +43,17 @@ trace_ends_as_run from to ReadFault text lines shown = absurd shown
 trace_ends_as_run from to WriteFault text lines shown = absurd shown
 trace_ends_as_run from to Memory text lines shown = absurd shown
 
--- the integer of a halted state
 -- the lines of states
-same_lines : OneLine → (P : TProg) (m count : ℕ) (a b : List ℕ) → AreLines P m count a → AreLines P m count b → a ≡ b
-same_lines one P m zero a b x y = x ∙ sym y
-same_lines one P m (suc count) a b x y =
-    x.4
-    ∙ ap₂ (λ (before line : List ℕ). before ++ line) (same_lines one P m count x.0 y.0 x.2 y.2)
-    (one P (m + count) x.1 y.1 x.3 y.3)
-    ∙ sym y.4
+same_lines : OneLine → (P : TProg) (from end : ℕ) (a b : List ℕ) → AreLines P from end a → AreLines P from end b → a ≡ b
+same_lines one P from zero a b x y = x ∙ sym y
+same_lines one P from (suc m) a b (inl x) (inl y) = x.1 ∙ sym y.1
+same_lines one P from (suc m) a b (inl x) (inr y) = absurd (omega (arith, x.0, y.0))
+same_lines one P from (suc m) a b (inr x) (inl y) = absurd (omega (arith, x.0, y.0))
+same_lines one P from (suc m) a b (inr x) (inr y) =
+    x.5
+    ∙ ap₂ (λ (before line : List ℕ). before ++ line) (same_lines one P from m x.1 y.1 x.3 y.3)
+    (one P m x.2 y.2 x.4 y.4)
+    ∙ sym y.5
 
 module _ (laws : TextLaws) (one : OneLine) where
   same_halted : (P : TProg) (from to : ℕ) (a b : List ℕ) → HaltedStates P from to a → HaltedStates P from to b → a ≡ b
@@ -59,11 +61,11 @@ module _ (laws : TextLaws) (one : OneLine) where
       let steps : y.steps ≡ x.steps = same_steps laws P y.steps x.steps y.value x.value y.halted x.halted in
       let value : x.value ≡ y.value =
       same_value laws P x.steps x.value y.value x.halted (subst (λ n. HaltedAfter P n y.value) steps y.halted) in
-      let states : AreLines P from (suc x.steps - from) y.shown =
-      subst (λ n. AreLines P from (suc n - from) y.shown) steps y.states in
+      let states : AreLines P from (suc x.steps) y.shown =
+      subst (λ n. AreLines P from (suc n) y.shown) steps y.states in
       x.is
       ∙ ap₂ (λ (s : List ℕ) (i : ℤ). s ++ integer_line i)
-      (same_lines one P from (suc x.steps - from) x.shown y.shown x.states states) value
+      (same_lines one P from (suc x.steps) x.shown y.shown x.states states) value
       ∙ sym y.is
 
   same_running : (P : TProg) (from to : ℕ) (a b : List ℕ) → RunningStates P from to a → RunningStates P from to b →
@@ -71,7 +73,7 @@ module _ (laws : TextLaws) (one : OneLine) where
   same_running P from to a b x y =
       x.is
       ∙ ap (λ (s : List ℕ). s ++ more_instructions_line to)
-      (same_lines one P from (suc to - from) x.shown y.shown x.states y.states)
+      (same_lines one P from (suc to) x.shown y.shown x.states y.states)
       ∙ sym y.is
 
   -- no program both halts and goes on

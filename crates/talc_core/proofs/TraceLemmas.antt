@@ -1,7 +1,7 @@
 -- The lines of states, one after the other, and what a machine at a state shows of it.
-use Rattle.std.proofs.Common.{◌≡◌, ℕ, suc, ◌+◌, ◌-◌, ◌<◌, ◌≤◌, nat_eq, cond, Bool, true, false, List, [], ◌∷◌, ◌++◌}
-use Rattle.std.proofs.Common.{length, drop, get_or, Option, Some, None, refl, sym, ap, ◌∙◌, subst, arith, append_assoc}
-use Rattle.std.proofs.Common.{add-one, drop-cons}
+use Rattle.std.proofs.Common.{◌≡◌, ℕ, zero, suc, ◌+◌, ◌<◌, ◌≤◌, inl, inr, nat_eq, cond, Bool, true, false, List, []}
+use Rattle.std.proofs.Common.{◌∷◌, ◌++◌, length, drop, get_or, Option, Some, None, refl, sym, ap, ◌∙◌, subst, arith}
+use Rattle.std.proofs.Common.{append_assoc, add-one, drop-cons}
 use Rattle.std.specs.Prelude.{option_map, ℤ}
 use Rattle.std.proofs.Math.Path.{fun_ext}
 use Rattle.std.proofs.lemmas.Bool.Decides.{nat_tests}
@@ -27,16 +27,13 @@ use Rattle.t_machine.specs.Runs.{Stands, IsPlaceAfter, words_in}
 use Rattle.t_machine.specs.declared.machine.Machine.{Machine}
 use Rattle.t_trace.specs.Line.{AreWordsOf, line_text}
 use Rattle.talc_core.specs.Lines.{integer_line, more_instructions_line}
-use Rattle.talc_core.specs.Traced.{HaveWords, IsLine, AreLines, HaltedStates, RunningStates}
+use Rattle.talc_core.specs.Traced.{HaveWords, AreLines, HaltedStates, RunningStates}
 use Rattle.talc_core.specs.Tracing.{HaveAll, AddsLine}
 
 -- one line more
-pub more_lines : (P : TProg) (from m : ℕ) (old new : List ℕ) → from ≤ m → AreLines P from (m - from) old →
-    AddsLine P m old new → AreLines P from (suc m - from) new
-more_lines P from m old new le are adds =
-    let count : suc (m - from) ≡ suc m - from = omega (arith, le) in
-    let at : m ≡ from + (m - from) = omega (arith, le) in
-    subst (λ k. AreLines P from k new) count (old, adds.0, are, subst (λ k. IsLine P k adds.0) at adds.1, adds.2)
+pub more_lines : (P : TProg) (from m : ℕ) (old new : List ℕ) → from ≤ m → AreLines P from m old →
+    AddsLine P m old new → AreLines P from (suc m) new
+more_lines P from m old new le are adds = inr (le, old, adds.0, are, adds.1, adds.2)
 
 -- the words of registers, one by one
 abbrev pub Regs : Type 0
@@ -153,7 +150,7 @@ module _ (P : TProg) (whole : WellFormedProgram P) (acc : Accepted P) (m : ℕ) 
 
 -- the lines with what is said behind them
 pub halted_shown : (P : TProg) (from to steps : ℕ) (value : ℤ) (old last new : List ℕ) → steps ≤ to →
-    HaltedAfter P steps value → AreLines P from (suc steps - from) old → last ≡ integer_line value →
+    HaltedAfter P steps value → AreLines P from (suc steps) old → last ≡ integer_line value →
     new ≡ old ++ last → HaltedStates P from to new
 halted_shown P from to steps value old last new within halted states says is = record {
   steps = steps;
@@ -166,7 +163,7 @@ halted_shown P from to steps value old last new within halted states says is = r
 }
 
 pub running_shown : (P : TProg) (from to : ℕ) (old last new : List ℕ) → GoesOnAfter P to →
-    AreLines P from (suc to - from) old → last ≡ more_instructions_line to → new ≡ old ++ last →
+    AreLines P from (suc to) old → last ≡ more_instructions_line to → new ≡ old ++ last →
     RunningStates P from to new
 running_shown P from to old last new goes_on states says is = record {
   shown = old;
@@ -176,19 +173,18 @@ running_shown P from to old last new goes_on states says is = record {
 }
 
 -- no line is shown
-pub no_lines : (P : TProg) (from steps : ℕ) (lines : List ℕ) → steps < from → lines ≡ [] →
-    AreLines P from (suc steps - from) lines
-no_lines P from steps lines lt none =
-    let zero_is : 0 ≡ suc steps - from = omega (arith, lt) in subst (λ k. AreLines P from k lines) zero_is none
+pub no_lines : (P : TProg) (from end : ℕ) (lines : List ℕ) → end ≤ from → lines ≡ [] → AreLines P from end lines
+no_lines P from zero lines le none = none
+no_lines P from (suc m) lines le none = inl (omega (arith, le), none)
 
 -- where no step was made since the last line, and where one was
-pub lines_same : (P : TProg) (from m made : ℕ) (lines : List ℕ) → made ≡ 0 → AreLines P from (suc m - from) lines →
-    AreLines P from (suc (m + made) - from) lines
+pub lines_same : (P : TProg) (from m made : ℕ) (lines : List ℕ) → made ≡ 0 → AreLines P from (suc m) lines →
+    AreLines P from (suc (m + made)) lines
 lines_same P from m made lines none are =
-    let same : m ≡ m + made = omega (arith, none) in subst (λ k. AreLines P from (suc k - from) lines) same are
+    let same : m ≡ m + made = omega (arith, none) in subst (λ k. AreLines P from (suc k) lines) same are
 
 pub lines_after : (P : TProg) (from m made : ℕ) (old new : List ℕ) → made ≡ 1 → from ≤ m →
-    AreLines P from (suc m - from) old → AddsLine P (m + made) old new → AreLines P from (suc (m + made) - from) new
+    AreLines P from (suc m) old → AddsLine P (m + made) old new → AreLines P from (suc (m + made)) new
 lines_after P from m made old new one le are adds =
     let next : suc m ≡ m + made = omega (arith, one) in
-    more_lines P from (m + made) old new (omega (arith, le)) (subst (λ k. AreLines P from (k - from) old) next are) adds
+    more_lines P from (m + made) old new (omega (arith, le)) (subst (λ k. AreLines P from k old) next are) adds

@@ -19,7 +19,8 @@ use Rattle.talc_words.specs.declared.form.Form.TheVariants.{Source, Assembly}
 use Rattle.talc_core.specs.FirstFault.{AProgram, AnAssembly, IsChecked, IsAssembly, IsAcceptedText, IsTaken}
 use Rattle.talc_core.specs.Written.{IsWritten}
 use Rattle.talc_core.specs.Compiled.{IsCompiled, IsCompiledWithin}
-use Rattle.talc_core.specs.Translated.{IsTranslated}
+use Rattle.talc_core.specs.Translated.{IsTranslated, IsTranslatedWithin}
+use Rattle.talc_core.specs.Made.{IsMadeByPasses, IsMadeByPassesWithin}
 use Rattle.talc_core.specs.Upgraded.{IsUpgraded}
 use Rattle.talc_core.specs.Lines.{integer_line}
 use Rattle.talc_core.specs.Shown.{ValueShown, HaltedShown, ShowsRun, ShowsTrace}
@@ -157,7 +158,13 @@ OneWrittenText =
 -- two source texts of one program, places aside, are compiled to the same bytes; so a text is compiled to one text
 abbrev pub OneCompiledText : Type 0
 OneCompiledText =
-    (s t a b : List ℕ) → IsTranslated s a → IsTranslated t b →
+    (s t a b : List ℕ) → IsMadeByPasses s a → IsMadeByPasses t b →
+    (e f : Tm) → IsChecked s e TInt → IsChecked t f TInt → plain e ≡ plain f → a ≡ b
+
+-- so too within registers 1 to k
+abbrev pub OneBoundedText : Type 0
+OneBoundedText =
+    (k : ℕ) (s t a b : List ℕ) → IsMadeByPassesWithin k s a → IsMadeByPassesWithin k t b →
     (e f : Tm) → IsChecked s e TInt → IsChecked t f TInt → plain e ≡ plain f → a ≡ b
 
 -- a text is upgraded to one text at most
@@ -170,7 +177,13 @@ UpgradedIsKept = (source target again : List ℕ) → IsUpgraded source target �
 
 -- and so is what `compile` wrote
 abbrev pub CompiledIsKept : Type 0
-CompiledIsKept = (source target again : List ℕ) → IsCompiled source target → IsUpgraded target again → again ≡ target
+CompiledIsKept = (source target again : List ℕ) → IsTranslated source target → IsUpgraded target again → again ≡ target
+
+-- also within registers 1 to k
+abbrev pub BoundedIsKept : Type 0
+BoundedIsKept =
+    (k : ℕ) (source target again : List ℕ) → IsTranslatedWithin k source target → IsUpgraded target again →
+    again ≡ target
 
 -- what `show` shows of a text in a form is one text
 abbrev pub OneForm : Type 0
@@ -179,7 +192,7 @@ OneForm = (form : Form) (source a b : List ℕ) → FormShown form source a → 
 -- what it shows as `assembly` is what `compile` writes
 abbrev pub ShownAssemblyIsCompiled : Type 0
 ShownAssemblyIsCompiled =
-    (source target text : List ℕ) → IsTranslated source target → FormShown Assembly source text → text ≡ target
+    (source target text : List ℕ) → IsMadeByPasses source target → FormShown Assembly source text → text ≡ target
 
 -- what it shows as `source` stands for the term of the source text, places aside, and for no other
 abbrev pub ShownSourceIsTheSame : Type 0

@@ -19,9 +19,7 @@ use Rattle.talc_core.specs.Listed.{ListingShown, FaultListed, ShowsListed}
 use Rattle.talc_core.specs.Binding.{ShowsTypes}
 use Rattle.talc_core.specs.OnTexts.{Making}
 use Rattle.talc_core.specs.Command.{Asked, Compiles, CompilesWithin, Types, Evaluates, Checks, Runs, Generates}
-use Rattle.talc_core.specs.Command.{Upgrades, Traces, Explains, Lists, Costs, TypesNames}
-use Rattle.talc_core.specs.Command as command
-use Rattle.talc_core.specs.Command.{command_of}
+use Rattle.talc_core.specs.Command.{Upgrades, Traces, Shows, Explains, Lists, Costs, TypesNames, command_of}
 use Rattle.talc_core.specs.Lines.{fault_line, read_line, write_line, memory_line}
 
 -- what the call reaches: the files, the output and the error output
@@ -30,14 +28,14 @@ pub record Outside : Type 0 where
   pub out : SinkState
   pub err : SinkState
 
--- the line went onto the sink; a first part of it where the sink's count rose or stands at its last value
-abbrev pub Shows : SinkState → SinkState → List ℕ → Type 0
-Shows old new line =
+-- the sink took the line; a first part of it where its count rose or stands at its last value
+abbrev pub TakesLine : SinkState → SinkState → List ℕ → Type 0
+TakesLine old new line =
     (new.taken ≡ gained old.taken line) ⊎ (Faulted old.faults new.faults × GainedPart old.taken line new.taken)
 
--- the same; or the put wanted memory, which the sink has counted, and nothing went onto it
-abbrev pub ShowsOrNot : SinkState → SinkState → List ℕ → Type 0
-ShowsOrNot old new line = WantedMemory old new ⊎ Shows old new line
+-- the same; or the put wanted memory, which the sink has counted, and it took nothing
+abbrev pub TakesLineOrNot : SinkState → SinkState → List ℕ → Type 0
+TakesLineOrNot old new line = WantedMemory old new ⊎ TakesLine old new line
 
 -- no file is written: what is told of the files is as before, and so is the count of writes that failed, which any
 -- write might raise, also where no content is told
@@ -74,7 +72,7 @@ pub record TextRefused (status : Status) (need : Need) (input : List ℕ) (old n
   pub read : Holds old.files.told input source
   pub first : FirstFault need source fault
   pub leads : status_of fault ≡ status
-  pub line : Shows old.err new.err (fault_line fault)
+  pub line : TakesLine old.err new.err (fault_line fault)
   pub out : new.out ≡ old.out
   pub files : Unwritten old.files new.files
   pub calls : ReadAlone input old.files new.files
@@ -82,14 +80,14 @@ pub record TextRefused (status : Status) (need : Need) (input : List ℕ) (old n
 -- 5: the count of reads rose or stands at its last value, or there is no such file; no file is written
 pub record NotRead (input : List ℕ) (old new : Outside) : Type 0 where
   pub cause : Faulted old.files.reads new.files.reads ⊎ IsAbsent old.files.told input
-  pub line : Shows old.err new.err read_line
+  pub line : TakesLine old.err new.err read_line
   pub out : new.out ≡ old.out
   pub files : Unwritten old.files new.files
   pub calls : ReadAlone input old.files new.files
 
 -- 7: no file is written
 pub record OutOfMemory (input : List ℕ) (old new : Outside) : Type 0 where
-  pub line : ShowsOrNot old.err new.err memory_line
+  pub line : TakesLineOrNot old.err new.err memory_line
   pub out : IsUnput old.out new.out
   pub files : Unwritten old.files new.files
   pub calls : AtMostRead input old.files new.files
@@ -114,7 +112,7 @@ pub record TextNotWritten (Makes : Making) (input output : List ℕ) (old new : 
   pub read : Holds old.files.told input source
   pub made : Makes source target
   pub cause : Faulted old.files.writes new.files.writes
-  pub line : ShowsOrNot old.err new.err write_line
+  pub line : TakesLineOrNot old.err new.err write_line
   pub out : new.out ≡ old.out
   pub files : SameBut output old.files.told new.files.told
   pub calls : ReadThenWritten input output target old.files new.files
@@ -150,7 +148,7 @@ pub record LineNotShown (Says : Showing) (input : List ℕ) (old new : Outside) 
   pub read : Holds old.files.told input source
   pub says : Says ending source shown
   pub cause : Faulted old.out.faults new.out.faults
-  pub line : ShowsOrNot old.err new.err write_line
+  pub line : TakesLineOrNot old.err new.err write_line
   pub out : GainedPart old.out.taken shown new.out.taken
   pub files : Unwritten old.files new.files
   pub calls : ReadAlone input old.files new.files
@@ -176,7 +174,7 @@ pub record ListedRefused (status : Status) (input : List ℕ) (old new : Outside
   pub read : Holds old.files.told input source
   pub listed : FaultListed input source fault shown
   pub leads : status_of fault ≡ status
-  pub line : Shows old.err new.err (fault_line fault)
+  pub line : TakesLine old.err new.err (fault_line fault)
   pub out : new.out.taken ≡ gained old.out.taken shown
   pub files : Unwritten old.files new.files
   pub calls : ReadAlone input old.files new.files
@@ -192,7 +190,7 @@ pub record FaultPut (input : List ℕ) (old new : Outside) : Type 0 where
 
 -- 7: nothing is shown; or the listing up to a fault is, and then the line that names the fault found no memory
 pub record ListedOutOfMemory (input : List ℕ) (old new : Outside) : Type 0 where
-  pub line : ShowsOrNot old.err new.err memory_line
+  pub line : TakesLineOrNot old.err new.err memory_line
   pub out : IsUnput old.out new.out ⊎ FaultPut input old new
   pub files : Unwritten old.files new.files
   pub calls : AtMostRead input old.files new.files
@@ -229,7 +227,7 @@ pub record SeedNotWritten (seed : ℕ) (output : List ℕ) (old new : Outside) :
   pub lines : List ℕ
   pub says : SeedShown seed lines
   pub cause : Faulted old.files.writes new.files.writes
-  pub line : ShowsOrNot old.err new.err write_line
+  pub line : TakesLineOrNot old.err new.err write_line
   pub out : new.out ≡ old.out
   pub files : SameBut output old.files.told new.files.told
   pub unread : Unread old.files new.files
@@ -241,7 +239,7 @@ pub record SeedNotShown (seed : ℕ) (output : List ℕ) (old new : Outside) : T
   pub says : SeedShown seed lines
   pub written : SeedWritten seed output old new
   pub cause : Faulted old.out.faults new.out.faults
-  pub line : ShowsOrNot old.err new.err write_line
+  pub line : TakesLineOrNot old.err new.err write_line
   pub out : GainedPart old.out.taken lines new.out.taken
   pub unread : Unread old.files new.files
   pub calls : WrittenAlone output (source seed) old.files new.files
@@ -255,7 +253,7 @@ pub record SeedWrittenAlone (seed : ℕ) (output : List ℕ) (old new : Outside)
 
 -- 7: no file is written; or the file is, and then the put found no memory
 pub record SeedOutOfMemory (seed : ℕ) (output : List ℕ) (old new : Outside) : Type 0 where
-  pub line : ShowsOrNot old.err new.err memory_line
+  pub line : TakesLineOrNot old.err new.err memory_line
   pub out : IsUnput old.out new.out
   pub unread : Unread old.files new.files
   pub files : (Unwritten old.files new.files × (new.files.calls ≡ old.files.calls)) ⊎ SeedWrittenAlone seed output old
@@ -273,13 +271,13 @@ SeedAnswer seed output old new other = ⊥
 -- 2: the words are no command; some text for the user is shown, and the files are left alone
 pub record UsageShown (old new : Outside) : Type 0 where
   pub text : List ℕ
-  pub line : Shows old.err new.err text
+  pub line : TakesLine old.err new.err text
   pub out : new.out ≡ old.out
   pub files : new.files ≡ old.files
 
 -- 7 where the words are no command: there was no memory to say so
 pub record UsageNotShown (old new : Outside) : Type 0 where
-  pub line : ShowsOrNot old.err new.err memory_line
+  pub line : TakesLineOrNot old.err new.err memory_line
   pub out : new.out ≡ old.out
   pub files : new.files ≡ old.files
 
@@ -301,7 +299,7 @@ Does old new status (Costs input fuel) = LineAnswer (ShowsCost fuel) AnAssembly 
 Does old new status (Generates seed output) = SeedAnswer seed output old new status
 Does old new status (Upgrades input output) = TextAnswer IsUpgraded AnAssembly input output old new status
 Does old new status (Traces input from to) = LineAnswer (ShowsTrace from to) AnAssembly input old new status
-Does old new status (command.Shows input form) = LineAnswer (ShowsForm form) AProgram input old new status
+Does old new status (Shows input form) = LineAnswer (ShowsForm form) AProgram input old new status
 Does old new status (Explains input) = LineAnswer (ShowsExplained input) AnyText input old new status
 Does old new status (Lists input) = ListAnswer input old new status
 Does old new status (TypesNames input) = LineAnswer ShowsTypes AnyTerm input old new status

@@ -10,6 +10,7 @@ pub mod CostLaws
 pub mod Costed
 pub mod Costing
 pub mod Translated
+pub mod Made
 pub mod CompiledText
 pub mod Upgraded
 pub mod Shown

@@ -10,7 +10,7 @@ use Rattle.t_terms.specs.Spanned.{SProg, plain_program}
 use Rattle.t_rules.specs.Machine.{HaltsWithin, Halts, GoesOnAfter, NeverSticks}
 use Rattle.f_seeds.specs.Source.{source as source_of}
 use Rattle.talc_core.specs.FirstFault.{IsChecked, IsAcceptedText}
-use Rattle.talc_core.specs.Compiled.{IsCompiled}
+use Rattle.talc_core.specs.CompiledText.{CompiledText}
 use Rattle.talc_core.specs.Costed.{HaltedCost, RunningCost}
 use Rattle.talc_core.specs.Traced.{HaltedStates, RunningStates}
 use Rattle.talc_core.specs.Lines.{type_line, value_line, more_turns_line}
@@ -114,8 +114,9 @@ ShowsCost fuel = ShowsOfRun (HaltedCost fuel) (RunningCost fuel)
 abbrev pub seed_turns : ℕ
 seed_turns = 1000000
 
--- The source of the seed is a text of a program, which evaluates to an integer. It is compiled to a text of an accepted
--- program, which halts with the same integer. The lines say so, with the number of bytes and that of turns.
+-- The source of the seed is a text of a program, which evaluates to an integer. It is compiled, as by `compile`, to a
+-- text of an accepted program, which halts with the same integer. The lines say so, with the number of bytes and that
+-- of turns.
 pub record SeedShown (seed : ℕ) (lines : List ℕ) : Type 0 where
   pub term : Tm
   pub value : ℤ
@@ -126,7 +127,7 @@ pub record SeedShown (seed : ℕ) (lines : List ℕ) : Type 0 where
   pub checked : IsChecked (source_of seed) term TInt
   pub evaluates : EvaluatesLeaving (plain term) seed_turns value left
   pub turns_used : used + left ≡ seed_turns
-  pub compiled : IsCompiled (source_of seed) target
+  pub compiled : CompiledText (source_of seed) target
   pub accepted : IsAcceptedText target program
   pub halts : Halts (plain_program program) value
   pub is : lines ≡ seed_lines (length (source_of seed)) value used value

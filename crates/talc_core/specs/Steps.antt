@@ -38,8 +38,7 @@ use Rattle.talc_core.specs.declared.reply.Ending.TheVariants.{Ends, GoesOn}
 use Rattle.talc_core.specs.declared.reply.Reply.{Reply}
 use Rattle.talc_core.specs.Fault.{status_of}
 use Rattle.talc_core.specs.Command.{Asked, Compiles, CompilesWithin, Types, Evaluates, Checks, Runs, Generates}
-use Rattle.talc_core.specs.Command.{Upgrades, Traces, Explains, Lists, Costs, TypesNames}
-use Rattle.talc_core.specs.Command as command
+use Rattle.talc_core.specs.Command.{Upgrades, Traces, Shows, Explains, Lists, Costs, TypesNames}
 use Rattle.talc_core.specs.FirstFault.{Need, AnyText, AnyTerm, AProgram, CellFree, AnAssembly}
 use Rattle.talc_core.specs.FirstFault.{IsChecked, IsAcceptedText, IsTaken, FirstFault}
 use Rattle.talc_core.specs.CompiledText.{CompiledText, CompiledTextWithin}
@@ -55,7 +54,7 @@ use Rattle.talc_core.specs.Explained.{ShowsExplained, explained}
 use Rattle.talc_core.specs.Listed.{ListingShown, RowsTo, FaultListed, ShowsListed}
 use Rattle.talc_core.specs.Binding.{ShowsTypes}
 use Rattle.talc_core.specs.OnTexts.{Making, RefusedBy, status_at}
-use Rattle.talc_core.specs.Headline.{Shows, ShowsOrNot, Unwritten, Unread}
+use Rattle.talc_core.specs.Headline.{TakesLine, TakesLineOrNot, Unwritten, Unread}
 use Rattle.talc_core.specs.Headline.{ReadAlone, WrittenAlone, ReadThenWritten, AtMostRead}
 use Rattle.talc_core.specs.Lines.{fault_line, read_line, write_line, memory_line}
 
@@ -277,7 +276,7 @@ Performs (Upgrades input output) old new out out' result =
     MakesFile IsUpgraded AnAssembly input output old new result × (out' ≡ out)
 Performs (Traces input from to) old new out out' result =
     ShowsFile (ShowsTrace from to) AnAssembly input old new out out' result
-Performs (command.Shows input form) old new out out' result =
+Performs (Shows input form) old new out out' result =
     ShowsFile (ShowsForm form) AProgram input old new out out' result
 Performs (Explains input) old new out out' result =
     ShowsFile (ShowsExplained input) AnyText input old new out out' result
@@ -289,15 +288,15 @@ Performs (TypesNames input) old new out out' result = ShowsFile ShowsTypes AnyTe
 -- the line is shown and the status is this; or the put wanted memory
 abbrev pub ShowsFor : List ℕ → Status → SinkState → SinkState → Status → Type 0
 ShowsFor line wanted old new answer =
-    ((answer ≡ wanted) × Shows old new line) ⊎ ((answer ≡ status.Memory) × WantedMemory old new)
+    ((answer ≡ wanted) × TakesLine old new line) ⊎ ((answer ≡ status.Memory) × WantedMemory old new)
 
 -- the line of a failure, and the status that it leads to
 abbrev pub Reports : Failure → SinkState → SinkState → Status → Type 0
 Reports (Refused fault) old new status.Refused =
-    (status_of fault ≡ status.Refused) × Shows old new (fault_line fault)
-Reports (Refused fault) old new status.Limit = (status_of fault ≡ status.Limit) × Shows old new (fault_line fault)
-Reports Read old new status.ReadFault = Shows old new read_line
-Reports Write old new status.WriteFault = ShowsOrNot old new write_line
+    (status_of fault ≡ status.Refused) × TakesLine old new (fault_line fault)
+Reports (Refused fault) old new status.Limit = (status_of fault ≡ status.Limit) × TakesLine old new (fault_line fault)
+Reports Read old new status.ReadFault = TakesLine old new read_line
+Reports Write old new status.WriteFault = TakesLineOrNot old new write_line
 Reports Write old new other = ⊥
-Reports failure old new status.Memory = ShowsOrNot old new memory_line
+Reports failure old new status.Memory = TakesLineOrNot old new memory_line
 Reports failure old new other = ⊥

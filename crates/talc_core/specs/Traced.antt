@@ -1,5 +1,5 @@
 -- What `trace` shows of an assembly program: the lines of its states, from one number of steps to another.
-use Rattle.std.specs.Prelude.{◌≡◌, ◌≤◌, ◌+◌, ◌-◌, ◌++◌, ℕ, zero, suc, ℤ, List, [], ◌∷◌, Some, length}
+use Rattle.std.specs.Prelude.{◌≡◌, ◌⊎◌, ◌<◌, ◌≤◌, ◌++◌, ℕ, zero, suc, ℤ, List, [], ◌∷◌, Some, length}
 use Rattle.t_types.specs.Tree.{TFile, NoRegs, MoreRegs}
 use Rattle.t_terms.specs.Tree.{TProg}
 use Rattle.t_terms.specs.Whole.{WellFormedProgram}
@@ -35,11 +35,12 @@ pub record IsLine (P : TProg) (m : ℕ) (line : List ℕ) : Type 0 where
   pub have : HaveWords (erase_regs (regs_of state)) words file
   pub is : line ≡ line_text m block index names words file
 
--- the lines of so many states in turn, of which the first is the one after m steps
-abbrev pub AreLines : TProg → (m count : ℕ) → List ℕ → Type 0
-AreLines P m zero lines = lines ≡ []
-AreLines P m (suc count) lines =
-    (before line : List ℕ) × AreLines P m count before × IsLine P (m + count) line × (lines ≡ before ++ line)
+-- the lines, in turn, of the states after at least `from` and less than `end` steps
+abbrev pub AreLines : TProg → (from end : ℕ) → List ℕ → Type 0
+AreLines P from zero lines = lines ≡ []
+AreLines P from (suc m) lines =
+    ((m < from) × (lines ≡ []))
+    ⊎ ((from ≤ m) × (before line : List ℕ) × AreLines P from m before × IsLine P m line × (lines ≡ before ++ line))
 
 -- P halts after at most `to` steps; the lines of its states from `from` steps on, and the line of its integer
 pub record HaltedStates (P : TProg) (from to : ℕ) (lines : List ℕ) : Type 0 where
@@ -48,14 +49,14 @@ pub record HaltedStates (P : TProg) (from to : ℕ) (lines : List ℕ) : Type 0 
   pub shown : List ℕ
   pub within : steps ≤ to
   pub halted : HaltedAfter P steps value
-  pub states : AreLines P from (suc steps - from) shown
+  pub states : AreLines P from (suc steps) shown
   pub is : lines ≡ shown ++ integer_line value
 
 -- P goes on after `to` steps; the lines of its states from `from` steps to `to`, and the line that it goes on
 pub record RunningStates (P : TProg) (from to : ℕ) (lines : List ℕ) : Type 0 where
   pub shown : List ℕ
   pub goes_on : GoesOnAfter P to
-  pub states : AreLines P from (suc to - from) shown
+  pub states : AreLines P from (suc to) shown
   pub is : lines ≡ shown ++ more_instructions_line to
 
 -- in a program of so many blocks, where the heap has so many tuples, each word is of the kind of the type beside it

@@ -6,29 +6,25 @@ use Rattle.t_terms.specs.Tree.{TProg}
 use Rattle.t_spill_laws.specs.Bound.{RegistersUpTo}
 use Rattle.t_spill_rules.specs.Spill.{spilled}
 use Rattle.pipeline.specs.Compilation.{IsTranslation}
-use Rattle.pipeline.specs.Made.{IsMade}
 use Rattle.pipeline.specs.Work.{WorkByBound}
 use Rattle.talc_core.specs.FirstFault.{IsChecked}
 use Rattle.talc_core.specs.Written.{IsWritten}
 
 -- The source text is a text of a program, and the target text the one that is written of a translation of it by the
--- rules of the passes in turn: the one that the passes make. Who wants to know that it is a translation reads the
--- rules alone, and by a law of `pipeline` whatever is one and is accepted means the same; `IsMade` shuts what the rules
--- leave open, so that one source gives one program.
+-- rules of the passes in turn. No function of a pass is named. By a law of `pipeline` whatever is a translation and is
+-- accepted means the same.
 pub record IsTranslated (source target : List ℕ) : Type 0 where
   pub term : Tm
   pub program : TProg
   pub checked : IsChecked source term TInt
   pub written : IsWritten program target
   pub translation : ∥ IsTranslation (plain term) program ∥₁
-  pub made : ∥ IsMade (plain term) program ∥₁
 
--- The program is that translation of the term where that names no register above k, and else what it is spilled to; by
--- that it has the work of the one or of the other.
+-- The program is a translation of the term where that names no register above k, and else what it is spilled to; by
+-- that it has the work of the one or of the other. No function of a pass is named but that one (`spilled`).
 pub record IsTranslationWithin (k : ℕ) (e : Term) (P : TProg) : Type 0 where
   pub translated : TProg
   pub translation : IsTranslation e translated
-  pub made : IsMade e translated
   pub stays : RegistersUpTo k translated → P ≡ translated
   pub framed : (RegistersUpTo k translated → ⊥) → P ≡ spilled k translated
   pub work : WorkByBound k e translated P

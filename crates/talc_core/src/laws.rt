@@ -6,10 +6,10 @@ ghost use Rattle.talc_core.specs.Composition.{CompiledRunsAreEvaluations, Compil
 ghost use Rattle.talc_core.specs.Composition.{CompiledEvaluationsRun, CompiledValuesRun};
 ghost use Rattle.talc_core.specs.Composition.{CompiledNeverSticks, CompiledGoesOn, CompiledIsKept, CompiledIsCovered};
 ghost use Rattle.talc_core.specs.Composition.{BoundedIsTaken, BoundedMeansTheSame, BoundedShowsTheSame};
-ghost use Rattle.talc_core.specs.Composition.{BoundedHasFewRegisters};
+ghost use Rattle.talc_core.specs.Composition.{BoundedHasFewRegisters, BoundedIsKept};
 ghost use Rattle.talc_core.specs.Composition.{UpgradedIsTaken, UpgradedIsTheSame, UpgradedRunsTheSame};
 ghost use Rattle.talc_core.specs.Composition.{UpgradedTracesTheSame, UpgradedNeverSticks, UpgradedIsKept};
-ghost use Rattle.talc_core.specs.Composition.{OneCompiledText, OneUpgrade, OneWrittenText};
+ghost use Rattle.talc_core.specs.Composition.{OneBoundedText, OneCompiledText, OneUpgrade, OneWrittenText};
 ghost use Rattle.talc_core.specs.Composition.{OneForm, ShownAssemblyIsCompiled, ShownSourceIsTheSame};
 ghost use Rattle.talc_core.specs.Composition.{ShownSourceIsTaken, ShownSourceShowsTheSame, ShownSourceIsKept};
 ghost use Rattle.talc_core.specs.CostLaws.{OneCost, CostEndsAsRun};
@@ -202,6 +202,13 @@ pub fn bounded_has_few_registers()
     texts_keep_laws();
 }
 
+/// It is upgraded to the same bytes.
+pub fn bounded_is_kept()
+    ensures { BoundedIsKept }
+{
+    texts_keep_laws();
+}
+
 /// What `upgrade` writes is a text that `check`, `run` and `upgrade` take: it stands for a program that the typing
 /// rules accept.
 pub fn upgraded_is_taken()
@@ -260,6 +267,13 @@ pub fn one_written_text()
 /// Two source texts of one program, places aside, are compiled to the same bytes.
 pub fn one_compiled_text()
     ensures { OneCompiledText }
+{
+    texts_keep_laws();
+}
+
+/// So too with a number of registers.
+pub fn one_bounded_text()
+    ensures { OneBoundedText }
 {
     texts_keep_laws();
 }

@@ -9,7 +9,7 @@ ghost use Rattle.f_terms.specs.ReadTerm.{spanned};
 ghost use Rattle.f_check.specs.Typed.{program_term};
 ghost use Rattle.t_check.specs.Checked.{checked_program};
 ghost use Rattle.f_seeds.specs.Source.{source};
-ghost use Rattle.talc_core.specs.Compiled.{IsCompiled};
+ghost use Rattle.talc_core.specs.CompiledText.{CompiledText};
 ghost use Rattle.talc_core.specs.FirstFault.{AnAssembly, IsChecked, IsAcceptedText, IsTaken};
 ghost use Rattle.talc_core.specs.Lines.{bytes_line, seed_lines};
 ghost use Rattle.talc_core.specs.Shown.{seed_turns, SeedShown};
@@ -69,10 +69,10 @@ fn seed_lines(
     Ok(lines)
 }
 
-// The assembly text that the source of a seed is compiled to.
+// The assembly text that the source of a seed is compiled to, as by `compile`.
 fn compile_seed(alloc: Global, seed: u64, text: &[u8]) -> Result<Vec<u8>, Refusal>
     requires { text.now ≡ source seed }
-    ensures { OrMemory (λ target. IsCompiled (source seed) target.items) result }
+    ensures { OrMemory (λ target. CompiledText (source seed) target.items) result }
 {
     no_fault_where_taken();
     sources_are_programs();

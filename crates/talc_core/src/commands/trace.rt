@@ -1,5 +1,5 @@
 // The command `trace`.
-ghost use Rattle.std.specs.Prelude.{◌≡◌, ◌≤◌, ◌<◌, ◌+◌, ◌-◌, ◌++◌, suc, List, ℕ, IfOk, OnOk};
+ghost use Rattle.std.specs.Prelude.{◌≡◌, ◌≤◌, ◌<◌, ◌+◌, ◌++◌, suc, List, ℕ, IfOk, OnOk};
 ghost use Rattle.t_types.specs.Read.{file};
 ghost use Rattle.t_terms.specs.ReadProgram.{program as program_of};
 ghost use Rattle.t_terms.specs.Tree.{TProg};
@@ -91,7 +91,7 @@ fn write_state(
 // What is shown of a program that has halted, behind the lines of its states.
 fn halted_reply(alloc: Global, lines: Vec<u8>, value: i64) -> Result<Reply, OutOfMemory>
     ensures { IfOk result (λ reply. (P : TProg) → (from to steps : ℕ) → steps ≤ to → HaltedAfter P steps value →
-        AreLines P from (suc steps - from) lines.items → StatesShown P from to reply.ending reply.line.items) }
+        AreLines P from (suc steps) lines.items → StatesShown P from to reply.ending reply.line.items) }
 {
     let mut line = lines;
     let last = integer_line(alloc, value)?;
@@ -105,7 +105,7 @@ fn halted_reply(alloc: Global, lines: Vec<u8>, value: i64) -> Result<Reply, OutO
 // And of one that goes on.
 fn running_reply(alloc: Global, lines: Vec<u8>, to: u64) -> Result<Reply, OutOfMemory>
     ensures { IfOk result (λ reply. (P : TProg) → (from : ℕ) → GoesOnAfter P to →
-        AreLines P from (suc to - from) lines.items → StatesShown P from to reply.ending reply.line.items) }
+        AreLines P from (suc to) lines.items → StatesShown P from to reply.ending reply.line.items) }
 {
     let mut line = lines;
     let last = more_instructions_line(alloc, to)?;

@@ -6,14 +6,14 @@ use Rattle.talc_core.specs.declared.report.Failure.TheVariants as failure
 use Rattle.talc_core.specs.declared.status.Status.{Status}
 use Rattle.talc_core.specs.declared.status.Status.TheVariants.{Refused, Limit}
 use Rattle.talc_core.specs.Fault.{is_limit, status_of}
-use Rattle.talc_core.specs.Headline.{Shows}
+use Rattle.talc_core.specs.Headline.{TakesLine}
 use Rattle.talc_core.specs.Lines.{fault_line}
 use Rattle.talc_core.specs.Steps.{Reports, ShowsFor}
 use Rattle.talc_core.proofs.report.report.Goals as goal
 
 -- the line of a fault is shown, or memory was wanted
 module _ (fault : Fault) (old new : SinkState) where
-  shown_by : Shows old new (fault_line fault) → (b : Bool) → is_limit fault ≡ b →
+  shown_by : TakesLine old new (fault_line fault) → (b : Bool) → is_limit fault ≡ b →
       Reports (failure.Refused fault) old new (if b then Limit else Refused)
   shown_by shown true e = (ap (λ (x : Bool). if x then Limit else Refused) e, shown)
   shown_by shown false e = (ap (λ (x : Bool). if x then Limit else Refused) e, shown)

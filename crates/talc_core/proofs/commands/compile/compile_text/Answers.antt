@@ -13,4 +13,4 @@ returns c =
     let text = written target made _ c.program.ensures.same c.in_ok-compiled.ensures.shallow
     c.in_ok-target.ensures.same c.in_ok-target.ensures.reads in
     compiled_text c.args.source.now target term made c.in_ok-program.ensures text c.in_ok-compiled.ensures.compiled
-    c.in_ok-compiled.ensures.work c.in_ok-compiled.ensures.weights
+    c.in_ok-compiled.ensures.made c.in_ok-compiled.ensures.work c.in_ok-compiled.ensures.weights

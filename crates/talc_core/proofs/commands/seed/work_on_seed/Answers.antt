@@ -11,7 +11,7 @@ pub check_target-requires : goal.check_target-requires
 check_target-requires c =
     let target = c.in_ok-target.target.items in
     subst (λ (t : List ℕ). IsTaken AnAssembly t) (sym c.deref.ensures.value)
-    (target_taken (source c.args.seed) target c.in_ok-target.ensures)
+    (target_taken (source c.args.seed) target c.in_ok-target.ensures.compiled)
 
 pub halting_value-requires-clause-soon : goal.halting_value-requires-clause-soon
 halting_value-requires-clause-soon c =
@@ -19,7 +19,7 @@ halting_value-requires-clause-soon c =
     let evaluation = c.in_ok-evaluation.evaluation in
     let program = spanned_program (checked_program c.in_ok-program.program) in
     let accepted = subst (λ (t : List ℕ). IsAcceptedText t program) c.deref.ensures.value c.in_ok-program.ensures in
-    soon c.texts_keep_laws.ensures c.args.seed target c.in_ok-target.ensures evaluation.value evaluation.used
+    soon c.texts_keep_laws.ensures c.args.seed target c.in_ok-target.ensures.compiled evaluation.value evaluation.used
     c.in_ok-evaluation.ensures program accepted
 
 pub returns : goal.returns

@@ -1,4 +1,4 @@
-use Rattle.std.proofs.Common.{rules, ◌≡◌, ◌∙◌, ◌+◌, ◌-◌, ◌≤◌, suc, ap, sym, subst, arith, add-one, to_z, of_z, w64}
+use Rattle.std.proofs.Common.{rules, ◌≡◌, ◌∙◌, ◌+◌, ◌≤◌, suc, ap, refl, sym, subst, arith, add-one, to_z, of_z, w64}
 use Rattle.std.proofs.Common.{List, ℕ}
 use Rattle.t_terms.specs.ReadProgram.{program}
 use Rattle.t_terms.specs.Tree.{TProg}
@@ -8,7 +8,7 @@ use Rattle.t_check.specs.declared.walk.Walk.{Walk}
 use Rattle.t_machine.specs.Runs.{Stands}
 use Rattle.talc_core.specs.Traced.{AreLines}
 use Rattle.talc_core.specs.Tracing.{AddsLine}
-use Rattle.talc_core.proofs.TraceLemmas.{more_lines, lines_same, lines_after}
+use Rattle.talc_core.proofs.TraceLemmas.{more_lines, no_lines, lines_same, lines_after}
 use Rattle.talc_core.proofs.commands.trace.states_from.Goals.{then-made-gt0+in_ok-write_state-in-Halted, else-made-gt0}
 use Rattle.talc_core.proofs.commands.trace.states_from.Goals as goal
 
@@ -19,6 +19,17 @@ one_program v w same = ap (λ p. program p.now) same
 one_line : (v w : Walk) (m : ℕ) (old new : List ℕ) → v.program ≡ w.program → AddsLine (walked v) m old new →
     AddsLine (walked w) m old new
 one_line v w m old new same adds = subst (λ P. AddsLine P m old new) (one_program v w same) adds
+
+pub loop-m-init : goal.loop-m-init
+loop-m-init c =
+    let from = c.args.window.from in
+    record {
+      stands = c.requires.stands;
+      walk = c.requires.walk;
+      same = refl;
+      lines = no_lines (walked c.args.walk.now) from from c.new-lines.result.items (omega arith)
+          c.new-lines.ensures.items;
+    }
 
 pub write_state-requires-then-made-gt0-clause-stands : goal.write_state-requires-then-made-gt0-clause-stands
 write_state-requires-then-made-gt0-clause-stands c =
@@ -49,7 +60,7 @@ returns-in-Halted c =
     let first =
     one_line c.loop-m.walk w m c.loop-m.lines.items old c.loop-m.invariant.same c.in_ok-write_state.ensures.line in
     let lines = more_lines P from m c.loop-m.lines.items old le c.loop-m.invariant.lines first in
-    let all : AreLines P from (suc (m + k) - from) c.if-made-gt0.lines.items = elim c.if-made-gt0.branch [
+    let all : AreLines P from (suc (m + k)) c.if-made-gt0.lines.items = elim c.if-made-gt0.branch [
       | then-made-gt0+in_ok-write_state-in-Halted b ↦
           let one : k ≡ 1 = omega (arith, h.0, b.if-made-gt0.true) in
           let new = b.write_state-then-made-gt0.new.lines.items in
@@ -58,10 +69,10 @@ returns-in-Halted c =
           one_line c.write_state.new.walk w (m + 1) old new same b.in_ok-write_state-in-Halted.ensures.line in
           let after =
           lines_after P from m k old new one le lines (subst (λ n. AddsLine P (m + n) old new) (sym one) next) in
-          subst (λ v. AreLines P from (suc (m + k) - from) v.items) (sym b.lines-is) after
+          subst (λ v. AreLines P from (suc (m + k)) v.items) (sym b.lines-is) after
       | else-made-gt0 b ↦
           let none : k ≡ 0 = omega (arith, b.if-made-gt0.false) in
-          subst (λ v. AreLines P from (suc (m + k) - from) v.items) (sym b.lines-is)
+          subst (λ v. AreLines P from (suc (m + k)) v.items) (sym b.lines-is)
           (lines_same P from m k old none lines)
     ] in
     c.in_ok-reply-in-Halted.ensures P from c.args.window.to (m + k) within (subst (HaltedAfter P (m + k)) kept h.1) all
@@ -80,7 +91,7 @@ loop-m-preserved c =
       stands = c.in-Spent.ensures.stands P w.program.now.whole.0 c.requires.accepted m c.loop-m.invariant.stands;
       walk = c.in_ok-write_state.ensures.walk;
       same = c.in_ok-write_state.ensures.program ∙ c.loop-m.invariant.same;
-      lines = subst (λ k. AreLines P from (k - from) new) (sym (add-one m))
+      lines = subst (λ k. AreLines P from k new) (sym (add-one m))
           (more_lines P from m c.loop-m.lines.items new le c.loop-m.invariant.lines first);
     }
 
@@ -100,7 +111,7 @@ returns-in_ok-reply-in-Halted-run c =
     let new = c.write_state-2.new.lines.items in
     let last = one_line c.loop-m.walk w to c.loop-m.lines.items new c.loop-m.invariant.same
     c.in_ok-write_state-2.ensures.line in
-    let before = subst (λ n. AreLines P from (n - from) c.loop-m.lines.items) same c.loop-m.invariant.lines in
+    let before = subst (λ n. AreLines P from n c.loop-m.lines.items) same c.loop-m.invariant.lines in
     let lines = more_lines P from to c.loop-m.lines.items new c.requires.order before last in
     c.in_ok-reply-in-Halted-run.ensures P from to to (omega arith)
     (subst (HaltedAfter P to) kept (subst (λ n. HaltedAfter P n i) at h.1)) lines
@@ -118,6 +129,6 @@ returns-in_ok-reply-in-Spent-run c =
     let new = c.write_state-2.new.lines.items in
     let last = one_line c.loop-m.walk w to c.loop-m.lines.items new c.loop-m.invariant.same
     c.in_ok-write_state-2.ensures.line in
-    let before = subst (λ n. AreLines P from (n - from) c.loop-m.lines.items) same c.loop-m.invariant.lines in
+    let before = subst (λ n. AreLines P from n c.loop-m.lines.items) same c.loop-m.invariant.lines in
     let lines = more_lines P from to c.loop-m.lines.items new c.requires.order before last in
     c.in_ok-reply-in-Spent-run.ensures P from (subst (λ n. GoesOnAfter P n) at h) lines

@@ -1,4 +1,4 @@
-use Rattle.std.proofs.Common.{◌≡◌, ◌-◌}
+use Rattle.std.proofs.Common.{◌≡◌}
 use Rattle.t_check.specs.Walks.{IsWalk, walked}
 use Rattle.t_machine.specs.Runs.{Stands}
 use Rattle.talc_core.specs.Traced.{AreLines}
@@ -9,5 +9,5 @@ invariant-loop-m l = record {
   stands : Stands (walked l.fn.walk) l.m l.machine;
   walk : IsWalk l.walk;
   same : l.walk.program ≡ l.fn.walk.program;
-  lines : AreLines (walked l.fn.walk) l.window.from (l.m - l.window.from) l.lines.items;
+  lines : AreLines (walked l.fn.walk) l.window.from l.m l.lines.items;
 }

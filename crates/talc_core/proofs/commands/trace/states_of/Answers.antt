@@ -1,4 +1,4 @@
-use Rattle.std.proofs.Common.{rules, ◌≡◌, ◌+◌, ◌<◌, ◌≤◌, subst, arith, to_z, of_z, w64, sym}
+use Rattle.std.proofs.Common.{rules, ◌≡◌, ◌+◌, ◌≤◌, suc, subst, arith, to_z, of_z, w64, sym}
 use Rattle.t_terms.specs.ReadProgram.{program}
 use Rattle.t_terms.specs.Tree.{TProg}
 use Rattle.t_rules.specs.Machine.{HaltedAfter}
@@ -17,11 +17,11 @@ returns-then-made-window c =
     let kept : i ≡ to_z w64 (of_z w64 i) = search (rules, c.run.type_inv, c.in-Halted.is) in
     let h = c.in-Halted.ensures.answer P p.whole.0 c.requires.accepted 0 c.requires.stands in
     let at : 0 + k ≡ k = omega arith in
-    let before : k < c.args.window.from = omega (arith, c.if-made-window.true) in
+    let before : suc k ≤ c.args.window.from = omega (arith, c.if-made-window.true) in
     let within : k ≤ c.args.window.to = omega (arith, before, c.requires.order) in
     c.in_ok-reply-in-Halted.ensures P c.args.window.from c.args.window.to k within
     (subst (HaltedAfter P k) kept (subst (λ n. HaltedAfter P n i) at h.1))
-    (no_lines P c.args.window.from k c.new.result.items before c.new.ensures.items)
+    (no_lines P c.args.window.from (suc k) c.new.result.items before c.new.ensures.items)
 
 pub states_from-requires-clause-stands : goal.states_from-requires-clause-stands
 states_from-requires-clause-stands c =

@@ -6,7 +6,6 @@ use Rattle.idx_core.specs.declared.span.Span.{Span}
 use Rattle.t_terms.specs.declared.instr.Instr.{Instr}
 use Rattle.t_terms.specs.declared.block.Block.{Block}
 use Rattle.t_terms.specs.Tree.{TEnd, TSeq, TBlock, names_after}
-use Rattle.t_text.specs.declared.token.Kind.TheVariants as k
 use Rattle.t_terms.specs.Spanned.{seq_of}
 use Rattle.t_terms.specs.Read.{instr, body, block, blocks_of}
 use Rattle.t_terms.specs.Whole.{WellFormedInstr, WellFormedEnd, WellFormedSeq, WellFormedBlocks}
@@ -109,8 +108,8 @@ block_parts : (n : ℕ) (bs fs cs : List Lexeme) (t0 t1 t2 t3 t4 t5 t6 : List �
     t6 ≡ t5 ++ render cs →
     t6 ≡ t0 ++ render
     (LabelName n
-    ∷ (Sign 58 k.Colon
-    ∷ (space ∷ (Reserved (codes "code") k.Code ∷ (bs ++ (fs ++ (Sign 46 k.Dot ∷ (line_end ∷ cs))))))))
+    ∷ (Sign 58
+    ∷ (space ∷ (Reserved (codes "code") ∷ (bs ++ (fs ++ (Sign 46 ∷ (line_end ∷ cs))))))))
 block_parts n bs fs cs t0 t1 t2 t3 t4 t5 t6 e1 e2 e3 e4 e5 e6 =
     rw (
       e6,
@@ -119,8 +118,8 @@ block_parts n bs fs cs t0 t1 t2 t3 t4 t5 t6 e1 e2 e3 e4 e5 e6 =
       e3,
       e2,
       e1,
-      render_append bs (fs ++ (Sign 46 k.Dot ∷ (line_end ∷ cs))),
-      render_append fs (Sign 46 k.Dot ∷ (line_end ∷ cs)),
+      render_append bs (fs ++ (Sign 46 ∷ (line_end ∷ cs))),
+      render_append fs (Sign 46 ∷ (line_end ∷ cs)),
     )
     (regroup t0 (76 ∷ decimal n) (codes ": code") (render bs) (render fs) (codes ".\n") (render cs))
 

@@ -8,7 +8,6 @@ use Rattle.t_types.specs.Read.{tree}
 use Rattle.t_types.specs.Tree.{Ty}
 use Rattle.t_terms.specs.declared.value.Value.{Value}
 use Rattle.t_terms.specs.declared.data.Data.{Data}
-use Rattle.t_text.specs.declared.token.Kind.TheVariants as k
 use Rattle.t_terms.specs.Tree.{TValue, TDatum, TData}
 use Rattle.t_terms.specs.Spanned.{plain_fields}
 use Rattle.t_terms.specs.Read.{value, data_fields, data_of}
@@ -113,7 +112,7 @@ pub datum_done : (v : TValue) (t : Ty) (t0 t1 t2 t3 : List ℕ) → t1 ≡ t0 ++
     t2 ≡ t1 ++ codes " : " → t3 ≡ t2 ++ render (type_written 0 t) →
     t3 ≡ t0 ++ render (datum_written (record { value = v; ty = t }))
 datum_done v t t0 t1 t2 t3 e1 e2 e3 =
-    rw (e3, e2, e1, render_append (value_written 0 v) (space ∷ (Sign 58 k.Colon ∷ (space ∷ type_written 0 t))))
+    rw (e3, e2, e1, render_append (value_written 0 v) (space ∷ (Sign 58 ∷ (space ∷ type_written 0 t))))
     (simp append_assoc)
 
 regroup : (a b c d e : List ℕ) → a ++ b ++ c ++ d ++ e ≡ a ++ (b ++ (c ++ (d ++ e)))
@@ -123,11 +122,11 @@ regroup a b c d e = simp append_assoc
 data_parts : (n : ℕ) (fs : List Lexeme) (t0 t1 t2 t3 t4 : List ℕ) → t1 ≡ t0 ++ 68 ∷ decimal n →
     t2 ≡ t1 ++ codes ": data <" → t3 ≡ t2 ++ render fs → t4 ≡ t3 ++ codes ">\n" →
     t4 ≡ t0 ++ render
-    (DataName n ∷ (Sign 58 k.Colon
-    ∷ (space ∷ (Reserved (codes "data") k.Data
-    ∷ (space ∷ (Sign 60 k.LeftAngle ∷ (fs ++ (Sign 62 k.RightAngle ∷ (line_end ∷ [])))))))))
+    (DataName n ∷ (Sign 58
+    ∷ (space ∷ (Reserved (codes "data")
+    ∷ (space ∷ (Sign 60 ∷ (fs ++ (Sign 62 ∷ (line_end ∷ [])))))))))
 data_parts n fs t0 t1 t2 t3 t4 e1 e2 e3 e4 =
-    rw (e4, e3, e2, e1, render_append fs (Sign 62 k.RightAngle ∷ (line_end ∷ [])))
+    rw (e4, e3, e2, e1, render_append fs (Sign 62 ∷ (line_end ∷ [])))
     (regroup t0 (68 ∷ decimal n) (codes ": data <") (render fs) (codes ">\n"))
 
 pub data_done : (n : ℕ) (xs : TData) (t0 t1 t2 t3 t4 : List ℕ) → t1 ≡ t0 ++ 68 ∷ decimal n →

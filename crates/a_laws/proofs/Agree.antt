@@ -5,11 +5,11 @@ use Rattle.std.proofs.lemmas.Option.{slice_get-map}
 use Rattle.a_laws.proofs.CLaws.{CLaws}
 use Rattle.a_laws.proofs.Rel.{At, Later, at_more, at_new}
 use Rattle.a_laws.proofs.Types.{atype_suc}
-use Rattle.a_laws.specs.Allocate.{Known, afull, arg_depth, arg_levels, atype, atypes, plain}
+use Rattle.a_laws.specs.Allocate.{Known, arg_depth, arg_levels, atype, atypes, plain}
 use Rattle.a_terms.specs.Each.{AProp, DEach, TEach, VEach}
 use Rattle.a_terms.specs.Tree.{ADecl, AFields, AProg, ATm, ATy, AVal, Let, MoreAFields, ashift}
-use Rattle.a_terms.specs.Typing.{TypedDecl, Fine, Has, TypedTerm, afield_type, afilled, aunset, declared, more_vars}
-use Rattle.a_terms.specs.Typing.{type_of, types_of}
+use Rattle.a_terms.specs.Typing.{TypedDecl, Fine, Has, TypedTerm, afield_type, afilled, aset, aunset, declared}
+use Rattle.a_terms.specs.Typing.{more_vars, type_of, types_of}
 use Rattle.c_terms.specs.C.{CTy, CTys, MoreCTys, NoCTys, ccount}
 use Rattle.c_terms.specs.Typing.{cargs_onto, crens_scope}
 
@@ -34,7 +34,7 @@ pub count_more : (ts : CTys) (u : CTy) → ccount (more ts u) ≡ suc (ccount ts
 count_more NoCTys u = refl
 count_more (MoreCTys t ts) u = ap suc (count_more ts u)
 
-pub mixed_end : (ts : CTys) → mixed ts NoCTys ≡ afull (all_of ts NoCTys)
+pub mixed_end : (ts : CTys) → mixed ts NoCTys ≡ aset (atypes (all_of ts NoCTys))
 mixed_end NoCTys = refl
 mixed_end (MoreCTys t ts) = ap (MoreAFields (atype t) true) (mixed_end ts)
 

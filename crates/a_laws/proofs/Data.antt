@@ -6,9 +6,9 @@ use Rattle.std.specs.Prelude.{Bool, true, false, ◌&&◌, not, map, slice_get}
 use Rattle.std.proofs.lemmas.Bool.{ltb-true, not-true as not_true, and_parts as both_true}
 use Rattle.a_laws.proofs.CLaws.{CLaws}
 use Rattle.a_laws.proofs.Consts.{Within, back, datum_there, front, len_d, len_t, len_v}
-use Rattle.a_laws.proofs.Readings.{Labels-of, field_full, fields_are, full_is, scope_shifted, type_read, types_read}
+use Rattle.a_laws.proofs.Readings.{Labels-of, field_full, fields_are, scope_shifted, type_read, types_read}
 use Rattle.a_laws.proofs.Types.{apply_is, atype_hidden, atype_suc}
-use Rattle.a_laws.specs.Allocate.{Known, afull, all_closed, are_const, arg_levels, atype, atypes, closed, const_of}
+use Rattle.a_laws.specs.Allocate.{Known, all_closed, are_const, arg_levels, atype, atypes, closed, const_of}
 use Rattle.a_laws.specs.Allocate.{d_next, d_types, data_d, data_t, data_v, data_vs, datum_of, fields_closed, is_const}
 use Rattle.a_laws.specs.Allocate.{is_label, is_pack, is_some, known_of, n_d, n_t, n_v, n_vs, named, or_zero, packs}
 use Rattle.a_laws.specs.Allocate.{plain, v_next, v_type}
@@ -189,11 +189,10 @@ module _ (P : AProp) (Q : CProp) (law : CLaws) (p0 : (n : ℕ) (t : CTy) → Q n
         const_has (HTuple vs) t b wi h c =
             let us = h.1 in
             let x = pick (are_const ls vs) (datum_of ks g ls b vs ∷ []) [] in
-            let is : data_type (slice_get p.tuples (n_vs ls b vs)) ≡ Some (ATuple (afull us)) =
+            let is : data_type (slice_get p.tuples (n_vs ls b vs)) ≡ Some (ATuple (aset (atypes us))) =
             ap data_type (datum_there p.tuples ks g ls b vs wi c)
-            ∙ ap (λ q. Some (ATuple q)) (fields_are ks g ls b vs ∙ ap aset (types_read Q law ks n cs vs us h.3)
-            ∙ full_is us) in
-            let q : P 0 (ATuple (afull us)) = subst (λ x. P 0 (atype x)) h.2 (p0 n t h.0) in
+            ∙ ap (λ q. Some (ATuple q)) (fields_are ks g ls b vs ∙ ap aset (types_read Q law ks n cs vs us h.3)) in
+            let q : P 0 (ATuple (aset (atypes us))) = subst (λ x. P 0 (atype x)) h.2 (p0 n t h.0) in
             subst (λ x. ConstHas P p (Data (n_vs ls b vs)) (atype x)) (sym h.2) (record {
               has = record { fine = tt; is = is };
               below = consts_below vs us b (front p.tuples b (data_vs ks g ls b vs) x wi) h.3 c;
@@ -244,15 +243,15 @@ module _ (P : AProp) (Q : CProp) (law : CLaws) (p0 : (n : ℕ) (t : CTy) → Q n
             }
 
         consts_below : (vs : HVals) (ts : CTys) (b : ℕ) → Within p.tuples b (data_vs ks g ls b vs) →
-            HHaveWith Q ks n cs vs ts → are_const ls vs ≡ true → ABelow-fields 0 (afull ts)
-        consts_below NoHVals ts b wi h c = subst (λ x. ABelow-fields 0 (afull x)) (sym h) tt
+            HHaveWith Q ks n cs vs ts → are_const ls vs ≡ true → ABelow-fields 0 (aset (atypes ts))
+        consts_below NoHVals ts b wi h c = subst (λ x. ABelow-fields 0 (aset (atypes x))) (sym h) tt
         consts_below (MoreHVals v vs) ts b wi h c =
             let c2 = both_true (is_const ls v) (are_const ls vs) c in
             let b1 = n_v ls b v in
             let x0 = data_v ks g ls b v in
             let x1 = data_vs ks g ls b1 vs in
             let r = const_has v h.0 b (front p.tuples b x0 x1 wi) h.3 c2.0 in
-            subst (λ x. ABelow-fields 0 (afull x)) (sym h.2)
+            subst (λ x. ABelow-fields 0 (aset (atypes x))) (sym h.2)
             (r.below, consts_below vs h.1 b1 (back p.tuples b b1 x0 x1 (len_v ks g ls v b) wi) h.4 c2.1)
 
       datum_right : (vs : HVals) (ts : CTys) (b : ℕ) → Within p.tuples b (data_vs ks g ls b vs) →
@@ -343,7 +342,7 @@ module _ (P : AProp) (Q : CProp) (law : CLaws) (p0 : (n : ℕ) (t : CTy) → Q n
         let f = field_full i h.1.1 h.0 h.1.3 in
         let read : field_of i (Some (v_type ks (map atype cs) v)) ≡ atype h.0 =
         ap (λ q. field_of i (Some q)) (type_read Q law ks n cs v (TCTuple h.1.1) h.1.2)
-        ∙ ap (λ k. field_of k (Some (ATuple (afull h.1.1)))) f.1 ∙ ap or_int f.2 in
+        ∙ ap (λ k. field_of k (Some (ATuple (aset (atypes h.1.1))))) f.1 ∙ ap or_int f.2 in
         turned (HProj i v) t cs ls b d (map atype (h.0 ∷ cs)) (ap (λ q. q ∷ map atype cs) read) wi
         (λ w. data_v_ok n cs ls a v (TCTuple h.1.1) b w h.1.2)
         (λ w w1. data_t_ok t n (h.0 ∷ cs) (known_of ls b d (HProj i v) ∷ ls) (n_v ls b v) (suc (v_next ls d v)) w1 h.2

@@ -2,7 +2,8 @@
 use Rattle.std.proofs.Common.{◌≡◌, ◌≤◌, ◌+◌, inl, inr, ℕ, zero, suc, List, [], ◌∷◌, ◌++◌, Option, Some, None, refl}
 use Rattle.std.proofs.Common.{sym, ap, ap₂, ◌∙◌, subst, arith}
 use Rattle.std.specs.Prelude.{Bool, true, false, ◌&&◌, not, option_map, slice_get}
-use Rattle.a_laws.specs.Allocate.{afull, all_closed, atype, atypes, closed, is_label}
+use Rattle.a_terms.specs.Typing.{aset}
+use Rattle.a_laws.specs.Allocate.{all_closed, atype, atypes, closed, is_label}
 use Rattle.a_laws.specs.Back.{NoCell_t, NoCell_v, NoCell_vs, NoCells, NoRef, NoRefs, PutsBack, add_field, add_last}
 use Rattle.a_laws.specs.Back.{arg_count, arg_names, back_all, back_data, back_fields, back_t, back_v, back_vs, drop}
 use Rattle.a_laws.specs.Back.{drop_fields, drops, held_by, shown_at}
@@ -33,7 +34,7 @@ mutual
   drops_are NoCTys c = refl
   drops_are (MoreCTys t ts) c = ap₂ MoreCTys (drop_is t c.0) (drops_are ts c.1)
 
-  fields_are : (ts : CTys) → NoRefs ts → drop_fields (afull ts) ≡ ts
+  fields_are : (ts : CTys) → NoRefs ts → drop_fields (aset (atypes ts)) ≡ ts
   fields_are NoCTys c = refl
   fields_are (MoreCTys t ts) c = ap₂ MoreCTys (drop_is t c.0) (fields_are ts c.1)
 

@@ -3,7 +3,7 @@ use Rattle.std.proofs.Common.{◌≡◌, ℕ, zero, suc, List, [], ◌∷◌, So
 use Rattle.std.specs.Prelude.{map, slice_get, true}
 use Rattle.a_laws.proofs.CLaws.{CLaws}
 use Rattle.a_laws.proofs.Types.{apply_is, atype_suc}
-use Rattle.a_laws.specs.Allocate.{Known, afull, atype, atypes, datum_of, h_code, n_v, v_type, v_types}
+use Rattle.a_laws.specs.Allocate.{Known, atype, atypes, datum_of, h_code, n_v, v_type, v_types}
 use Rattle.a_terms.specs.Tree.{ACode, AProg, ATuple, ATy, MoreAFields, MoreATys, ashift}
 use Rattle.a_terms.specs.Typing.{aapply, afield_flag, afield_type, aset, code_type, data_fields, or_int, types_of}
 use Rattle.c_terms.specs.C.{CTy, CTys, MoreCTys, NoCTys, TCCode, ccount}
@@ -19,10 +19,6 @@ at_read [] i t h = absurd h
 at_read (u ∷ g) zero t h = ap atype (sym h)
 at_read (u ∷ g) (suc i) t h = at_read g i t h
 
-pub full_is : (ts : CTys) → aset (atypes ts) ≡ afull ts
-full_is NoCTys = refl
-full_is (MoreCTys t ts) = ap (MoreAFields (atype t) true) (full_is ts)
-
 module _ (Q : CProp) (law : CLaws) (ks : HBlks) where
   mutual
     pub type_read : (n : ℕ) (g : List CTy) (v : HVal) (t : CTy) → HHasWith Q ks n g v t →
@@ -31,7 +27,7 @@ module _ (Q : CProp) (law : CLaws) (ks : HBlks) where
     type_read n g (HInt m) t h = ap atype (sym h.1)
     type_read n g (HLabel l) t h = ap h_code h.1.1 ∙ ap atype (sym h.1.2)
     type_read n g (HTuple vs) t h =
-        ap (λ x. ATuple (aset x)) (types_read n g vs h.1 h.3) ∙ ap ATuple (full_is h.1) ∙ ap atype (sym h.2)
+        ap (λ x. ATuple (aset x)) (types_read n g vs h.1 h.3) ∙ ap atype (sym h.2)
     type_read n g (HApply v ts) t h =
         ap (λ u. or_int (aapply u (atypes ts))) (type_read n g v (TCCode (lift h.1 (ccount ts)) h.2) h.4)
         ∙ ap or_int (apply_is law ts h.1 h.2) ∙ ap atype (sym h.3)
@@ -66,7 +62,8 @@ scope_args NoCTys g = refl
 scope_args (MoreCTys t ts) g = scope_args ts (t ∷ g)
 
 pub field_full : (i : ℕ) (us : CTys) (u : CTy) → CField i us u →
-    (j : ℕ) × (i ≡ suc j) × (afield_type (afull us) j ≡ Some (atype u)) × (afield_flag (afull us) j ≡ true)
+    (j : ℕ) × (i ≡ suc j) × (afield_type (aset (atypes us)) j ≡ Some (atype u))
+    × (afield_flag (aset (atypes us)) j ≡ true)
 field_full i NoCTys u h = absurd h
 field_full zero (MoreCTys t us) u h = absurd h
 field_full (suc zero) (MoreCTys t us) u h = (0, refl, ap (λ x. Some (atype x)) (sym h), refl)

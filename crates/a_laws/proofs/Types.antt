@@ -12,8 +12,8 @@ use Rattle.a_terms.specs.Tree.{ATy, AVar, ATuple, ACode, AExists, MoreATys, NoAF
 use Rattle.a_terms.specs.Tree.{over_types, over_fields, ashift, aput, aput_types, ABelow, ABelow-types}
 use Rattle.a_terms.specs.Tree as a
 use Rattle.a_terms.specs.TreeLaws.{a_part, a_over, a_types_over}
-use Rattle.a_terms.specs.Typing.{aapply}
-use Rattle.a_laws.specs.Allocate.{atype, atypes, afull}
+use Rattle.a_terms.specs.Typing.{aapply, aset}
+use Rattle.a_laws.specs.Allocate.{atype, atypes}
 use Rattle.a_laws.proofs.CLaws.{CLaws}
 
 -- what stands for the variables, allocated
@@ -24,7 +24,7 @@ mutual
   atype_over : (f : At CTy) (d : ℕ) (t : CTy) → atype (c.over f d t) ≡ over (allocated f) d (atype t)
   atype_over f d TCInt = refl
   atype_over f d (TCVar i) = refl
-  atype_over f d (TCTuple ts) = ap ATuple (afull_over f d ts)
+  atype_over f d (TCTuple ts) = ap ATuple (fields_over f d ts)
   atype_over f d (TCCode n ts) = ap (ACode n) (atypes_over f (d + n) ts)
   atype_over f d (TCExists t) = ap AExists (atype_over f (d + 1) t)
   atype_over f d (TCRef t) = ap (λ x. ATuple (MoreAFields x true NoAFields)) (atype_over f d t)
@@ -33,9 +33,10 @@ mutual
   atypes_over f d NoCTys = refl
   atypes_over f d (MoreCTys t ts) = ap₂ MoreATys (atype_over f d t) (atypes_over f d ts)
 
-  afull_over : (f : At CTy) (d : ℕ) (ts : CTys) → afull (c.over_all f d ts) ≡ over_fields (allocated f) d (afull ts)
-  afull_over f d NoCTys = refl
-  afull_over f d (MoreCTys t ts) = ap₂ (λ x y. MoreAFields x true y) (atype_over f d t) (afull_over f d ts)
+  fields_over : (f : At CTy) (d : ℕ) (ts : CTys) →
+      aset (atypes (c.over_all f d ts)) ≡ over_fields (allocated f) d (aset (atypes ts))
+  fields_over f d NoCTys = refl
+  fields_over f d (MoreCTys t ts) = ap₂ (λ x y. MoreAFields x true y) (atype_over f d t) (fields_over f d ts)
 
 atype_if : (b : Bool) (s t : CTy) → atype (if b then s else t) ≡ (if b then atype s else atype t)
 atype_if true s t = refl
@@ -83,7 +84,7 @@ mutual
   types_in_scope NoCTys n h = tt
   types_in_scope (MoreCTys t ts) n h = (in_scope t n h.0, types_in_scope ts n h.1)
 
-  fields_in_scope : (ts : CTys) (n : ℕ) → c.each_all BelowAt AnyDepth n ts → a.ABelow-fields n (afull ts)
+  fields_in_scope : (ts : CTys) (n : ℕ) → c.each_all BelowAt AnyDepth n ts → a.ABelow-fields n (aset (atypes ts))
   fields_in_scope NoCTys n h = tt
   fields_in_scope (MoreCTys t ts) n h = (in_scope t n h.0, fields_in_scope ts n h.1)
 

@@ -8,7 +8,7 @@ use Rattle.a_laws.proofs.Data.{consts_args, data_t_ok, tuples_both}
 use Rattle.a_laws.proofs.Readings.{Labels-of, field_full, own_of, scope_args, scope_shifted, type_read}
 use Rattle.a_laws.proofs.Rel.{Later, at_more, at_new}
 use Rattle.a_laws.proofs.Types.{apply_is, types_below}
-use Rattle.a_laws.specs.Allocate.{Known, afull, alloc_all, alloc_block, alloc_main, alloc_prog, alloc_t, arg_depth}
+use Rattle.a_laws.specs.Allocate.{Known, alloc_all, alloc_block, alloc_main, alloc_prog, alloc_t, arg_depth}
 use Rattle.a_laws.specs.Allocate.{arg_levels, atype, atypes, d_next, d_types, data_all, data_block, data_d, data_t}
 use Rattle.a_laws.specs.Allocate.{data_v, data_vs, dcl, known_of, n_all, n_block, n_d, n_t, n_v, pre_v, pre_vs, v_next}
 use Rattle.a_laws.specs.Allocate.{v_type, val, vals, vs_next}
@@ -17,7 +17,7 @@ use Rattle.a_terms.specs.Tree.{ABelow-types, ABlk, ACode, AInt, AProg, ATuple, A
 use Rattle.a_terms.specs.Tree.{MoreAFields, MoreATys, NoAFields, NoATys, ashift}
 use Rattle.a_terms.specs.TypeLaws.{All-below, Args-below, below_args, data_at, data_below, declared_below, type_below}
 use Rattle.a_terms.specs.Typing.{TypedBlocks, TypedDecl, TypedProgram, TypedTuples, body_of, code_type, declared}
-use Rattle.a_terms.specs.Typing.{field_of}
+use Rattle.a_terms.specs.Typing.{aset, field_of}
 use Rattle.a_terms.specs.Typing.{filled_of, or_int, type_of, types_of}
 use Rattle.c_terms.specs.C.{CTy, CTys, MoreCTys, NoCTys, TCCode, TCInt, TCRef, TCExists, TCTuple, TCVar, ccount}
 use Rattle.c_terms.specs.Each.{CProp}
@@ -84,11 +84,11 @@ module _ (P : AProp) (Q : CProp) (law : CLaws) (pa : (n : ℕ) (t : CTy) → Q n
         let f = field_full i h.1.1 u h.1.3 in
         let read : field_of i (Some (v_type ks (map atype g) v)) ≡ atype u =
         ap (λ q. field_of i (Some q)) (type_read Q law ks n g v (TCTuple h.1.1) h.1.2)
-        ∙ ap (λ k. field_of k (Some (ATuple (afull h.1.1)))) f.1 ∙ ap or_int f.2 in
+        ∙ ap (λ k. field_of k (Some (ATuple (aset (atypes h.1.1))))) f.1 ∙ ap or_int f.2 in
         let dec : TypedDecl p n x.types (dcl ls b d e) =
-        (afull h.1.1, f.0, atype u, has_of P p n x.types _ _ w, f.1, f.2, f.3) in
+        (aset (atypes h.1.1), f.0, atype u, has_of P p n x.types _ _ w, f.1, f.2, f.3) in
         let got : field_of i (type_of p x.types (val ls b d d2 v)) ≡ atype u =
-        ap (field_of i) w.is ∙ ap (λ j. field_of j (Some (ATuple (afull h.1.1)))) f.1 ∙ ap or_int f.2 in
+        ap (field_of i) w.is ∙ ap (λ j. field_of j (Some (ATuple (aset (atypes h.1.1))))) f.1 ∙ ap or_int f.2 in
         let now : declared p x.types (dcl ls b d e) ≡ atype u ∷ x.types = ap (λ z. z ∷ x.types) got in
         let w1 = subst (λ q. Within D b1 (data_t ks (q ∷ map atype g) (kn ∷ ls) b1 (suc d2) t)) read w2 in
         let rest = alloc_t ks (map atype (u ∷ g)) (kn ∷ ls) b1 (suc d2) t in

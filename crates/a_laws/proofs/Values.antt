@@ -3,10 +3,10 @@ use Rattle.std.proofs.Common.{◌≡◌, ℕ, zero, suc, ◌-◌, List, [], ◌�
 use Rattle.std.specs.Prelude.{Bool, true, false, map, slice_get}
 use Rattle.a_laws.proofs.CLaws.{CLaws}
 use Rattle.a_laws.proofs.Consts.{Within, back, datum_there, front, len_v}
-use Rattle.a_laws.proofs.Readings.{Labels-of, fields_are, full_is, owns, types_read}
+use Rattle.a_laws.proofs.Readings.{Labels-of, fields_are, owns, types_read}
 use Rattle.a_laws.proofs.Rel.{At, Later, at_more, at_new}
 use Rattle.a_laws.proofs.Types.{apply_is, atype_hidden, below_is, types_below}
-use Rattle.a_laws.specs.Allocate.{Known, afull, are_const, atype, atypes, data_v, data_vs, datum_of, fill, final}
+use Rattle.a_laws.specs.Allocate.{Known, are_const, atype, atypes, data_v, data_vs, datum_of, fill, final}
 use Rattle.a_laws.specs.Allocate.{level_of, n_v, n_vs, pre_v, pre_vs, v_next, v_types, val, vals, var_of, vs_next}
 use Rattle.a_terms.specs.Each.{AAll, AProp, DEach, VsEach}
 use Rattle.a_terms.specs.Meaning.{pick}
@@ -79,10 +79,11 @@ module _ (P : AProp) (Q : CProp) (law : CLaws) (pa : (n : ℕ) (t : CTy) → Q n
 
     record Filled (l : ℕ) (ag : List ATy) (ts us : CTys) (vs : HVals) (pre : ATm → ATm) : Type 0 where
       types : List ATy
-      checks : (rest : ATm) → Both P p n (ATuple (afull (all_of ts us)) ∷ types) rest →
+      checks : (rest : ATm) → Both P p n (ATuple (aset (atypes (all_of ts us))) ∷ types) rest →
           Both P p n (ATuple (mixed ts us) ∷ ag) (pre rest)
-      later : Later (suc l) (ATuple (mixed ts us) ∷ ag) (suc (final l vs)) (ATuple (afull (all_of ts us)) ∷ types)
-      below : All-below n (ATuple (afull (all_of ts us)) ∷ types)
+      later : Later (suc l) (ATuple (mixed ts us) ∷ ag) (suc (final l vs))
+          (ATuple (aset (atypes (all_of ts us))) ∷ types)
+      below : All-below n (ATuple (aset (atypes (all_of ts us))) ∷ types)
 
     filled : (vs : HVals) (us ts : CTys) (ls : List Known) (b e l i : ℕ) (ag : List ATy) → i ≡ ccount ts →
         Q n (TCTuple (all_of ts us)) → AllTyped ls b e vs us (suc l) (ATuple (mixed ts us) ∷ ag) →
@@ -132,10 +133,10 @@ module _ (P : AProp) (Q : CProp) (law : CLaws) (pa : (n : ℕ) (t : CTy) → Q n
               (fill ls (n_v ls b v) (v_next ls e v) (suc l) (suc (suc i)) vs rest) d de
               (subst (λ t. Both P p n (t ∷ old ∷ ag)
               (fill ls (n_v ls b v) (v_next ls e v) (suc l) (suc (suc i)) vs rest)) (sym now)
-              (z.checks rest (subst (λ t. Both P p n (ATuple (afull t) ∷ z.types) rest) (sym m) k)));
-          later = λ k x a. subst (λ t. At (suc (final (suc l) vs)) (ATuple (afull t) ∷ z.types) k x) m
+              (z.checks rest (subst (λ t. Both P p n (ATuple (aset (atypes t)) ∷ z.types) rest) (sym m) k)));
+          later = λ k x a. subst (λ t. At (suc (final (suc l) vs)) (ATuple (aset (atypes t)) ∷ z.types) k x) m
               (z.later k x (on k x a));
-          below = subst (λ t. All-below n (ATuple (afull t) ∷ z.types)) m z.below;
+          below = subst (λ t. All-below n (ATuple (aset (atypes t)) ∷ z.types)) m z.below;
         }
 
     var_typed : (ls : List Known) (g : List CTy) (i d : ℕ) (ag : List ATy) (t : CTy) → Q n t → AgreeT d ls g ag →
@@ -188,8 +189,8 @@ module _ (P : AProp) (Q : CProp) (law : CLaws) (pa : (n : ℕ) (t : CTy) → Q n
           let there = datum_there p.tuples ks gs ls b vs wi c in
           let is : data_type (slice_get p.tuples (n_vs ls b vs)) ≡ Some (atype t) =
           ap data_type there
-          ∙ ap (λ x. Some (ATuple x)) (fields_are ks gs ls b vs ∙ ap aset (types_read Q law ks n g vs h.1 h.3)
-          ∙ full_is h.1) ∙ ap (λ x. Some (atype x)) (sym h.2) in
+          ∙ ap (λ x. Some (ATuple x)) (fields_are ks gs ls b vs ∙ ap aset (types_read Q law ks n g vs h.1 h.3))
+          ∙ ap (λ x. Some (atype x)) (sym h.2) in
           record {
             types = ag;
             checks = λ rest c. c;
@@ -211,7 +212,7 @@ module _ (P : AProp) (Q : CProp) (law : CLaws) (pa : (n : ℕ) (t : CTy) → Q n
           let on : Later l f.types (suc l) (old ∷ f.types) = λ k x q. at_more l f.types k x old q in
           let z = filled vs us NoCTys ls b d l 0 f.types refl qt
           (typed_later vs us ls b d l (suc l) f.types (old ∷ f.types) on f.good) b2 in
-          let whole = ATuple (afull us) in
+          let whole = ATuple (aset (atypes us)) in
           record {
             types = whole ∷ z.types;
             checks = λ rest c. f.checks (Let (Malloc (v_types ks gs vs)) (fill ls b d l 1 vs rest))

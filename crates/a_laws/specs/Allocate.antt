@@ -12,12 +12,12 @@ use Rattle.h_terms.specs.H.{HApply, HArith, HBlk, HBlks, HCall, HCell, HDecl, HG
 use Rattle.h_terms.specs.H.{HName, HPack, HProj, HSet, HTm, HTuple, HUnpack, HVal, HVals, HVar, MoreHVals, NoHVals}
 use Rattle.h_terms.specs.H.{block_at}
 
--- every field of a tuple's type has flag 1
+-- all fields of a tuple's type are initialised
 abbrev mutual
   pub atype : CTy → ATy
   atype TCInt = AInt
   atype (TCVar i) = AVar i
-  atype (TCTuple ts) = ATuple (afull ts)
+  atype (TCTuple ts) = ATuple (aset (atypes ts))
   atype (TCCode n ts) = ACode n (atypes ts)
   atype (TCExists t) = AExists (atype t)
   atype (TCRef t) = ATuple (MoreAFields (atype t) true NoAFields)
@@ -25,10 +25,6 @@ abbrev mutual
   pub atypes : CTys → ATys
   atypes NoCTys = NoATys
   atypes (MoreCTys t ts) = MoreATys (atype t) (atypes ts)
-
-  pub afull : CTys → AFields
-  afull NoCTys = NoAFields
-  afull (MoreCTys t ts) = MoreAFields (atype t) true (afull ts)
 
 -- the type of the code at a label
 abbrev pub h_code : Option HBlk → ATy

@@ -12,30 +12,26 @@ use Rattle.a_pass.specs.declared.state.Seen.{Seen}
 use Rattle.a_pass.specs.declared.state.TypeOf.{TypeOf, Row_of-TypeOf, end_of-TypeOf, more_of-TypeOf}
 use Rattle.a_pass.specs.declared.state.TypeOf.{items-the_row-TypeOf, items_hidden-the_row-TypeOf-0}
 use Rattle.a_pass.specs.declared.state.TypeOf.TheVariants as T
-use Rattle.a_pass.specs.Scope.{all_of, full_of, full_row, type_in, type_of, types_in}
+use Rattle.a_pass.specs.Scope.{all_of, row_types, type_in, type_of, types_in}
 
 abbrev kind_row : TypeOf → (n : Count) × Row_of-TypeOf n
 kind_row (T.Tuple' _ row) = (_, row)
 kind_row _ = (_, end_of-TypeOf)
 
-row_items : (g : List a.ATy) (n : Count) (row : Row_of-TypeOf n) → full_row g row ≡ full_of g (items-the_row-TypeOf n
+row_items : (g : List a.ATy) (n : Count) (row : Row_of-TypeOf n) → row_types g row ≡ all_of g (items-the_row-TypeOf n
     row)
 row_items g n end_of-TypeOf = refl
-row_items g n (more_of-TypeOf t rest) = ap (a.MoreAFields (type_of g t) true) (row_items g _ rest)
+row_items g n (more_of-TypeOf t rest) = ap (a.MoreATys (type_of g t)) (row_items g _ rest)
 
-pub tuple_kind : (g : List a.ATy) (v : Vec TypeOf Global) → type_of g (T.Tuple v) ≡ a.ATuple (full_of g v.items)
+pub tuple_kind : (g : List a.ATy) (v : Vec TypeOf Global) → type_of g (T.Tuple v) ≡ a.ATuple (aset (all_of g v.items))
 tuple_kind g v =
     let row = kind_row (T.Tuple v) in
-    ap a.ATuple (row_items g row.0 row.1 ∙ ap (full_of g) (items_hidden-the_row-TypeOf-0 v))
+    ap (λ ts. a.ATuple (aset ts)) (row_items g row.0 row.1 ∙ ap (all_of g) (items_hidden-the_row-TypeOf-0 v))
 
 pub is_kinds : (g : List a.ATy) (self : TypeOf) (v : Vec TypeOf Global) (xs : List TypeOf) → self ≡ T.Tuple v →
-    xs ≡ v.items → type_of g self ≡ a.ATuple (full_of g xs)
+    xs ≡ v.items → type_of g self ≡ a.ATuple (aset (all_of g xs))
 is_kinds g self v xs is same =
-    ap (type_of g) is ∙ tuple_kind g v ∙ ap (λ ys. a.ATuple (full_of g ys)) (sym same)
-
-pub full_set : (g : List a.ATy) (ts : List TypeOf) → full_of g ts ≡ aset (all_of g ts)
-full_set g [] = refl
-full_set g (t ∷ ts) = ap (a.MoreAFields (type_of g t) true) (full_set g ts)
+    ap (type_of g) is ∙ tuple_kind g v ∙ ap (λ ys. a.ATuple (aset (all_of g ys))) (sym same)
 
 pub kinds_types : (g : List a.ATy) (ts : List TypeOf) (ss : List Seen) → map (type_of g) ts ≡ map (type_in g) ss →
     all_of g ts ≡ types_in g ss
@@ -50,7 +46,7 @@ all_snoc g [] t = refl
 all_snoc g (u ∷ ts) t = ap (a.MoreATys (type_of g u)) (all_snoc g ts t)
 
 full_snoc : (g : List a.ATy) (ts : List TypeOf) (t : TypeOf) →
-    full_of g (ts ++ t ∷ []) ≡ fsnoc (full_of g ts) (type_of g t) true
+    aset (all_of g (ts ++ t ∷ [])) ≡ fsnoc (aset (all_of g ts)) (type_of g t) true
 full_snoc g [] t = refl
 full_snoc g (u ∷ ts) t = ap (a.MoreAFields (type_of g u) true) (full_snoc g ts t)
 
@@ -65,7 +61,7 @@ all_push g xs x ts i t new lt is n same h =
 
 pub full_push : (g : List a.ATy) (xs : List (AType × Bool)) (x : AType) (ts : List TypeOf) (i : ℕ) (t : TypeOf)
     (new : List (AType × Bool)) → i < length ts → t ≡ get_or ts i t → new ≡ xs ++ (x, true) ∷ [] →
-    atree x ≡ type_of g t → afields xs ≡ full_of g (take i ts) → afields new ≡ full_of g (take (i + 1) ts)
+    atree x ≡ type_of g t → afields xs ≡ aset (all_of g (take i ts)) → afields new ≡ aset (all_of g (take (i + 1) ts))
 full_push g xs x ts i t new lt is n same h =
     ap afields n ∙ afields_snoc xs (x, true) ∙ ap₂ (λ us u. fsnoc us u true) h same
-    ∙ sym (ap (full_of g) (took ts i t lt is) ∙ full_snoc g (take i ts) t)
+    ∙ sym (ap (λ ys. aset (all_of g ys)) (took ts i t lt is) ∙ full_snoc g (take i ts) t)

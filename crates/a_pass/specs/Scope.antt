@@ -7,7 +7,7 @@ use Rattle.h_terms.specs.Nodes.{h_block, no_term}
 use Rattle.c_terms.specs.Read.{ctree}
 use Rattle.a_terms.specs.Tree as a
 use Rattle.a_terms.specs.Tree.{ashift}
-use Rattle.a_terms.specs.Typing.{or_int}
+use Rattle.a_terms.specs.Typing.{aset, or_int}
 use Rattle.a_terms.specs.Read.{atree}
 use Rattle.a_terms.specs.NodeTrees.{a_value, wrapped}
 use Rattle.a_terms.specs.declared.nodes.ABase.{ABase}
@@ -75,21 +75,16 @@ abbrev mutual
   type_of g (T.Name i) = or_int (slice_get g i)
   type_of g (T.Lent t) = atype (ctree t.now)
   type_of g (T.Code k) = h_code (Some (h_block k.now))
-  type_of g (T.Tuple' n row) = a.ATuple (full_row g row)
+  type_of g (T.Tuple' n row) = a.ATuple (aset (row_types g row))
 
-  pub full_row : {n : _} → List a.ATy → Row_of-TypeOf n → a.AFields
-  full_row g end_of-TypeOf = a.NoAFields
-  full_row g (more_of-TypeOf t rest) = a.MoreAFields (type_of g t) true (full_row g rest)
+  pub row_types : {n : _} → List a.ATy → Row_of-TypeOf n → a.ATys
+  row_types g end_of-TypeOf = a.NoATys
+  row_types g (more_of-TypeOf t rest) = a.MoreATys (type_of g t) (row_types g rest)
 
 -- types of values
 abbrev pub all_of : List a.ATy → List TypeOf → a.ATys
 all_of g [] = a.NoATys
 all_of g (t ∷ ts) = a.MoreATys (type_of g t) (all_of g ts)
-
--- and as those of fields that are all initialised
-abbrev pub full_of : List a.ATy → List TypeOf → a.AFields
-full_of g [] = a.NoAFields
-full_of g (t ∷ ts) = a.MoreAFields (type_of g t) true (full_of g ts)
 
 abbrev pub type_in : List a.ATy → Seen → a.ATy
 type_in g s = type_of g s.ty

@@ -18,7 +18,7 @@ use crate::run::read;
 use crate::scope::own;
 use crate::state::{Around, ConstantOf, Kept, Name, Noted, Place, Progress, Run, Seen, TypeOf};
 use crate::types::a_types;
-use a_terms::parts::set_tuple;
+use a_terms::parts::flagged_tuple;
 use a_terms::{ABase, AData, AForm, ANode, AType, AValue};
 use c_terms::CType;
 use h_terms::{HBlock, HForm, HNode};
@@ -225,7 +225,7 @@ fn one_field(alloc: Global, ty: AType, out: &mut Vec<ANode>) -> Result<AType, Ou
 {
     let mut room = Vec::new(alloc);
     room.push(ty)?;
-    let cell = set_tuple(alloc, &room)?;
+    let cell = flagged_tuple(alloc, &room, true)?;
     malloc(alloc, room, out)?;
     Ok(cell)
 }
@@ -291,7 +291,7 @@ fn set<'a>(run: Run<'a>, place: Place, progress: &mut Progress<'a>) -> Result<()
     } = run;
     let next = assign(progress.alloc, values, depth, &mut progress.nodes)?;
     let room = Vec::new(progress.alloc);
-    let none = set_tuple(progress.alloc, &room)?;
+    let none = flagged_tuple(progress.alloc, &room, true)?;
     let empty = Vec::new(progress.alloc);
     let node = ANode {
         form: AForm::Malloc(room),

@@ -6,11 +6,11 @@ ghost use Rattle.a_terms.specs.Tree as a;
 ghost use Rattle.a_terms.specs.Read.{atree, atrees, afields};
 ghost use Rattle.a_terms.specs.NodeTrees as tree;
 ghost use Rattle.a_terms.specs.NodeTrees.{a_value};
-ghost use Rattle.a_terms.specs.Typing.{or_int};
+ghost use Rattle.a_terms.specs.Typing.{aset, or_int};
 ghost use Rattle.a_terms.specs.Tree.{ashift};
 ghost use Rattle.a_laws.specs.Allocate.{Known, var_of, h_code, level_of, named};
 ghost use Rattle.a_pass.specs.Scope.{value_at, base_at, constant_in, knowns, known_name, scope, type_in, type_of};
-ghost use Rattle.a_pass.specs.Scope.{all_of, full_of, kept, typed, Under};
+ghost use Rattle.a_pass.specs.Scope.{all_of, kept, typed, Under};
 
 use crate::state::{ConstantOf, Kept, Leaf, Name, Seen, TypeOf};
 use crate::types::{a_type, a_type_under, a_types};
@@ -190,7 +190,7 @@ fn own_fields(
     binders: u64,
     kinds: &[TypeOf],
 ) -> Result<Vec<(AType, bool)>, OutOfMemory>
-    ensures { IfOk result (λ r. afields r.items ≡ full_of (scope binders names.now) kinds.now) }
+    ensures { IfOk result (λ r. afields r.items ≡ aset (all_of (scope binders names.now) kinds.now)) }
 {
     let mut made = Vec::with_capacity(alloc, kinds.len())?;
     for kind in kinds {

@@ -4,7 +4,8 @@ ghost use Rattle.idx_core.specs.Over.{shifted};
 ghost use Rattle.c_terms.specs.Read.{ctree, ctys};
 ghost use Rattle.a_terms.specs.Tree.{AVar, over, over_types, over_fields};
 ghost use Rattle.a_terms.specs.Read.{atree, atrees, afields};
-ghost use Rattle.a_laws.specs.Allocate.{atype, atypes, afull};
+ghost use Rattle.a_laws.specs.Allocate.{atype, atypes};
+ghost use Rattle.a_terms.specs.Typing.{aset};
 
 use a_terms::AType;
 use c_terms::CType;
@@ -75,7 +76,7 @@ fn a_types_under(alloc: Global, ts: &[CType], by: u64, d: u64) -> Result<Vec<ATy
 // The fields of a tuple, all initialised.
 #[cycle(allocating)]
 fn a_fields(alloc: Global, ts: &[CType], by: u64, d: u64) -> Result<Vec<(AType, bool)>, OutOfMemory>
-    ensures { IfOk result (λ r. afields r.items ≡ over_fields (shifted AVar by) d (afull (ctys ts.now))) }
+    ensures { IfOk result (λ r. afields r.items ≡ over_fields (shifted AVar by) d (aset (atypes (ctys ts.now)))) }
 {
     let mut made = Vec::with_capacity(alloc, ts.len())?;
     for t in ts {

@@ -6,7 +6,7 @@ ghost use Rattle.a_terms.specs.Read.{atree, atrees, afields};
 ghost use Rattle.a_scope.specs.Scope.{noted_type};
 
 use a_terms::AType;
-use a_terms::parts::unset_tuple;
+use a_terms::parts::flagged_tuple;
 use a_terms::walks::shift_type;
 use idx_core::OutOfMemory;
 use std::alloc::Global;
@@ -44,7 +44,7 @@ pub(crate) fn again<'a>(ty: &Noted<'a>) -> Result<Noted<'a>, OutOfMemory>
 fn shown_room(alloc: Global, types: &[AType], by: u64) -> Result<AType, OutOfMemory>
     ensures { IfOk result (λ t. atree t ≡ ashift by 0 (ATuple (aunset (atrees types.now)))) }
 {
-    let whole = unset_tuple(alloc, types)?;
+    let whole = flagged_tuple(alloc, types, false)?;
     let made = shift_type(alloc, &whole, by, 0)?;
     Ok(made)
 }

@@ -1,10 +1,10 @@
 -- Fields of tuples, and types applied one after the other.
 use Rattle.std.proofs.Common.{◌≡◌, ℕ, zero, suc, ◌+◌, ◌<◌, ◌≤◌, ◌++◌, List, [], ◌∷◌, length, drop, take, get_or, set}
-use Rattle.std.proofs.Common.{Bool, true, false, Option, Some, None, refl, sym, ap, ap₂, ◌∙◌, arith}
+use Rattle.std.proofs.Common.{Bool, true, Option, Some, None, refl, sym, ap, ap₂, ◌∙◌, arith}
 use Rattle.std.proofs.lemmas.List.{drop_more, drop_all}
 use Rattle.a_terms.specs.Tree as a
 use Rattle.a_terms.specs.Tree.{ashift, aput_types}
-use Rattle.a_terms.specs.Typing.{applied, aset, aunset, afilled, field_of, filled_of}
+use Rattle.a_terms.specs.Typing.{aflagged, applied, afilled, field_of, filled_of}
 use Rattle.a_terms.specs.Read.{atree, atrees, afields}
 use Rattle.a_terms.specs.declared.types.AType.{AType}
 use Rattle.a_terms.specs.ReadLaws.{asnoc, fsnoc, atrees_snoc, afields_snoc, took}
@@ -82,26 +82,14 @@ pub apply_end : (o q : Option a.ATy) (ts : List AType) (i : ℕ) → length ts �
 apply_end o q ts i le h = sym (none_applied o) ∙ ap (λ us. applied o (atrees us)) (sym (drop_all i ts le)) ∙ h
 
 -- tuples that are made field by field
-unset_snoc : (us : a.ATys) (t : a.ATy) → aunset (asnoc us t) ≡ fsnoc (aunset us) t false
-unset_snoc a.NoATys t = refl
-unset_snoc (a.MoreATys u us) t = ap (a.MoreAFields u false) (unset_snoc us t)
+flagged_snoc : (b : Bool) (us : a.ATys) (t : a.ATy) → aflagged b (asnoc us t) ≡ fsnoc (aflagged b us) t b
+flagged_snoc b a.NoATys t = refl
+flagged_snoc b (a.MoreATys u us) t = ap (a.MoreAFields u b) (flagged_snoc b us t)
 
-pub unset_push : (xs : List (AType × Bool)) (x : AType) (ts : List AType) (i : ℕ) (t : AType)
-    (new : List (AType × Bool)) → i < length ts → t ≡ get_or ts i t → new ≡ xs ++ (x, false) ∷ [] → atree x ≡ atree t →
-    afields xs ≡ aunset (atrees (take i ts)) → afields new ≡ aunset (atrees (take (i + 1) ts))
-unset_push xs x ts i t new lt is n same h =
-    ap afields n ∙ afields_snoc xs (x, false) ∙ ap₂ (λ us u. fsnoc us u false) h same
-    ∙ sym (unset_snoc (atrees (take i ts)) (atree t))
-    ∙ ap aunset (sym (ap atrees (took ts i t lt is) ∙ atrees_snoc (take i ts) t))
-
-set_snoc : (us : a.ATys) (t : a.ATy) → aset (asnoc us t) ≡ fsnoc (aset us) t true
-set_snoc a.NoATys t = refl
-set_snoc (a.MoreATys u us) t = ap (a.MoreAFields u true) (set_snoc us t)
-
-pub set_push : (xs : List (AType × Bool)) (x : AType) (ts : List AType) (i : ℕ) (t : AType)
-    (new : List (AType × Bool)) → i < length ts → t ≡ get_or ts i t → new ≡ xs ++ (x, true) ∷ [] → atree x ≡ atree t →
-    afields xs ≡ aset (atrees (take i ts)) → afields new ≡ aset (atrees (take (i + 1) ts))
-set_push xs x ts i t new lt is n same h =
-    ap afields n ∙ afields_snoc xs (x, true) ∙ ap₂ (λ us u. fsnoc us u true) h same
-    ∙ sym (set_snoc (atrees (take i ts)) (atree t))
-    ∙ ap aset (sym (ap atrees (took ts i t lt is) ∙ atrees_snoc (take i ts) t))
+pub flagged_push : (b : Bool) (xs : List (AType × Bool)) (x : AType) (ts : List AType) (i : ℕ) (t : AType)
+    (new : List (AType × Bool)) → i < length ts → t ≡ get_or ts i t → new ≡ xs ++ (x, b) ∷ [] → atree x ≡ atree t →
+    afields xs ≡ aflagged b (atrees (take i ts)) → afields new ≡ aflagged b (atrees (take (i + 1) ts))
+flagged_push b xs x ts i t new lt is n same h =
+    ap afields n ∙ afields_snoc xs (x, b) ∙ ap₂ (λ us u. fsnoc us u b) h same
+    ∙ sym (flagged_snoc b (atrees (take i ts)) (atree t))
+    ∙ ap (aflagged b) (sym (ap atrees (took ts i t lt is) ∙ atrees_snoc (take i ts) t))

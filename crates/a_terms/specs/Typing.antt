@@ -26,14 +26,18 @@ afilled NoAFields i = NoAFields
 afilled (MoreAFields t f fs) zero = MoreAFields t true fs
 afilled (MoreAFields t f fs) (suc i) = MoreAFields t f (afilled fs i)
 
-abbrev pub aunset : ATys → AFields
-aunset NoATys = NoAFields
-aunset (MoreATys t ts) = MoreAFields t false (aunset ts)
+-- fields of these types, each with this flag
+abbrev pub aflagged : Bool → ATys → AFields
+aflagged flag NoATys = NoAFields
+aflagged flag (MoreATys t ts) = MoreAFields t flag (aflagged flag ts)
 
--- and fields that are all initialised
+-- none is initialised
+abbrev pub aunset : ATys → AFields
+aunset ts = aflagged false ts
+
+-- all are
 abbrev pub aset : ATys → AFields
-aset NoATys = NoAFields
-aset (MoreATys t ts) = MoreAFields t true (aset ts)
+aset ts = aflagged true ts
 
 abbrev pub code_type : Option ABlk → Option ATy
 code_type None = None

@@ -1,7 +1,7 @@
 // Parts of types, and types put for those that code owes.
 ghost use Rattle.std.specs.Prelude.{◌≡◌, ℕ, Some, IfOk, MatchOption};
 ghost use Rattle.a_terms.specs.Tree.{ACode, ATuple, ATys, AFields, NoATys, MoreATys, ashift, aput_types};
-ghost use Rattle.a_terms.specs.Typing.{applied, aset, aunset, or_int, field_of as the_field_of, body_of as the_body_of};
+ghost use Rattle.a_terms.specs.Typing.{aflagged, applied, or_int, field_of as the_field_of, body_of as the_body_of};
 ghost use Rattle.a_terms.specs.Typing.{filled_of as the_filled_of};
 ghost use Rattle.a_terms.specs.Read.{atree, atrees, afields, maybe};
 
@@ -177,26 +177,14 @@ pub fn filled_of(ty: Option<AType>, i: u64) -> AType
     }
 }
 
-/// A tuple of fields that are not initialised. An error is want of memory.
-pub fn unset_tuple(alloc: Global, types: &[AType]) -> Result<AType, OutOfMemory>
-    ensures { IfOk result (λ r. atree r ≡ ATuple (aunset (atrees types.now))) }
+/// A tuple of fields that each have this flag. An error is want of memory.
+pub fn flagged_tuple(alloc: Global, types: &[AType], flag: bool) -> Result<AType, OutOfMemory>
+    ensures { IfOk result (λ r. atree r ≡ ATuple (aflagged flag (atrees types.now))) }
 {
     let mut fields = Vec::with_capacity(alloc, types.len())?;
     for t in types {
         let one = copy(alloc, t)?;
-        fields.push((one, false))?;
-    }
-    Ok(AType::Tuple(fields))
-}
-
-/// A tuple of fields that are all initialised. An error is want of memory.
-pub fn set_tuple(alloc: Global, types: &[AType]) -> Result<AType, OutOfMemory>
-    ensures { IfOk result (λ r. atree r ≡ ATuple (aset (atrees types.now))) }
-{
-    let mut fields = Vec::with_capacity(alloc, types.len())?;
-    for t in types {
-        let one = copy(alloc, t)?;
-        fields.push((one, true))?;
+        fields.push((one, flag))?;
     }
     Ok(AType::Tuple(fields))
 }

@@ -6,11 +6,11 @@ use Rattle.idx_core.specs.declared.span.Span.{Span}
 use Rattle.t_terms.specs.declared.instr.Instr.{Instr}
 use Rattle.t_terms.specs.declared.block.Block.{Block}
 use Rattle.t_terms.specs.Tree.{TEnd, TSeq, TBlock, names_after}
-use Rattle.t_text.specs.declared.token.Kind.TheVariants as k
 use Rattle.t_terms.specs.Spanned.{seq_of}
 use Rattle.t_terms.specs.Read.{instr, body, block, blocks_of}
 use Rattle.t_terms.specs.Whole.{WellFormedInstr, WellFormedEnd, WellFormedSeq, WellFormedBlocks}
-use Rattle.t_writer.specs.Lexeme.{Lexeme, LabelName, Reserved, Sign, render}
+use Rattle.t_writer.specs.Lexeme.{Lexeme, LabelName, Reserved, render}
+use Rattle.t_writer.specs.Lexeme.{colon, dot}
 use Rattle.t_writer.specs.Written.{space, line_end, binds_written, file_written, instr_written, end_written}
 use Rattle.t_writer.specs.Written.{seq_written, block_written, blocks_written}
 use Rattle.t_writer.proofs.Rendered.{render_append}
@@ -104,8 +104,8 @@ block_parts : (n : ℕ) (bs fs cs : List Lexeme) (t0 t1 t2 t3 t4 t5 t6 : List �
     t6 ≡ t5 ++ render cs →
     t6 ≡ t0 ++ render
     (LabelName n
-    ∷ (Sign 58 k.Colon
-    ∷ (space ∷ (Reserved (codes "code") k.Code ∷ (bs ++ (fs ++ (Sign 46 k.Dot ∷ (line_end ∷ cs))))))))
+    ∷ (colon
+    ∷ (space ∷ (Reserved (codes "code") ∷ (bs ++ (fs ++ (dot ∷ (line_end ∷ cs))))))))
 block_parts n bs fs cs t0 t1 t2 t3 t4 t5 t6 e1 e2 e3 e4 e5 e6 =
     rw (
       e6,
@@ -114,8 +114,8 @@ block_parts n bs fs cs t0 t1 t2 t3 t4 t5 t6 e1 e2 e3 e4 e5 e6 =
       e3,
       e2,
       e1,
-      render_append bs (fs ++ (Sign 46 k.Dot ∷ (line_end ∷ cs))),
-      render_append fs (Sign 46 k.Dot ∷ (line_end ∷ cs)),
+      render_append bs (fs ++ (dot ∷ (line_end ∷ cs))),
+      render_append fs (dot ∷ (line_end ∷ cs)),
     )
     (regroup t0 (76 ∷ decimal n) (codes ": code") (render bs) (render fs) (codes ".\n") (render cs))
 

@@ -7,12 +7,12 @@ use Rattle.t_types.specs.Read.{tree}
 use Rattle.t_types.specs.Tree.{Ty}
 use Rattle.t_terms.specs.declared.value.Value.{Value}
 use Rattle.t_terms.specs.declared.data.Data.{Data}
-use Rattle.t_text.specs.declared.token.Kind.TheVariants as k
 use Rattle.t_terms.specs.Tree.{TValue, TDatum, TData}
 use Rattle.t_terms.specs.Spanned.{plain_fields}
 use Rattle.t_terms.specs.Read.{value, data_fields, data_of}
 use Rattle.t_terms.specs.Whole.{WellFormedValue, WellFormedData, WellFormedHeap}
-use Rattle.t_writer.specs.Lexeme.{Lexeme, DataName, Reserved, Sign, render}
+use Rattle.t_writer.specs.Lexeme.{Lexeme, DataName, Reserved, render}
+use Rattle.t_writer.specs.Lexeme.{colon, left_angle, right_angle}
 use Rattle.t_writer.specs.Written.{space, line_end, separator, value_written, type_written, datum_written}
 use Rattle.t_writer.specs.Written.{data_fields_written, data_written, heap_written}
 use Rattle.t_writer.proofs.Rendered.{render_append}
@@ -100,7 +100,7 @@ pub datum_done : (v : TValue) (t : Ty) (t0 t1 t2 t3 : List ℕ) → t1 ≡ t0 ++
     t2 ≡ t1 ++ codes " : " → t3 ≡ t2 ++ render (type_written 0 t) →
     t3 ≡ t0 ++ render (datum_written (record { value = v; ty = t }))
 datum_done v t t0 t1 t2 t3 e1 e2 e3 =
-    rw (e3, e2, e1, render_append (value_written 0 v) (space ∷ (Sign 58 k.Colon ∷ (space ∷ type_written 0 t))))
+    rw (e3, e2, e1, render_append (value_written 0 v) (space ∷ (colon ∷ (space ∷ type_written 0 t))))
     (simp append_assoc)
 
 regroup : (a b c d e : List ℕ) → a ++ b ++ c ++ d ++ e ≡ a ++ (b ++ (c ++ (d ++ e)))
@@ -110,11 +110,11 @@ regroup a b c d e = simp append_assoc
 data_parts : (n : ℕ) (fs : List Lexeme) (t0 t1 t2 t3 t4 : List ℕ) → t1 ≡ t0 ++ 68 ∷ decimal n →
     t2 ≡ t1 ++ codes ": data <" → t3 ≡ t2 ++ render fs → t4 ≡ t3 ++ codes ">\n" →
     t4 ≡ t0 ++ render
-    (DataName n ∷ (Sign 58 k.Colon
-    ∷ (space ∷ (Reserved (codes "data") k.Data
-    ∷ (space ∷ (Sign 60 k.LeftAngle ∷ (fs ++ (Sign 62 k.RightAngle ∷ (line_end ∷ [])))))))))
+    (DataName n ∷ (colon
+    ∷ (space ∷ (Reserved (codes "data")
+    ∷ (space ∷ (left_angle ∷ (fs ++ (right_angle ∷ (line_end ∷ [])))))))))
 data_parts n fs t0 t1 t2 t3 t4 e1 e2 e3 e4 =
-    rw (e4, e3, e2, e1, render_append fs (Sign 62 k.RightAngle ∷ (line_end ∷ [])))
+    rw (e4, e3, e2, e1, render_append fs (right_angle ∷ (line_end ∷ [])))
     (regroup t0 (68 ∷ decimal n) (codes ": data <") (render fs) (codes ">\n"))
 
 pub data_done : (n : ℕ) (xs : TData) (t0 t1 t2 t3 t4 : List ℕ) → t1 ≡ t0 ++ 68 ∷ decimal n →

@@ -1,6 +1,7 @@
 -- What stands at the start of written bytes: each lexeme is one item, where what follows it ends it.
 use Rattle.std.proofs.Common.{◌≡◌, ◌≤◌, ◌<◌, ◌^◌, ℕ, suc, ◌+◌, List, [], ◌∷◌, ◌++◌, length, take, drop, Bool, true}
-use Rattle.std.proofs.Common.{false, ◌&&◌, ◌||◌, not, ◌==◌, refl, ap, ◌∙◌, arith, pos, negsuc, neg_ℤ, decimal, Some}
+use Rattle.std.proofs.Common.{false, ◌&&◌, ◌||◌, not, ◌==◌, refl, ap, ◌∙◌, arith, ℤ, pos, negsuc, neg_ℤ, decimal}
+use Rattle.std.proofs.Common.{Option, None, Some, is_some}
 use Rattle.std.specs.List.{prefix_len, list_all}
 use Rattle.std.proofs.lemmas.Bool.{and_parts}
 use Rattle.std.proofs.lemmas.Bool.Decides.{nat_tests}
@@ -17,7 +18,7 @@ use Rattle.t_text.specs.declared.token.Kind.TheVariants as k
 use Rattle.t_text.specs.Tokens.{assembly, Keeps, word, signs}
 use Rattle.t_terms.specs.Whole.{IntFits}
 use Rattle.t_writer.specs.Lexeme.{Lexeme, Reserved, TypeName, LabelName, DataName, Register, Number, Digit, Sign}
-use Rattle.t_writer.specs.Lexeme.{Blank, bytes, number_kind}
+use Rattle.t_writer.specs.Lexeme.{Blank, bytes}
 use Rattle.text_core.proofs.Characters.{AreDigits, is_digit, are_digits, value_is, Stops, run_digits, run_word}
 use Rattle.text_core.proofs.Characters.{no_dashes, no_tilde, digit_no_space, digit_no_dash, digit_no_letter}
 use Rattle.text_core.proofs.Characters.{letter_no_space, letter_no_dash, digits_of_word}
@@ -60,7 +61,7 @@ negative_item (d ∷ ds) r some h s =
         ap (drop 1) (ap (λ n. take n (126 ∷ (d ∷ (ds ++ r)))) e ∙ take-append_seam (126 ∷ (d ∷ ds)) r)
 
 -- a byte that begins no gap, word or number
-abbrev pub plain_sign : ℕ → Bool
+abbrev plain_sign : ℕ → Bool
 plain_sign b = not (space b || of_word b || b == 45 || b == 126)
 
 other_piece : (b : ℕ) (s : List ℕ) → plain_sign b ≡ true → piece (b ∷ s) ≡ POther
@@ -110,33 +111,51 @@ reserved_item : (u r : List ℕ) → is_word u ≡ true → Stops r → item ass
 reserved_item [] r h s = absurd (cc)
 reserved_item (b ∷ u) r h s = let p = and_parts (letter b) (list_all of_word u) h in word_item b u r p.0 p.1 s
 
+-- a sign by its byte
+abbrev is_sign : ℕ → Bool
+is_sign b = plain_sign b && is_some (look signs b)
+
+-- its kind, of its row of the table
+abbrev sign_kind : Option Kind → Kind
+sign_kind None = k.Name
+sign_kind (Some x) = x
+
+some_kind : (x : Option Kind) → is_some x ≡ true → x ≡ Some (sign_kind x)
+some_kind None e = absurd (cc)
+some_kind (Some x) e = refl
+
 -- lexemes that may be written
 abbrev pub Valid : Lexeme → Type 0
-Valid (Reserved u kind) = (is_word u ≡ true) × (word u ≡ kind) × Keeps kind
+Valid (Reserved u) = (is_word u ≡ true) × Keeps (word u)
 Valid (TypeName n) = n < 2 ^ 64
 Valid (LabelName n) = n < 2 ^ 64
 Valid (DataName n) = n < 2 ^ 64
 Valid (Register r) = IsRegister r
 Valid (Number z) = IntFits z
 Valid (Digit n) = n ≤ 9
-Valid (Sign b kind) = (plain_sign b ≡ true) × (look signs b ≡ Some kind) × Keeps kind
+Valid (Sign b) = (is_sign b ≡ true) × Keeps (sign_kind (look signs b))
 Valid (Blank b) = space b ≡ true
+
+-- the kind of the token that a number is
+abbrev number_kind : ℤ → Kind
+number_kind (pos n) = k.Plain (pos n)
+number_kind (negsuc n) = k.Negative (negsuc n)
 
 -- the kind of a lexeme's token
 abbrev pub kind_of : Lexeme → Kind
-kind_of (Reserved u kind) = kind
+kind_of (Reserved u) = word u
 kind_of (TypeName n) = k.Name
 kind_of (LabelName n) = k.Name
 kind_of (DataName n) = k.Name
 kind_of (Register r) = k.Register r
 kind_of (Number z) = number_kind z
 kind_of (Digit n) = k.Plain (pos n)
-kind_of (Sign b kind) = kind
+kind_of (Sign b) = sign_kind (look signs b)
 kind_of (Blank b) = k.Data
 
 -- what must follow a lexeme
 abbrev pub Ended : Lexeme → List ℕ → Type 0
-Ended (Sign b kind) r = Unit {0}
+Ended (Sign b) r = Unit {0}
 Ended (Blank b) r = Unit {0}
 Ended _ r = Stops r
 
@@ -148,7 +167,7 @@ digit_value : (n : ℕ) → n ≤ 9 → value ((48 + n) ∷ []) ≡ n
 digit_value n h = omega arith
 
 pub lexeme_item : (l : Lexeme) (r : List ℕ) → Valid l → Ended l r → item assembly (bytes l ++ r) ≡ item_of l
-lexeme_item (Reserved u kind) r v s = reserved_item u r v.0 s ∙ ap (λ x. Spelling x (length u)) v.1
+lexeme_item (Reserved u) r v s = reserved_item u r v.0 s
 lexeme_item (TypeName n) r v s = word_item 84 (decimal n) r refl (digits_of_word (decimal n) (are_digits n v)) s
     ∙ ap (λ x. Spelling x (length (84 ∷ decimal n))) (type_word (decimal n))
 lexeme_item (LabelName n) r v s = word_item 76 (decimal n) r refl (digits_of_word (decimal n) (are_digits n v)) s
@@ -172,11 +191,20 @@ lexeme_item (Number (negsuc n)) r v s =
 lexeme_item (Digit n) r v s =
     let d : digit (48 + n) ≡ true = is_digit (48 + n) (omega arith) (omega arith) in
     plain_item ((48 + n) ∷ []) r (omega arith) (rw d refl) s ∙ ap (λ m. Spelling (k.Plain (pos m)) 1) (digit_value n v)
-lexeme_item (Sign b kind) r v s = sign_read b r kind v.0 v.1
+lexeme_item (Sign b) r v s =
+    let p = and_parts (plain_sign b) (is_some (look signs b)) v.0 in
+    sign_read b r (kind_of (Sign b)) p.0 (some_kind (look signs b) p.1)
 lexeme_item (Blank b) r v s = rw v refl
 
+-- a sign ends a word
+pub sign_stops : (b : ℕ) → Valid (Sign b) → of_word b ≡ false
+sign_stops b v = go b (and_parts (plain_sign b) (is_some (look signs b)) v.0).0
+  where
+    go : (b : ℕ) → plain_sign b ≡ true → of_word b ≡ false
+    go b h = grind (arith, nat_tests)
+
 pub lexeme_keeps : (l : Lexeme) → Valid l → Keeps (kind_of l)
-lexeme_keeps (Reserved u kind) v = v.2
+lexeme_keeps (Reserved u) v = v.1
 lexeme_keeps (TypeName n) v = tt
 lexeme_keeps (LabelName n) v = tt
 lexeme_keeps (DataName n) v = tt
@@ -184,5 +212,5 @@ lexeme_keeps (Register r) v = v
 lexeme_keeps (Number (pos n)) v = omega (arith, ints, v)
 lexeme_keeps (Number (negsuc n)) v = omega (arith, ints, v)
 lexeme_keeps (Digit n) v = omega (arith, ints)
-lexeme_keeps (Sign b kind) v = v.2
+lexeme_keeps (Sign b) v = v.1
 lexeme_keeps (Blank b) v = tt

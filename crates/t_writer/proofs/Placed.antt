@@ -18,7 +18,7 @@ use Rattle.t_text.proofs.TokenLaws.{assembly_signs}
 use Rattle.t_writer.specs.Lexeme.{Lexeme, Reserved, TypeName, LabelName, DataName, Register, Number, Digit, Sign}
 use Rattle.t_writer.specs.Lexeme.{Blank, bytes, render}
 use Rattle.text_core.proofs.Characters.{Stops}
-use Rattle.t_writer.proofs.Items.{Valid, plain_sign, kind_of, lexeme_item, lexeme_keeps}
+use Rattle.t_writer.proofs.Items.{Valid, kind_of, lexeme_item, lexeme_keeps, sign_stops}
 
 -- the length of what is written
 abbrev pub size : List Lexeme → ℕ
@@ -49,12 +49,12 @@ placed_append i (l ∷ a) b =
 -- whether the lexemes begin with what ends a word, where what follows them does by b
 abbrev pub stops : List Lexeme → Bool → Bool
 stops [] b = b
-stops (Sign c kind ∷ ls) b = true
+stops (Sign c ∷ ls) b = true
 stops (Blank c ∷ ls) b = true
 stops (l ∷ ls) b = false
 
 abbrev pub Follows : Lexeme → List Lexeme → Bool → Type 0
-Follows (Sign c kind) ls b = Unit {0}
+Follows (Sign c) ls b = Unit {0}
 Follows (Blank c) ls b = Unit {0}
 Follows l ls b = stops ls b ≡ true
 
@@ -65,25 +65,25 @@ Fine (l ∷ ls) b = Valid l × Follows l ls b × Fine ls b
 
 stops_append : (a b : List Lexeme) (x : Bool) → stops (a ++ b) x ≡ stops a (stops b x)
 stops_append [] b x = refl
-stops_append (Reserved u kind ∷ a) b x = refl
+stops_append (Reserved u ∷ a) b x = refl
 stops_append (TypeName n ∷ a) b x = refl
 stops_append (LabelName n ∷ a) b x = refl
 stops_append (DataName n ∷ a) b x = refl
 stops_append (Register r ∷ a) b x = refl
 stops_append (Number z ∷ a) b x = refl
 stops_append (Digit n ∷ a) b x = refl
-stops_append (Sign c kind ∷ a) b x = refl
+stops_append (Sign c ∷ a) b x = refl
 stops_append (Blank c ∷ a) b x = refl
 
 follows_append : (l : Lexeme) (a b : List Lexeme) (x : Bool) → Follows l a (stops b x) → Follows l (a ++ b) x
-follows_append (Reserved u kind) a b x h = stops_append a b x ∙ h
+follows_append (Reserved u) a b x h = stops_append a b x ∙ h
 follows_append (TypeName n) a b x h = stops_append a b x ∙ h
 follows_append (LabelName n) a b x h = stops_append a b x ∙ h
 follows_append (DataName n) a b x h = stops_append a b x ∙ h
 follows_append (Register r) a b x h = stops_append a b x ∙ h
 follows_append (Number z) a b x h = stops_append a b x ∙ h
 follows_append (Digit n) a b x h = stops_append a b x ∙ h
-follows_append (Sign c kind) a b x h = tt
+follows_append (Sign c) a b x h = tt
 follows_append (Blank c) a b x h = tt
 
 pub fine_append : (a b : List Lexeme) (x : Bool) → Fine a (stops b x) → Fine b x → Fine (a ++ b) x
@@ -94,12 +94,9 @@ fine_append (l ∷ a) b x h k = (h.0, follows_append l a b x h.1, fine_append a 
 space_stops : (c : ℕ) → space c ≡ true → of_word c ≡ false
 space_stops c h = grind (arith, nat_tests)
 
-sign_stops : (c : ℕ) → plain_sign c ≡ true → of_word c ≡ false
-sign_stops c h = grind (arith, nat_tests)
-
 stops_bytes : (ls : List Lexeme) → stops ls true ≡ true → Fine ls true → Stops (render ls)
 stops_bytes [] e h = tt
-stops_bytes (Sign c kind ∷ ls) e h = sign_stops c h.0.0
+stops_bytes (Sign c ∷ ls) e h = sign_stops c h.0
 stops_bytes (Blank c ∷ ls) e h = space_stops c h.0
 stops_bytes (l ∷ ls) e h = absurd (cc)
 
@@ -124,9 +121,9 @@ pub cut_placed : (i : ℕ) (ls : List Lexeme) → Fine ls true → Cut assembly 
 cut_placed i [] h = c_end
 cut_placed i (Blank b ∷ ls) h =
     c_gap (next_gap (b ∷ render ls) 1 (lexeme_item (Blank b) (render ls) h.0 tt)) (cut_placed (i + 1) ls h.2)
-cut_placed i (Reserved u kind ∷ ls) h =
-    cut_token i (Reserved u kind) ls h.0 _ (cut_placed (i + length u) ls h.2)
-    (lexeme_item (Reserved u kind) (render ls) h.0 (stops_bytes ls h.1 h.2))
+cut_placed i (Reserved u ∷ ls) h =
+    cut_token i (Reserved u) ls h.0 _ (cut_placed (i + length u) ls h.2)
+    (lexeme_item (Reserved u) (render ls) h.0 (stops_bytes ls h.1 h.2))
 cut_placed i (TypeName n ∷ ls) h =
     cut_token i (TypeName n) ls h.0 _ (cut_placed _ ls h.2)
     (lexeme_item (TypeName n) (render ls) h.0 (stops_bytes ls h.1 h.2))
@@ -145,8 +142,8 @@ cut_placed i (Number z ∷ ls) h =
 cut_placed i (Digit n ∷ ls) h =
     cut_token i (Digit n) ls h.0 _ (cut_placed _ ls h.2)
     (lexeme_item (Digit n) (render ls) h.0 (stops_bytes ls h.1 h.2))
-cut_placed i (Sign c kind ∷ ls) h =
-    cut_token i (Sign c kind) ls h.0 _ (cut_placed _ ls h.2) (lexeme_item (Sign c kind) (render ls) h.0 tt)
+cut_placed i (Sign c ∷ ls) h =
+    cut_token i (Sign c) ls h.0 _ (cut_placed _ ls h.2) (lexeme_item (Sign c) (render ls) h.0 tt)
 
 -- each lexeme stands in the text, from the place i on
 abbrev pub Written : List ℕ → ℕ → List Lexeme → Type 0

@@ -9,9 +9,9 @@ use Rattle.t_types.specs.declared.types.TType.{TType}
 use Rattle.t_types.specs.Tree.{Ty, CodeTy, TupleTy, TFile, TFields}
 use Rattle.t_types.specs.Read.{tree, file, fields, types}
 use Rattle.t_types.specs.WellFormed.{WellFormed, RegsAbove, WellFormedFields, WellFormedTypes}
-use Rattle.t_text.specs.declared.token.Kind.TheVariants as k
 use Rattle.t_terms.specs.Tree.{TValue, Pack}
-use Rattle.t_writer.specs.Lexeme.{Lexeme, TypeName, Register, Sign, bytes, render}
+use Rattle.t_writer.specs.Lexeme.{Lexeme, TypeName, Register, bytes, render}
+use Rattle.t_writer.specs.Lexeme.{caret, colon, right_angle, right_brace, right_bracket}
 use Rattle.t_writer.specs.Written.{separator, names_written, binds_written, flag_written, type_written, regs_written}
 use Rattle.t_writer.specs.Written.{fields_written, file_written, types_written, list_written, value_written}
 
@@ -26,24 +26,24 @@ listed item i [] = []
 listed item i (x ∷ xs) = separator i ++ (item x ++ listed item (suc i) xs)
 
 abbrev pub reg_item : ℕ → ℕ × TType → List Lexeme
-reg_item d x = Register x.0 ∷ (Sign 58 k.Colon ∷ type_written d (tree x.1))
+reg_item d x = Register x.0 ∷ (colon ∷ type_written d (tree x.1))
 
 abbrev pub field_item : ℕ → TType × Bool → List Lexeme
-field_item d x = type_written d (tree x.0) ++ (Sign 94 k.Caret ∷ (flag_written x.1 ∷ []))
+field_item d x = type_written d (tree x.0) ++ (caret ∷ (flag_written x.1 ∷ []))
 
 pub regs_listed : (i d : ℕ) (xs : List (ℕ × TType)) → regs_written i d (file xs) ≡ listed (reg_item d) i xs
 regs_listed i d [] = refl
 regs_listed i d (x ∷ xs) =
-    ap (λ (ls : List Lexeme). separator i ++ (Register x.0 ∷ (Sign 58 k.Colon ∷ (type_written d (tree x.1) ++ ls))))
+    ap (λ (ls : List Lexeme). separator i ++ (Register x.0 ∷ (colon ∷ (type_written d (tree x.1) ++ ls))))
     (regs_listed (suc i) d xs)
 
 pub fields_listed : (i d : ℕ) (xs : List (TType × Bool)) → fields_written i d (fields xs) ≡ listed (field_item d) i xs
 fields_listed i d [] = refl
 fields_listed i d (x ∷ xs) =
     ap (λ (ls : List Lexeme). separator i
-    ++ (type_written d (tree x.0) ++ (Sign 94 k.Caret ∷ (flag_written x.1 ∷ ls)))) (fields_listed (suc i) d xs)
+    ++ (type_written d (tree x.0) ++ (caret ∷ (flag_written x.1 ∷ ls)))) (fields_listed (suc i) d xs)
     ∙ ap (λ (ls : List Lexeme). separator i ++ ls)
-    (sym (append_assoc (type_written d (tree x.0)) (Sign 94 k.Caret ∷ (flag_written x.1 ∷ []))
+    (sym (append_assoc (type_written d (tree x.0)) (caret ∷ (flag_written x.1 ∷ []))
     (listed (field_item d) (suc i) xs)))
 
 pub types_listed : (i d : ℕ) (xs : List TType) →
@@ -100,7 +100,7 @@ names_none text i d n whole le h =
 pub binds_done : (old first last new : List ℕ) (d n : ℕ) → first ≡ old ++ 91 ∷ [] →
     last ≡ first ++ render (names_written 0 d n) → new ≡ last ++ 93 ∷ [] → new ≡ old ++ render (binds_written d n)
 binds_done old first last new d n e f g =
-    rw (g, f, e, render_append (names_written 0 d n) (Sign 93 k.RightBracket ∷ [])) (simp append_assoc)
+    rw (g, f, e, render_append (names_written 0 d n) (right_bracket ∷ [])) (simp append_assoc)
 
 -- the parts of what is well formed
 pub regs_fit : (low d : ℕ) (xs : List (ℕ × TType)) → RegsAbove low d (file xs) →
@@ -135,7 +135,7 @@ field_more d t0 t1 t2 t3 i xs x whole is lt h e f g =
       g,
       f,
       e,
-      render_append (type_written d (tree x.0)) (Sign 94 k.Caret ∷ (flag_written x.1 ∷ [])),
+      render_append (type_written d (tree x.0)) (caret ∷ (flag_written x.1 ∷ [])),
       append-nil (bytes (flag_written x.1)),
     ) (simp append_assoc))
 
@@ -156,7 +156,7 @@ file_done d xs old first last new i e h le g =
       left_none (reg_item d) last i xs _ h le,
       e,
       regs_listed 0 d xs,
-      render_append (listed (reg_item d) 0 xs) (Sign 125 k.RightBrace ∷ []),
+      render_append (listed (reg_item d) 0 xs) (right_brace ∷ []),
     ) (simp append_assoc)
 
 pub list_done : (d : ℕ) (xs : List TType) (old first last new : List ℕ) (i : ℕ) → first ≡ old ++ 91 ∷ [] →
@@ -169,7 +169,7 @@ list_done d xs old first last new i e h le g =
       left_none (λ (t : TType). type_written d (tree t)) last i xs _ h le,
       e,
       types_listed 0 d xs,
-      render_append (listed (λ (t : TType). type_written d (tree t)) 0 xs) (Sign 93 k.RightBracket ∷ []),
+      render_append (listed (λ (t : TType). type_written d (tree t)) 0 xs) (right_bracket ∷ []),
     )
     (simp append_assoc)
 
@@ -183,7 +183,7 @@ pub tuple_done : (d : ℕ) (fs : TFields) (old first last new : List ℕ) → fi
     last ≡ first ++ render (fields_written 0 d fs) → new ≡ last ++ 62 ∷ [] →
     new ≡ old ++ render (type_written d (TupleTy fs))
 tuple_done d fs old first last new e f g =
-    rw (g, f, e, render_append (fields_written 0 d fs) (Sign 62 k.RightAngle ∷ [])) (simp append_assoc)
+    rw (g, f, e, render_append (fields_written 0 d fs) (right_angle ∷ [])) (simp append_assoc)
 
 pub code_done : (d owes : ℕ) (f : TFile) (old first second new : List ℕ) → first ≡ old ++ codes "all" →
     second ≡ first ++ render (binds_written d owes) → new ≡ second ++ render (file_written (d + owes) f) →

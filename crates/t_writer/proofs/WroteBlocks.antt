@@ -5,7 +5,6 @@ use Rattle.std.proofs.lemmas.List.{append-nil}
 use Rattle.idx_core.specs.declared.span.Span.{Span}
 use Rattle.idx_core.specs.Names.{Name}
 use Rattle.t_types.specs.WellFormed.{max_names}
-use Rattle.t_text.specs.declared.token.Kind.TheVariants as k
 use Rattle.t_text.specs.declared.token.Token.{Token}
 use Rattle.t_terms.specs.Tree.{TSeq, Then, Ends, Label, TBlock}
 use Rattle.t_terms.specs.Tree as tree_of
@@ -18,6 +17,7 @@ use Rattle.t_terms.specs.Whole.{WellFormedSeq, WellFormedBlock, WellFormedBlocks
 use Rattle.t_terms.specs.Values.{SeqValues, BlocksValues}
 use Rattle.t_terms.specs.Whole.{ValueFits}
 use Rattle.t_writer.specs.Lexeme.{Reserved, LabelName, Sign, bytes}
+use Rattle.t_writer.specs.Lexeme.{colon}
 use Rattle.t_writer.specs.Written.{line_end, binds_written, file_written, instr_written, end_written, seq_written}
 use Rattle.t_writer.specs.Written.{block_written, blocks_written}
 use Rattle.t_writer.proofs.Placed as placing
@@ -110,7 +110,7 @@ module _ (text : List ℕ) (p q : ℕ) (few : p ≤ 2 ^ 64) (small : q ≤ 2 ^ 6
       let bs = binds_written 0 b.owes in
       let fs = file_written b.owes b.file in
       let code = seq_written b.owes b.code in
-      let dot = Sign 46 k.Dot ∷ (line_end ∷ code) in
+      let dot = Sign 46 ∷ (line_end ∷ code) in
       let s = placing.place_of i (LabelName l) in
       let j = i + length (bytes (LabelName l)) + 1 + 1 + 4 in
       let m = j + size bs in
@@ -124,24 +124,24 @@ module _ (text : List ℕ) (p q : ℕ) (few : p ≤ 2 ^ 64) (small : q ≤ 2 ^ 6
       record {
         raw = record { name = s; names = a.spans; file = file.piece.tree; body = c.body; last = c.last };
         whole = rw (placed_append j bs (fs ++ dot), placed_append m fs dot, c.at)
-            (b_block s (placing.place_of (i + length (bytes (LabelName l))) (Sign 58 k.Colon))
-            (placing.place_of (i + length (bytes (LabelName l)) + 1 + 1) (Reserved (codes "code") k.Code))
-            (placing.place_of n (Sign 46 k.Dot))
+            (b_block s (placing.place_of (i + length (bytes (LabelName l))) colon)
+            (placing.place_of (i + length (bytes (LabelName l)) + 1 + 1) (Reserved (codes "code")))
+            (placing.place_of n (Sign 46))
             a.whole file.whole (c.extend [] [] is_none) c.ends);
         fine = λ x. (
           low,
           refl,
           (
-            (refl, refl, tt),
+            (refl, tt),
             tt,
             (
               refl,
               tt,
               (
-                (refl, refl, tt),
+                (refl, tt),
                 refl,
                 fine_append bs (fs ++ dot) x (a.fine true)
-                    (fine_append fs dot x (file.fine true) ((refl, refl, tt), tt, (refl, tt, c.fine x))),
+                    (fine_append fs dot x (file.fine true) ((refl, tt), tt, (refl, tt, c.fine x))),
               ),
             ),
           ),

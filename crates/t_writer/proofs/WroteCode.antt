@@ -24,8 +24,9 @@ use Rattle.t_text.specs.NameFaults.{base_faults, value_faults, instr_faults, end
 use Rattle.t_terms.specs.Whole.{WellFormedBase, WellFormedValue, WellFormedInstr, WellFormedEnd}
 use Rattle.t_terms.specs.Values.{InstrValues, EndValues}
 use Rattle.t_terms.specs.Whole.{BaseFits, ValueFits}
-use Rattle.t_writer.specs.Lexeme.{Lexeme, Reserved, TypeName, LabelName, DataName, Register, Number, Sign, bytes}
-use Rattle.t_writer.specs.Written.{comma, space, type_written, types_written, list_written, base_written}
+use Rattle.t_writer.specs.Lexeme.{Lexeme, Reserved, TypeName, LabelName, DataName, Register, Number, bytes}
+use Rattle.t_writer.specs.Lexeme.{comma, left_bracket, right_bracket}
+use Rattle.t_writer.specs.Written.{space, type_written, types_written, list_written, base_written}
 use Rattle.t_writer.specs.Written.{value_written, op_written, instr_written, end_written}
 use Rattle.t_writer.proofs.Items.{Valid}
 use Rattle.t_writer.proofs.Placed as placing
@@ -47,9 +48,9 @@ record WroteOp (i : ℕ) (op : Op) : Type 0 where
   follows : (ls : List Lexeme) → Follows (op_written op) (space ∷ ls) true
 
 wrote_op : (i : ℕ) (op : Op) → WroteOp i op
-wrote_op i Add = record { kind = k.Add; at = refl; is = is_add; valid = (refl, refl, tt); follows = λ ls. refl }
-wrote_op i Sub = record { kind = k.Sub; at = refl; is = is_sub; valid = (refl, refl, tt); follows = λ ls. refl }
-wrote_op i Mul = record { kind = k.Mul; at = refl; is = is_mul; valid = (refl, refl, tt); follows = λ ls. refl }
+wrote_op i Add = record { kind = k.Add; at = refl; is = is_add; valid = (refl, tt); follows = λ ls. refl }
+wrote_op i Sub = record { kind = k.Sub; at = refl; is = is_sub; valid = (refl, tt); follows = λ ls. refl }
+wrote_op i Mul = record { kind = k.Mul; at = refl; is = is_mul; valid = (refl, tt); follows = λ ls. refl }
 
 -- in a program of p blocks and q data tuples
 module _ (text : List ℕ) (p q : ℕ) (few : p ≤ 2 ^ 64) (small : q ≤ 2 ^ 64) where
@@ -146,26 +147,26 @@ module _ (text : List ℕ) (p q : ℕ) (few : p ≤ 2 ^ 64) (small : q ≤ 2 ^ 6
         none = rw a.none refl;
       }
   wrote_value i d (Plain b (t ∷ ts)) n h f w =
-      let last = Sign 93 k.RightBracket ∷ [] in
+      let last = right_bracket ∷ [] in
       let ls = types_written 0 d (t ∷ ts) in
       let j = i + length (bytes (base_written b)) + 1 in
       let a = wrote_base i b h.0 f (w.0, tt) in
       let r = wrote_types text j d t ts n h.1 (written_append text j ls last w.1.1).0 in
-      let o = placing.place_of (i + length (bytes (base_written b))) (Sign 91 k.LeftBracket) in
-      let c = placing.place_of (j + size ls) (Sign 93 k.RightBracket) in
+      let o = placing.place_of (i + length (bytes (base_written b))) left_bracket in
+      let c = placing.place_of (j + size ls) right_bracket in
       record {
         piece = ending (RPlain a.raw r.raw) c.end;
         whole = rw (a.at, placed_append j ls last) (v_apply o c a.whole r.whole);
         fine = (
           a.valid,
           a.follows (list_written d (t ∷ ts)) refl,
-          ((refl, refl, tt), tt, fine_append ls last true r.fine ((refl, refl, tt), tt, tt)),
+          ((refl, tt), tt, fine_append ls last true r.fine ((refl, tt), tt, tt)),
         );
         means = ap₂ (λ (x : TBase) (us : List Ty). Plain x us) a.means r.means;
         none = rw (a.none, r.none) refl;
       }
   wrote_value i d (Pack t v s) n h f w =
-      let last = Sign 93 k.RightBracket ∷ (space ∷ (Reserved (codes "as") k.As ∷ (space ∷ type_written d s))) in
+      let last = right_bracket ∷ (space ∷ (Reserved (codes "as") ∷ (space ∷ type_written d s))) in
       let rest = comma ∷ (space ∷ (value_written d v ++ last)) in
       let j = i + 4 + 1 in
       let c = j + size (type_written d t) in
@@ -181,19 +182,19 @@ module _ (text : List ℕ) (p q : ℕ) (few : p ≤ 2 ^ 64) (small : q ≤ 2 ^ 6
         whole = rw (placed_append j (type_written d t) rest, placed_append m (value_written d v) last)
             (v_pack _ _ _ _ _ a.whole b.whole r.whole);
         fine = (
-          (refl, refl, tt),
+          (refl, tt),
           refl,
           (
-            (refl, refl, tt),
+            (refl, tt),
             tt,
             fine_append (type_written d t) rest true a.fine (
-              (refl, refl, tt),
+              (refl, tt),
               tt,
               (
                 refl,
                 tt,
                 fine_append (value_written d v) last true b.fine
-                    ((refl, refl, tt), tt, (refl, tt, ((refl, refl, tt), refl, (refl, tt, r.fine)))),
+                    ((refl, tt), tt, (refl, tt, ((refl, tt), refl, (refl, tt, r.fine)))),
               ),
             ),
           ),
@@ -229,7 +230,7 @@ module _ (text : List ℕ) (p q : ℕ) (few : p ≤ 2 ^ 64) (small : q ≤ 2 ^ 6
             (
               h.0,
               refl,
-              ((refl, refl, tt), tt, (refl, tt, (h.1, refl, ((refl, refl, tt), tt, (refl, tt, r.fine))))),
+              ((refl, tt), tt, (refl, tt, (h.1, refl, ((refl, tt), tt, (refl, tt, r.fine))))),
             ),
           ),
         );
@@ -240,9 +241,9 @@ module _ (text : List ℕ) (p q : ℕ) (few : p ≤ 2 ^ 64) (small : q ≤ 2 ^ 6
   wrote_instr i d (Bnz x v) n h f w =
       let r = wrote_value (after_reg (i + 3 + 1) x + 1 + 1) d v n h.1 f w.1.1.1.1.1 in
       record {
-        raw = (RBnz x r.piece.tree, up_to (placing.place_of i (Reserved (codes "bnz") k.Bnz)) r.piece.end);
+        raw = (RBnz x r.piece.tree, up_to (placing.place_of i (Reserved (codes "bnz"))) r.piece.end);
         whole = i_bnz _ _ _ x r.whole;
-        fine = ((refl, refl, tt), refl, (refl, tt, (h.0, refl, ((refl, refl, tt), tt, (refl, tt, r.fine)))));
+        fine = ((refl, tt), refl, (refl, tt, (h.0, refl, ((refl, tt), tt, (refl, tt, r.fine)))));
         means = ap (Bnz x) r.means;
         none = r.none;
         after = refl;
@@ -250,12 +251,12 @@ module _ (text : List ℕ) (p q : ℕ) (few : p ≤ 2 ^ 64) (small : q ≤ 2 ^ 6
   wrote_instr i d (Ld rd rs x) n h f w = record {
     raw = (
       RLd rd rs x,
-      up_to (placing.place_of i (Reserved (codes "ld") k.Ld))
+      up_to (placing.place_of i (Reserved (codes "ld")))
           (after_reg (after_reg (i + 2 + 1) rd + 1 + 1) rs + 1 + length (bytes (Number (pos x))) + 1),
     );
     whole = i_ld _ _ _ _ _ _ _ rd rs (pos x);
     fine = (
-      (refl, refl, tt),
+      (refl, tt),
       refl,
       (
         refl,
@@ -264,7 +265,7 @@ module _ (text : List ℕ) (p q : ℕ) (few : p ≤ 2 ^ 64) (small : q ≤ 2 ^ 6
           h.0,
           refl,
           (
-            (refl, refl, tt),
+            (refl, tt),
             tt,
             (
               refl,
@@ -272,7 +273,7 @@ module _ (text : List ℕ) (p q : ℕ) (few : p ≤ 2 ^ 64) (small : q ≤ 2 ^ 6
               (
                 h.1,
                 refl,
-                ((refl, refl, tt), tt, (h.2, refl, ((refl, refl, tt), tt, tt))),
+                ((refl, tt), tt, (h.2, refl, ((refl, tt), tt, tt))),
               ),
             ),
           ),
@@ -286,24 +287,24 @@ module _ (text : List ℕ) (p q : ℕ) (few : p ≤ 2 ^ 64) (small : q ≤ 2 ^ 6
   wrote_instr i d (Malloc rd []) n h f w = record {
     raw = (
       RMalloc rd [],
-      up_to (placing.place_of i (Reserved (codes "malloc") k.Malloc)) (after_reg (i + 6 + 1) rd + 1 + 1),
+      up_to (placing.place_of i (Reserved (codes "malloc"))) (after_reg (i + 6 + 1) rd + 1 + 1),
     );
     whole = i_malloc_none _ _ _ _ rd;
-    fine = ((refl, refl, tt), refl, (refl, tt, (h.0, refl, ((refl, refl, tt), tt, ((refl, refl, tt), tt, tt)))));
+    fine = ((refl, tt), refl, (refl, tt, (h.0, refl, ((refl, tt), tt, ((refl, tt), tt, tt)))));
     means = refl;
     none = refl;
     after = refl;
   }
   wrote_instr i d (Malloc rd (t ∷ ts)) n h f w =
-      let last = Sign 93 k.RightBracket ∷ [] in
+      let last = right_bracket ∷ [] in
       let ls = types_written 0 d (t ∷ ts) in
       let j = after_reg (i + 6 + 1) rd + 1 in
       let r = wrote_types text j d t ts n h.1 (written_append text j ls last w.1.1.1.1).0 in
       record {
-        raw = (RMalloc rd r.raw, up_to (placing.place_of i (Reserved (codes "malloc") k.Malloc)) (j + size ls + 1));
+        raw = (RMalloc rd r.raw, up_to (placing.place_of i (Reserved (codes "malloc"))) (j + size ls + 1));
         whole = rw (placed_append j ls last) (i_malloc _ _ _ _ rd r.whole);
         fine = (
-          (refl, refl, tt),
+          (refl, tt),
           refl,
           (
             refl,
@@ -311,7 +312,7 @@ module _ (text : List ℕ) (p q : ℕ) (few : p ≤ 2 ^ 64) (small : q ≤ 2 ^ 6
             (
               h.0,
               refl,
-              ((refl, refl, tt), tt, fine_append ls last true r.fine ((refl, refl, tt), tt, tt)),
+              ((refl, tt), tt, fine_append ls last true r.fine ((refl, tt), tt, tt)),
             ),
           ),
         );
@@ -322,9 +323,9 @@ module _ (text : List ℕ) (p q : ℕ) (few : p ≤ 2 ^ 64) (small : q ≤ 2 ^ 6
   wrote_instr i d (Mov rd v) n h f w =
       let r = wrote_value (after_reg (i + 3 + 1) rd + 1 + 1) d v n h.1 f w.1.1.1.1.1 in
       record {
-        raw = (RMov rd r.piece.tree, up_to (placing.place_of i (Reserved (codes "mov") k.Mov)) r.piece.end);
+        raw = (RMov rd r.piece.tree, up_to (placing.place_of i (Reserved (codes "mov"))) r.piece.end);
         whole = i_mov _ _ _ rd r.whole;
-        fine = ((refl, refl, tt), refl, (refl, tt, (h.0, refl, ((refl, refl, tt), tt, (refl, tt, r.fine)))));
+        fine = ((refl, tt), refl, (refl, tt, (h.0, refl, ((refl, tt), tt, (refl, tt, r.fine)))));
         means = ap (Mov rd) r.means;
         none = r.none;
         after = refl;
@@ -332,12 +333,12 @@ module _ (text : List ℕ) (p q : ℕ) (few : p ≤ 2 ^ 64) (small : q ≤ 2 ^ 6
   wrote_instr i d (St rd x rs) n h f w = record {
     raw = (
       RSt rd x rs,
-      up_to (placing.place_of i (Reserved (codes "st") k.St))
+      up_to (placing.place_of i (Reserved (codes "st")))
           (after_reg (after_reg (i + 2 + 1) rd + 1 + length (bytes (Number (pos x))) + 1 + 1 + 1) rs),
     );
     whole = i_st _ _ _ _ _ _ _ rd rs (pos x);
     fine = (
-      (refl, refl, tt),
+      (refl, tt),
       refl,
       (
         refl,
@@ -346,12 +347,12 @@ module _ (text : List ℕ) (p q : ℕ) (few : p ≤ 2 ^ 64) (small : q ≤ 2 ^ 6
           h.0,
           refl,
           (
-            (refl, refl, tt),
+            (refl, tt),
             tt,
             (
               h.1,
               refl,
-              ((refl, refl, tt), tt, ((refl, refl, tt), tt, (refl, tt, (h.2, refl, tt)))),
+              ((refl, tt), tt, ((refl, tt), tt, (refl, tt, (h.2, refl, tt)))),
             ),
           ),
         ),
@@ -366,21 +367,21 @@ module _ (text : List ℕ) (p q : ℕ) (few : p ≤ 2 ^ 64) (small : q ≤ 2 ^ 6
       let b = i + 6 + 1 + length (bytes (TypeName d)) + 1 + 1 in
       let r = wrote_value (after_reg b rd + 1 + 1 + 1) d v n h.1 f w.1.1.1.1.1.1.1.1.1 in
       record {
-        raw = (RUnpack s rd r.piece.tree, up_to (placing.place_of i (Reserved (codes "unpack") k.Unpack)) r.piece.end);
+        raw = (RUnpack s rd r.piece.tree, up_to (placing.place_of i (Reserved (codes "unpack"))) r.piece.end);
         whole = i_unpack _ _ _ _ _ _ _ rd r.whole;
         fine = (
-          (refl, refl, tt),
+          (refl, tt),
           refl,
           (
-            (refl, refl, tt),
+            (refl, tt),
             tt,
             (
               omega arith,
               refl,
               (
-                (refl, refl, tt),
+                (refl, tt),
                 tt,
-                (refl, tt, (h.0, refl, ((refl, refl, tt), tt, ((refl, refl, tt), tt, (refl, tt, r.fine))))),
+                (refl, tt, (h.0, refl, ((refl, tt), tt, ((refl, tt), tt, (refl, tt, r.fine))))),
               ),
             ),
           ),
@@ -402,16 +403,16 @@ module _ (text : List ℕ) (p q : ℕ) (few : p ≤ 2 ^ 64) (small : q ≤ 2 ^ 6
   wrote_end i d (Jmp v) n h f w =
       let r = wrote_value (i + 3 + 1) d v n h f w.1.1 in
       record {
-        raw = (RJmp r.piece.tree, up_to (placing.place_of i (Reserved (codes "jmp") k.Jmp)) r.piece.end);
+        raw = (RJmp r.piece.tree, up_to (placing.place_of i (Reserved (codes "jmp"))) r.piece.end);
         whole = e_jmp _ r.whole;
-        fine = ((refl, refl, tt), refl, (refl, tt, r.fine));
+        fine = ((refl, tt), refl, (refl, tt, r.fine));
         means = ap Jmp r.means;
         none = r.none;
       }
   wrote_end i d Halt n h f w = record {
-    raw = (RHalt, up_to (placing.place_of i (Reserved (codes "halt") k.Halt)) (i + 4 + 1 + 3 + 1));
+    raw = (RHalt, up_to (placing.place_of i (Reserved (codes "halt"))) (i + 4 + 1 + 3 + 1));
     whole = e_halt _ _ _ _;
-    fine = ((refl, refl, tt), refl, ((refl, refl, tt), tt, ((refl, refl, tt), refl, ((refl, refl, tt), tt, tt))));
+    fine = ((refl, tt), refl, ((refl, tt), tt, ((refl, tt), refl, ((refl, tt), tt, tt))));
     means = refl;
     none = refl;
   }

@@ -20,7 +20,8 @@ use Rattle.t_terms.specs.Whole.{WellFormedValue, HasNoRegister, WellFormedDatum,
 use Rattle.t_terms.specs.Values.{DataValues, HeapValues}
 use Rattle.t_terms.specs.Whole.{ValueFits}
 use Rattle.t_writer.specs.Lexeme.{Reserved, DataName, Sign, bytes}
-use Rattle.t_writer.specs.Written.{comma, space, line_end, base_written, type_written, types_written, list_written}
+use Rattle.t_writer.specs.Lexeme.{comma, left_angle, left_bracket, right_angle, right_bracket}
+use Rattle.t_writer.specs.Written.{space, line_end, base_written, type_written, types_written, list_written}
 use Rattle.t_writer.specs.Written.{value_written, datum_written, data_fields_written, data_written, heap_written}
 use Rattle.t_writer.proofs.Placed as placing
 use Rattle.t_writer.proofs.Placed.{size, placed, placed_append, stops, Fine, fine_append, Written, written_append}
@@ -71,26 +72,26 @@ module _ (text : List ℕ) (p q : ℕ) (few : p ≤ 2 ^ 64) (small : q ≤ 2 ^ 6
         none = rw a.none refl;
       }
   wrote_word i (Plain b (t ∷ ts)) h r f w =
-      let last = Sign 93 k.RightBracket ∷ [] in
+      let last = right_bracket ∷ [] in
       let ls = types_written 0 0 (t ∷ ts) in
       let j = i + length (bytes (base_written b)) + 1 in
       let a = wrote_base text p q few small i b h.0 f (w.0, tt) in
       let y = wrote_types text j 0 t ts (omega arith) h.1 (written_append text j ls last w.1.1).0 in
-      let o = placing.place_of (i + length (bytes (base_written b))) (Sign 91 k.LeftBracket) in
-      let c = placing.place_of (j + size ls) (Sign 93 k.RightBracket) in
+      let o = placing.place_of (i + length (bytes (base_written b))) left_bracket in
+      let c = placing.place_of (j + size ls) right_bracket in
       record {
         raw = (RPlain a.raw y.raw, up_to a.token.span c.end);
         whole = rw (a.at, placed_append j ls last) (w_apply o c (quiet b (t ∷ ts) r a.means a.whole) y.whole);
         fine = (
           a.valid,
           a.follows (list_written 0 (t ∷ ts)) refl,
-          ((refl, refl, tt), tt, fine_append ls last true y.fine ((refl, refl, tt), tt, tt)),
+          ((refl, tt), tt, fine_append ls last true y.fine ((refl, tt), tt, tt)),
         );
         means = ap₂ (λ (x : TBase) (us : List Ty). Plain x us) a.means y.means;
         none = rw (a.none, y.none) refl;
       }
   wrote_word i (Pack t v s) h r f w =
-      let last = Sign 93 k.RightBracket ∷ (space ∷ (Reserved (codes "as") k.As ∷ (space ∷ type_written 0 s))) in
+      let last = right_bracket ∷ (space ∷ (Reserved (codes "as") ∷ (space ∷ type_written 0 s))) in
       let rest = comma ∷ (space ∷ (value_written 0 v ++ last)) in
       let j = i + 4 + 1 in
       let c = j + size (type_written 0 t) in
@@ -104,24 +105,24 @@ module _ (text : List ℕ) (p q : ℕ) (few : p ≤ 2 ^ 64) (small : q ≤ 2 ^ 6
       record {
         raw = (
           RPack a.piece.tree b.raw.0 z.piece.tree,
-          up_to (placing.place_of i (Reserved (codes "pack") k.Pack)) z.piece.end,
+          up_to (placing.place_of i (Reserved (codes "pack"))) z.piece.end,
         );
         whole = rw (placed_append j (type_written 0 t) rest, placed_append m (value_written 0 v) last)
             (w_pack _ _ _ _ _ a.whole b.whole z.whole);
         fine = (
-          (refl, refl, tt),
+          (refl, tt),
           refl,
           (
-            (refl, refl, tt),
+            (refl, tt),
             tt,
             fine_append (type_written 0 t) rest true a.fine (
-              (refl, refl, tt),
+              (refl, tt),
               tt,
               (
                 refl,
                 tt,
                 fine_append (value_written 0 v) last true b.fine
-                    ((refl, refl, tt), tt, (refl, tt, ((refl, refl, tt), refl, (refl, tt, z.fine)))),
+                    ((refl, tt), tt, (refl, tt, ((refl, tt), refl, (refl, tt, z.fine)))),
               ),
             ),
           ),
@@ -147,7 +148,7 @@ module _ (text : List ℕ) (p q : ℕ) (few : p ≤ 2 ^ 64) (small : q ≤ 2 ^ 6
   wrote_datum : (i : ℕ) (x : TDatum) → WellFormedDatum p q x → ValueFits x.value → Written text i (datum_written x) →
       WroteDatum i x
   wrote_datum i x h f w =
-      let rest = space ∷ (Sign 58 k.Colon ∷ (space ∷ type_written 0 x.ty)) in
+      let rest = space ∷ (Sign 58 ∷ (space ∷ type_written 0 x.ty)) in
       let c = i + size (value_written 0 x.value) + 1 in
       let j = c + 1 + 1 in
       let v = written_append text i (value_written 0 x.value) rest w in
@@ -156,14 +157,14 @@ module _ (text : List ℕ) (p q : ℕ) (few : p ≤ 2 ^ 64) (small : q ≤ 2 ^ 6
       record {
         word = a.raw;
         ty = t.piece;
-        colon = placing.place_of c (Sign 58 k.Colon);
+        colon = placing.place_of c (Sign 58);
         value_tokens = placed i (value_written 0 x.value);
         type_tokens = placed j (type_written 0 x.ty);
         at = placed_append i (value_written 0 x.value) rest;
         whole_word = a.whole;
         whole_type = t.whole;
         fine = fine_append (value_written 0 x.value) rest true a.fine
-            (refl, tt, ((refl, refl, tt), tt, (refl, tt, t.fine)));
+            (refl, tt, ((refl, tt), tt, (refl, tt, t.fine)));
         means = ap₂ (λ (u : TValue) (s : Ty). record { value = u; ty = s }) a.means t.means;
         none = rw (a.none, t.none) refl;
       }
@@ -203,7 +204,7 @@ module _ (text : List ℕ) (p q : ℕ) (few : p ≤ 2 ^ 64) (small : q ≤ 2 ^ 6
             (placing.place_of i comma) a.colon rs r.raw (datum a.word a.ty.tree)
             (r.extend _ _ (ds_more (placing.place_of i comma) a.colon y a.whole_word a.whole_type)));
         fine = (
-          (refl, refl, tt),
+          (refl, tt),
           tt,
           (refl, tt, fine_append (datum_written x) rest true (rw (stops_fields (suc nth) xs) a.fine) r.fine),
         );
@@ -215,8 +216,8 @@ module _ (text : List ℕ) (p q : ℕ) (few : p ≤ 2 ^ 64) (small : q ≤ 2 ^ 6
   record WroteTuple (i : ℕ) (xs : TData) : Type 0 where
     raw : List RawDatum
     whole : Tuple
-        (placed i (Sign 60 k.LeftAngle ∷ (data_fields_written 0 xs ++ (Sign 62 k.RightAngle ∷ (line_end ∷ []))))) raw
-    fine : (b : Bool) → Fine (data_fields_written 0 xs ++ (Sign 62 k.RightAngle ∷ (line_end ∷ []))) b
+        (placed i (left_angle ∷ (data_fields_written 0 xs ++ (right_angle ∷ (line_end ∷ []))))) raw
+    fine : (b : Bool) → Fine (data_fields_written 0 xs ++ (right_angle ∷ (line_end ∷ []))) b
     means : plain_fields (map (datum_of text names) raw) ≡ xs
     none : data_faults text names raw ≡ []
 
@@ -225,13 +226,13 @@ module _ (text : List ℕ) (p q : ℕ) (few : p ≤ 2 ^ 64) (small : q ≤ 2 ^ 6
   wrote_tuple i [] h f w = record {
     raw = [];
     whole = tu_none _ _;
-    fine = λ b. ((refl, refl, tt), tt, (refl, tt, tt));
+    fine = λ b. ((refl, tt), tt, (refl, tt, tt));
     means = refl;
     none = refl;
   }
   wrote_tuple i (x ∷ xs) h f w =
       let rest = data_fields_written 1 xs in
-      let last = Sign 62 k.RightAngle ∷ (line_end ∷ []) in
+      let last = right_angle ∷ (line_end ∷ []) in
       let j = i + 1 in
       let v = written_append text j (datum_written x) rest w in
       let a = wrote_datum j x h.0 f.0 v.0 in
@@ -244,7 +245,7 @@ module _ (text : List ℕ) (p q : ℕ) (few : p ≤ 2 ^ 64) (small : q ≤ 2 ^ 6
             (rw a.at (ds_one a.colon a.whole_word a.whole_type))));
         fine = λ b. fine_append (datum_written x ++ rest) last b
             (fine_append (datum_written x) rest true (rw (stops_fields 0 xs) a.fine) r.fine)
-            ((refl, refl, tt), tt, (refl, tt, tt));
+            ((refl, tt), tt, (refl, tt, tt));
         means = ap₂ (λ (y : TDatum) (ys : TData). y ∷ ys) a.means r.means;
         none = one_more (datum a.word a.ty.tree) r.raw a.none r.none;
       }
@@ -264,21 +265,21 @@ module _ (text : List ℕ) (p q : ℕ) (few : p ≤ 2 ^ 64) (small : q ≤ 2 ^ 6
   wrote_data d i xs low h f w =
       let j = i + length (bytes (DataName d)) in
       let m = j + 1 + 1 + 4 + 1 in
-      let v = written_append text (m + 1) (data_fields_written 0 xs) (Sign 62 k.RightAngle ∷ (line_end ∷ []))
+      let v = written_append text (m + 1) (data_fields_written 0 xs) (right_angle ∷ (line_end ∷ []))
       w.1.1.1.1.1.1 in
       let a = wrote_tuple m xs h f v.0 in
       record {
         name = placing.place_of i (DataName d);
         raw = a.raw;
-        whole = it_data (placing.place_of i (DataName d)) (placing.place_of j (Sign 58 k.Colon))
-            (placing.place_of (j + 1 + 1) (Reserved (codes "data") k.Data)) a.whole;
+        whole = it_data (placing.place_of i (DataName d)) (placing.place_of j (Sign 58))
+            (placing.place_of (j + 1 + 1) (Reserved (codes "data"))) a.whole;
         fine = λ x. (
           low,
           refl,
           (
-            (refl, refl, tt),
+            (refl, tt),
             tt,
-            (refl, tt, ((refl, refl, tt), refl, (refl, tt, ((refl, refl, tt), tt, a.fine x)))),
+            (refl, tt, ((refl, tt), refl, (refl, tt, ((refl, tt), tt, a.fine x)))),
           ),
         );
         means = a.means;

@@ -3,7 +3,6 @@ use Rattle.std.proofs.Common.{◌≡◌, ◌≤◌, ◌^◌, ℕ, ◌+◌, List,
 use Rattle.std.proofs.Common.{◌∙◌, arith, subst, zero-add}
 use Rattle.std.proofs.lemmas.List.{append-nil}
 use Rattle.idx_core.specs.Names.{Name}
-use Rattle.t_text.specs.declared.token.Kind.TheVariants as k
 use Rattle.t_terms.specs.Tree.{Label, TBlock, TData, TProg}
 use Rattle.t_terms.specs.Spanned.{plain_blocks, plain_heap, plain_program}
 use Rattle.t_text.specs.Raw.{RawBlock, RawData, RawItem, blocks_in, data_in, block_items}
@@ -89,7 +88,7 @@ module _ (text : List ℕ) (b : TBlock) (bs : List TBlock) (few : length (b ∷ 
       let spell : labels_of text (block_items raw) ≡ names =
       ap₂ (λ (x : Name) (xs : Labels). (x, Label 0) ∷ xs) a.name (r.spell 0) in
       let fine : Fine (program_written (b ∷ bs)) true = (
-        (refl, refl, tt),
+        (refl, tt),
         refl,
         (
           refl,
@@ -103,7 +102,7 @@ module _ (text : List ℕ) (b : TBlock) (bs : List TBlock) (few : length (b ∷ 
       ) in
       let shape : Program (placed 0 (program_written (b ∷ bs))) (block_items raw) =
       rw (placed_append 6 (block_written 0 b) rest)
-      (p_blocks (placing.place_of 0 (Reserved (codes "tal") k.Tal)) (placing.place_of 4 (Digit 1))
+      (p_blocks (placing.place_of 0 (Reserved (codes "tal"))) (placing.place_of 4 (Digit 1))
       (r.extend _ (a.raw ∷ []) (bs_one a.whole))) in
       let named : program_faults text (block_items raw) ≡ [] =
       subst (λ (ns : Labels). items_faults text ns [] (block_items raw) ≡ []) (sym spell)
@@ -135,7 +134,7 @@ second_stands text P few small h f g e =
     let spell : labels_of text raw ≡ names =
     x.spell (block_items r.raw) ∙ ap (λ (ns : Labels). data_from 0 q ++ ns) (r.spell (0 + q)) in
     let fine : Fine (second_written P) true = (
-      (refl, refl, tt),
+      (refl, tt),
       refl,
       (
         refl,
@@ -151,7 +150,7 @@ second_stands text P few small h f g e =
     let some : HasBlock raw =
     subst (λ (cs : List RawBlock). 1 ≤ length cs) (sym blocks) (omega (arith, r.count, h.0)) in
     let shape : Program (placed 0 (second_written P)) raw = rw (placed_append 6 first rest)
-    (p_items (placing.place_of 0 (Reserved (codes "tal") k.Tal)) (placing.place_of 4 (Digit 2))
+    (p_items (placing.place_of 0 (Reserved (codes "tal"))) (placing.place_of 4 (Digit 2))
     (r.items _ _ (x.extend [] [] its_none)) some) in
     let named : program_faults text raw ≡ [] =
     subst (λ (ns : Labels). items_faults text ns [] raw ≡ []) (sym spell)

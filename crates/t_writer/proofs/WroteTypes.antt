@@ -20,8 +20,10 @@ use Rattle.t_text.specs.Grammar.{t_int, t_name, t_code, t_some, t_unit, t_tuple,
 use Rattle.t_text.specs.Grammar.{rs_more, Fs, fs_one, fs_more, Ts, ts_one, ts_more}
 use Rattle.t_text.specs.Names.{spelled, bind, insert_reg, type_of, file_of, fields_of, types_of}
 use Rattle.t_text.specs.NameFaults.{type_faults, regs_faults, fields_faults, types_faults}
-use Rattle.t_writer.specs.Lexeme.{Reserved, TypeName, Register, Sign, bytes}
-use Rattle.t_writer.specs.Written.{comma, bit, flag_written, names_written, binds_written, type_written, regs_written}
+use Rattle.t_writer.specs.Lexeme.{Reserved, TypeName, Register, bytes}
+use Rattle.t_writer.specs.Lexeme.{caret, colon, comma, dot, left_angle, left_brace, right_angle, right_brace}
+use Rattle.t_writer.specs.Lexeme.{right_bracket}
+use Rattle.t_writer.specs.Written.{bit, flag_written, names_written, binds_written, type_written, regs_written}
 use Rattle.t_writer.specs.Written.{fields_written, file_written, types_written}
 use Rattle.t_writer.proofs.Placed as placing
 use Rattle.t_writer.proofs.Placed.{size, placed, placed_append, stops, Fine, fine_append, Written, written_append}
@@ -57,7 +59,7 @@ more_names i d (suc n) nth h =
           let c = placing.place_of i comma in
           simp append_assoc at (r.extend (w ++ tok k.Comma c ∷ (tok k.Name s ∷ [])) (ns ++ s ∷ []) (ns_more c s x));
       count = ap (λ m. suc m) r.count;
-      fine = ((refl, refl, tt), tt, (refl, tt, (omega arith, stops_names (suc nth) (d + 1) n, r.fine)));
+      fine = ((refl, tt), tt, (refl, tt, (omega arith, stops_names (suc nth) (d + 1) n, r.fine)));
       bound = λ text w.
           let e : spelled text s ∷ scope d ≡ scope (d + 1) =
           ap (λ (x : Name). x ∷ scope d) w.1.1.0 ∙ sym (scope_next d) in
@@ -77,7 +79,7 @@ wrote_binds i d zero h = record {
   spans = [];
   whole = bs_none _ _;
   count = refl;
-  fine = λ b. ((refl, refl, tt), tt, ((refl, refl, tt), tt, tt));
+  fine = λ b. ((refl, tt), tt, ((refl, tt), tt, tt));
   bound = λ text w. ap scope (omega arith);
 }
 wrote_binds i d (suc n) h =
@@ -86,17 +88,17 @@ wrote_binds i d (suc n) h =
     let ls = names_written 0 d (suc n) in
     record {
       spans = s ∷ r.spans;
-      whole = rw (placed_append (i + 1) ls (Sign 93 k.RightBracket ∷ []))
+      whole = rw (placed_append (i + 1) ls (right_bracket ∷ []))
           (bs_names _ _ (r.extend (tok k.Name s ∷ []) (s ∷ []) (ns_one s)));
       count = ap (λ m. suc m) r.count;
       fine = λ b. (
-        (refl, refl, tt),
+        (refl, tt),
         tt,
-        fine_append ls (Sign 93 k.RightBracket ∷ []) b (omega arith, stops_names 0 (d + 1) n, r.fine)
-            ((refl, refl, tt), tt, tt),
+        fine_append ls (right_bracket ∷ []) b (omega arith, stops_names 0 (d + 1) n, r.fine)
+            ((refl, tt), tt, tt),
       );
       bound = λ text w.
-          let v = (written_append text (i + 1) ls (Sign 93 k.RightBracket ∷ []) w.1).0 in
+          let v = (written_append text (i + 1) ls (right_bracket ∷ []) w.1).0 in
           let e : spelled text s ∷ scope d ≡ scope (d + 1) = ap (λ (x : Name). x ∷ scope d) v.0 ∙ sym (scope_next d) in
           ap (λ (a : List Name). bind text r.spans a) e ∙ (r.bound text v.1 ∙ ap scope (omega arith));
     }
@@ -184,7 +186,7 @@ module _ (text : List ℕ) where
     wrote_type i d IntTy n h w = record {
       piece = ending RInt (i + 3);
       whole = t_int _;
-      fine = ((refl, refl, tt), refl, tt);
+      fine = ((refl, tt), refl, tt);
       means = refl;
       none = refl;
     }
@@ -209,8 +211,8 @@ module _ (text : List ℕ) where
         record {
           piece = ending (RCode b.spans f.piece.tree) f.piece.end;
           whole = rw (placed_append (i + 3) bs fs)
-              (t_code (placing.place_of i (Reserved (codes "all") k.All)) b.whole f.whole);
-          fine = ((refl, refl, tt), refl, fine_append bs fs true (b.fine true) (f.fine true));
+              (t_code (placing.place_of i (Reserved (codes "all"))) b.whole f.whole);
+          fine = ((refl, tt), refl, fine_append bs fs true (b.fine true) (f.fine true));
           means = rw (b.count, e, f.means) refl;
           none = rw (e, f.none) refl;
         }
@@ -222,26 +224,26 @@ module _ (text : List ℕ) where
         ap (λ (x : Name). x ∷ scope d) w.1.1.0 ∙ sym (scope_next d) in
         record {
           piece = ending (RSome s r.piece.tree) r.piece.end;
-          whole = t_some (placing.place_of i (Reserved (codes "some") k.Some)) s
-              (placing.place_of (i + 4 + 1 + length (bytes (TypeName d))) (Sign 46 k.Dot)) r.whole;
-          fine = ((refl, refl, tt), refl, (refl, tt, (omega arith, refl, ((refl, refl, tt), tt, (refl, tt, r.fine)))));
+          whole = t_some (placing.place_of i (Reserved (codes "some"))) s
+              (placing.place_of (i + 4 + 1 + length (bytes (TypeName d))) dot) r.whole;
+          fine = ((refl, tt), refl, (refl, tt, (omega arith, refl, ((refl, tt), tt, (refl, tt, r.fine)))));
           means = rw (e, r.means) refl;
           none = rw (e, r.none) refl;
         }
     wrote_type i d (TupleTy NoFields) n h w = record {
       piece = ending (RTuple (raw_fields [])) (i + 1 + 1);
-      whole = t_unit (placing.place_of i (Sign 60 k.LeftAngle)) (placing.place_of (i + 1) (Sign 62 k.RightAngle));
-      fine = ((refl, refl, tt), tt, ((refl, refl, tt), tt, tt));
+      whole = t_unit (placing.place_of i left_angle) (placing.place_of (i + 1) right_angle);
+      fine = ((refl, tt), tt, ((refl, tt), tt, tt));
       means = refl;
       none = refl;
     }
     wrote_type i d (TupleTy (MoreFields t flag fields)) n h w =
-        let last = Sign 62 k.RightAngle ∷ [] in
+        let last = right_angle ∷ [] in
         let more = fields_written 1 d fields in
         let ls = fields_written 0 d (MoreFields t flag fields) in
         let m = i + 1 + size (type_written d t) in
         let v = (written_append text (i + 1) ls last w.1).0 in
-        let x = written_append text (i + 1) (type_written d t) (Sign 94 k.Caret ∷ (flag_written flag ∷ more)) v in
+        let x = written_append text (i + 1) (type_written d t) (caret ∷ (flag_written flag ∷ more)) v in
         let a = wrote_type (i + 1) d t n h.0 x.0 in
         let r = more_tuple (m + 1 + 1) d 0 fields n h.1 x.1.1.1 in
         let f : RawField = record { ty = a.piece.tree; flag = flag } in
@@ -249,21 +251,21 @@ module _ (text : List ℕ) where
           piece = ending (RTuple (raw_fields (f ∷ r.raw))) (i + 1 + size ls + 1);
           whole = rw (
             placed_append (i + 1) ls last,
-            placed_append (i + 1) (type_written d t) (Sign 94 k.Caret ∷ (flag_written flag ∷ more)),
+            placed_append (i + 1) (type_written d t) (caret ∷ (flag_written flag ∷ more)),
           )
-              (t_tuple (placing.place_of i (Sign 60 k.LeftAngle))
-              (placing.place_of (i + 1 + size ls) (Sign 62 k.RightAngle))
+              (t_tuple (placing.place_of i left_angle)
+              (placing.place_of (i + 1 + size ls) right_angle)
               (simp append_assoc at
               (r.extend _ (f ∷ [])
-              (fs_one (placing.place_of m (Sign 94 k.Caret)) (placing.place_of (m + 1) (flag_written flag))
+              (fs_one (placing.place_of m caret) (placing.place_of (m + 1) (flag_written flag))
               a.whole (flag_is flag)))));
           fine = (
-            (refl, refl, tt),
+            (refl, tt),
             tt,
             fine_append ls last true
-                (fine_append (type_written d t) (Sign 94 k.Caret ∷ (flag_written flag ∷ more)) true a.fine
-                ((refl, refl, tt), tt, (flag_valid flag, stops_fields 0 d fields, r.fine)))
-                ((refl, refl, tt), tt, tt),
+                (fine_append (type_written d t) (caret ∷ (flag_written flag ∷ more)) true a.fine
+                ((refl, tt), tt, (flag_valid flag, stops_fields 0 d fields, r.fine)))
+                ((refl, tt), tt, tt),
           );
           means = ap₂ (λ (u : Ty) (us : TFields). TupleTy (MoreFields u flag us)) a.means r.means;
           none = rw (a.none, r.none) refl;
@@ -273,13 +275,13 @@ module _ (text : List ℕ) where
         Written text i (file_written d file) → WroteFile i d file
     wrote_file i d NoRegs n h w = record {
       piece = ending (raw_regs []) (i + 1 + 1);
-      whole = f_none (placing.place_of i (Sign 123 k.LeftBrace)) (placing.place_of (i + 1) (Sign 125 k.RightBrace));
-      fine = λ b. ((refl, refl, tt), tt, ((refl, refl, tt), tt, tt));
+      whole = f_none (placing.place_of i left_brace) (placing.place_of (i + 1) right_brace);
+      fine = λ b. ((refl, tt), tt, ((refl, tt), tt, tt));
       means = refl;
       none = refl;
     }
     wrote_file i d (MoreRegs r t file) n h w =
-        let last = Sign 125 k.RightBrace ∷ [] in
+        let last = right_brace ∷ [] in
         let more = regs_written 1 d file in
         let ls = regs_written 0 d (MoreRegs r t file) in
         let s = placing.place_of (i + 1) (Register r) in
@@ -292,23 +294,23 @@ module _ (text : List ℕ) where
         record {
           piece = ending (raw_regs (f ∷ q.regs)) (i + 1 + size ls + 1);
           whole = rw (placed_append (i + 1) ls last, placed_append j (type_written d t) more)
-              (f_regs (placing.place_of i (Sign 123 k.LeftBrace))
-              (placing.place_of (i + 1 + size ls) (Sign 125 k.RightBrace))
+              (f_regs (placing.place_of i left_brace)
+              (placing.place_of (i + 1 + size ls) right_brace)
               (q.extend _ (f ∷ [])
-              (rs_one r s (placing.place_of (i + 1 + length (bytes (Register r))) (Sign 58 k.Colon)) a.whole)));
+              (rs_one r s (placing.place_of (i + 1 + length (bytes (Register r))) colon) a.whole)));
           fine = λ b. (
-            (refl, refl, tt),
+            (refl, tt),
             tt,
             fine_append ls last b (
               (omega (arith, h.0), h.1),
               refl,
               (
-                (refl, refl, tt),
+                (refl, tt),
                 tt,
                 fine_append (type_written d t) more true (rw (stops_regs 0 d file) a.fine) q.fine,
               ),
             )
-                ((refl, refl, tt), tt, tt),
+                ((refl, tt), tt, tt),
           );
           means = rw (a.means, q.means) (insert_low r d t file h.3);
           none = rw (a.none, q.none (r ∷ []) (omega arith, tt)) refl;
@@ -337,9 +339,9 @@ module _ (text : List ℕ) where
           extend = λ u rs y. rw (placed_append j (type_written d t) more)
               (simp append_assoc at
               (q.extend _ _
-              (rs_more (placing.place_of i comma) r s (placing.place_of c (Sign 58 k.Colon)) y a.whole)));
+              (rs_more (placing.place_of i comma) r s (placing.place_of c colon) y a.whole)));
           fine = (
-            (refl, refl, tt),
+            (refl, tt),
             tt,
             (
               refl,
@@ -348,7 +350,7 @@ module _ (text : List ℕ) where
                 (omega (arith, h.0), h.1),
                 refl,
                 (
-                  (refl, refl, tt),
+                  (refl, tt),
                   tt,
                   fine_append (type_written d t) more true (rw (stops_regs (suc nth) d file) a.fine) q.fine,
                 ),
@@ -374,7 +376,7 @@ module _ (text : List ℕ) where
       none = refl;
     }
     more_tuple i d nth (MoreFields t flag fields) n h w =
-        let rest = Sign 94 k.Caret ∷ (flag_written flag ∷ fields_written (suc (suc nth)) d fields) in
+        let rest = caret ∷ (flag_written flag ∷ fields_written (suc (suc nth)) d fields) in
         let j = i + 1 + 1 in
         let m = j + size (type_written d t) in
         let x = written_append text j (type_written d t) rest w.1.1 in
@@ -386,16 +388,16 @@ module _ (text : List ℕ) where
           extend = λ u fs y. rw (placed_append j (type_written d t) rest)
               (simp append_assoc at
               (r.extend _ _
-              (fs_more (placing.place_of i comma) (placing.place_of m (Sign 94 k.Caret))
+              (fs_more (placing.place_of i comma) (placing.place_of m caret)
               (placing.place_of (m + 1) (flag_written flag)) y a.whole (flag_is flag))));
           fine = (
-            (refl, refl, tt),
+            (refl, tt),
             tt,
             (
               refl,
               tt,
               fine_append (type_written d t) rest true a.fine
-                  ((refl, refl, tt), tt, (flag_valid flag, stops_fields (suc nth) d fields, r.fine)),
+                  ((refl, tt), tt, (flag_valid flag, stops_fields (suc nth) d fields, r.fine)),
             ),
           );
           means = ap₂ (λ (u : Ty) (us : TFields). MoreFields u flag us) a.means r.means;
@@ -431,7 +433,7 @@ module _ (text : List ℕ) where
         extend = λ u rs y. rw (placed_append j (type_written d t) rest)
             (simp append_assoc at (r.extend _ _ (ts_more (placing.place_of i comma) y a.whole)));
         fine = (
-          (refl, refl, tt),
+          (refl, tt),
           tt,
           (refl, tt, fine_append (type_written d t) rest true (rw (stops_types (suc nth) d ts) a.fine) r.fine),
         );

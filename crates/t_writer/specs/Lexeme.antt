@@ -1,7 +1,5 @@
--- What a text is written of: tokens and the white space between them.
+-- What a text is written of: words, names, numbers and signs, and the white space between them.
 use Rattle.std.specs.Prelude.{ℕ, suc, ◌+◌, List, [], ◌∷◌, ◌++◌, ℤ, pos, negsuc, decimal}
-use Rattle.t_text.specs.declared.token.Kind.{Kind}
-use Rattle.t_text.specs.declared.token.Kind.TheVariants as k
 
 -- a number in decimal, a negative one with a tilde
 abbrev pub number_text : ℤ → List ℕ
@@ -10,7 +8,7 @@ number_text (negsuc n) = 126 ∷ decimal (suc n)
 
 pub data Lexeme : Type 0 where
   -- a reserved word
-  Reserved : List ℕ → Kind → Lexeme
+  Reserved : List ℕ → Lexeme
   -- the name of a type, the label of a block and that of a data tuple, by a number
   TypeName : ℕ → Lexeme
   LabelName : ℕ → Lexeme
@@ -19,26 +17,53 @@ pub data Lexeme : Type 0 where
   Number : ℤ → Lexeme
   -- a number below 10
   Digit : ℕ → Lexeme
-  Sign : ℕ → Kind → Lexeme
+  -- a sign of one byte
+  Sign : ℕ → Lexeme
   -- a space or a line end
   Blank : ℕ → Lexeme
 
 abbrev pub bytes : Lexeme → List ℕ
-bytes (Reserved u kind) = u
+bytes (Reserved u) = u
 bytes (TypeName n) = 84 ∷ decimal n
 bytes (LabelName n) = 76 ∷ decimal n
 bytes (DataName n) = 68 ∷ decimal n
 bytes (Register r) = 114 ∷ decimal r
 bytes (Number z) = number_text z
 bytes (Digit n) = (48 + n) ∷ []
-bytes (Sign b kind) = b ∷ []
+bytes (Sign b) = b ∷ []
 bytes (Blank b) = b ∷ []
 
 abbrev pub render : List Lexeme → List ℕ
 render [] = []
 render (l ∷ ls) = bytes l ++ render ls
 
--- the kind of the token that a number is
-abbrev pub number_kind : ℤ → Kind
-number_kind (pos n) = k.Plain (pos n)
-number_kind (negsuc n) = k.Negative (negsuc n)
+-- the signs
+abbrev pub comma : Lexeme
+comma = Sign 44
+
+abbrev pub dot : Lexeme
+dot = Sign 46
+
+abbrev pub colon : Lexeme
+colon = Sign 58
+
+abbrev pub left_angle : Lexeme
+left_angle = Sign 60
+
+abbrev pub right_angle : Lexeme
+right_angle = Sign 62
+
+abbrev pub left_bracket : Lexeme
+left_bracket = Sign 91
+
+abbrev pub right_bracket : Lexeme
+right_bracket = Sign 93
+
+abbrev pub caret : Lexeme
+caret = Sign 94
+
+abbrev pub left_brace : Lexeme
+left_brace = Sign 123
+
+abbrev pub right_brace : Lexeme
+right_brace = Sign 125

@@ -5,13 +5,11 @@ use Rattle.idx_core.specs.declared.arith.Op.{Op}
 use Rattle.idx_core.specs.declared.arith.Op.TheVariants.{Add, Sub, Mul}
 use Rattle.t_types.specs.Tree.{Ty, IntTy, VarTy, CodeTy, ExistsTy, TupleTy, TFile, NoRegs, MoreRegs, TFields, NoFields}
 use Rattle.t_types.specs.Tree.{MoreFields}
-use Rattle.t_text.specs.declared.token.Kind.TheVariants as k
 use Rattle.t_terms.specs.Tree.{TBase, Reg, Int, Label, Data, TValue, Plain, Pack, TInstr, Arith, Bnz, Ld, Malloc, Mov}
 use Rattle.t_terms.specs.Tree.{St, Unpack, TEnd, Jmp, Halt, TSeq, Then, Ends, TBlock, TDatum, TData, TProg, names_after}
-use Rattle.t_writer.specs.Lexeme.{Lexeme, Reserved, TypeName, LabelName, DataName, Register, Number, Digit, Sign, Blank}
-
-abbrev pub comma : Lexeme
-comma = Sign 44 k.Comma
+use Rattle.t_writer.specs.Lexeme.{Lexeme, Reserved, TypeName, LabelName, DataName, Register, Number, Digit, Blank}
+use Rattle.t_writer.specs.Lexeme.{caret, colon, comma, dot, left_angle, left_brace, left_bracket, right_angle}
+use Rattle.t_writer.specs.Lexeme.{right_brace, right_bracket}
 
 abbrev pub space : Lexeme
 space = Blank 32
@@ -31,7 +29,7 @@ names_written i d (suc count) = separator i ++ TypeName d ∷ names_written (suc
 
 -- [ names ]
 abbrev pub binds_written : ℕ → ℕ → List Lexeme
-binds_written d count = Sign 91 k.LeftBracket ∷ (names_written 0 d count ++ Sign 93 k.RightBracket ∷ [])
+binds_written d count = left_bracket ∷ (names_written 0 d count ++ right_bracket ∷ [])
 
 abbrev pub bit : Bool → ℕ
 bit true = 1
@@ -42,29 +40,29 @@ flag_written flag = Digit (bit flag)
 
 abbrev mutual
   pub type_written : ℕ → Ty → List Lexeme
-  type_written d IntTy = Reserved (codes "int") k.Int ∷ []
+  type_written d IntTy = Reserved (codes "int") ∷ []
   type_written d (VarTy i) = TypeName (d - 1 - i) ∷ []
   type_written d (CodeTy owes file) =
-      Reserved (codes "all") k.All ∷ (binds_written d owes ++ (Sign 123 k.LeftBrace ∷
-      (regs_written 0 (d + owes) file ++ Sign 125 k.RightBrace ∷ [])))
+      Reserved (codes "all") ∷ (binds_written d owes ++ (left_brace ∷
+      (regs_written 0 (d + owes) file ++ right_brace ∷ [])))
   type_written d (ExistsTy t) =
-      Reserved (codes "some") k.Some ∷ (space ∷ (TypeName d ∷ (Sign 46 k.Dot ∷ (space ∷ type_written (d + 1) t))))
-  type_written d (TupleTy fields) = Sign 60 k.LeftAngle ∷ (fields_written 0 d fields ++ Sign 62 k.RightAngle ∷ [])
+      Reserved (codes "some") ∷ (space ∷ (TypeName d ∷ (dot ∷ (space ∷ type_written (d + 1) t))))
+  type_written d (TupleTy fields) = left_angle ∷ (fields_written 0 d fields ++ right_angle ∷ [])
 
   -- registers with their types, with i before them
   pub regs_written : ℕ → ℕ → TFile → List Lexeme
   regs_written i d NoRegs = []
   regs_written i d (MoreRegs r t file) =
-      separator i ++ (Register r ∷ (Sign 58 k.Colon ∷ (type_written d t ++ regs_written (suc i) d file)))
+      separator i ++ (Register r ∷ (colon ∷ (type_written d t ++ regs_written (suc i) d file)))
 
   -- types with their flags, with i before them
   pub fields_written : ℕ → ℕ → TFields → List Lexeme
   fields_written i d NoFields = []
   fields_written i d (MoreFields t flag fields) =
-      separator i ++ (type_written d t ++ (Sign 94 k.Caret ∷ (flag_written flag ∷ fields_written (suc i) d fields)))
+      separator i ++ (type_written d t ++ (caret ∷ (flag_written flag ∷ fields_written (suc i) d fields)))
 
 abbrev pub file_written : ℕ → TFile → List Lexeme
-file_written d file = Sign 123 k.LeftBrace ∷ (regs_written 0 d file ++ Sign 125 k.RightBrace ∷ [])
+file_written d file = left_brace ∷ (regs_written 0 d file ++ right_brace ∷ [])
 
 -- types, with i before them
 abbrev pub types_written : ℕ → ℕ → List Ty → List Lexeme
@@ -73,7 +71,7 @@ types_written i d (t ∷ ts) = separator i ++ (type_written d t ++ types_written
 
 -- [ types ]
 abbrev pub list_written : ℕ → List Ty → List Lexeme
-list_written d ts = Sign 91 k.LeftBracket ∷ (types_written 0 d ts ++ Sign 93 k.RightBracket ∷ [])
+list_written d ts = left_bracket ∷ (types_written 0 d ts ++ right_bracket ∷ [])
 
 abbrev pub base_written : TBase → Lexeme
 base_written (Reg r) = Register r
@@ -88,44 +86,40 @@ args_written d (t ∷ ts) = list_written d (t ∷ ts)
 abbrev pub value_written : ℕ → TValue → List Lexeme
 value_written d (Plain b ts) = base_written b ∷ args_written d ts
 value_written d (Pack t v s) =
-    Reserved (codes "pack") k.Pack ∷ (Sign 91 k.LeftBracket ∷ (type_written d t ++ (comma ∷ (space ∷
-    (value_written d v ++ (Sign 93 k.RightBracket ∷
-    (space ∷ (Reserved (codes "as") k.As ∷ (space ∷ type_written d s)))))))))
+    Reserved (codes "pack") ∷ (left_bracket ∷ (type_written d t ++ (comma ∷ (space ∷
+    (value_written d v ++ (right_bracket ∷
+    (space ∷ (Reserved (codes "as") ∷ (space ∷ type_written d s)))))))))
 
 abbrev pub op_written : Op → Lexeme
-op_written Add = Reserved (codes "add") k.Add
-op_written Sub = Reserved (codes "sub") k.Sub
-op_written Mul = Reserved (codes "mul") k.Mul
+op_written Add = Reserved (codes "add")
+op_written Sub = Reserved (codes "sub")
+op_written Mul = Reserved (codes "mul")
 
 -- reg [ n ]
 abbrev pub place_written : ℕ → ℕ → List Lexeme
-place_written r i = Register r ∷ (Sign 91 k.LeftBracket ∷ (Number (pos i) ∷ (Sign 93 k.RightBracket ∷ [])))
+place_written r i = Register r ∷ (left_bracket ∷ (Number (pos i) ∷ (right_bracket ∷ [])))
 
 -- unpack [ name , reg ] and a comma
 abbrev pub unpacked_written : ℕ → ℕ → List Lexeme
 unpacked_written d rd =
-    Reserved (codes "unpack") k.Unpack ∷ (Sign 91 k.LeftBracket ∷ (TypeName d ∷ (comma ∷ (space ∷
-    (Register rd ∷ (Sign 93 k.RightBracket ∷ (comma ∷ (space ∷ []))))))))
+    Reserved (codes "unpack") ∷ (left_bracket ∷ (TypeName d ∷ (comma ∷ (space ∷ (Register rd ∷ (right_bracket ∷
+    (comma ∷ (space ∷ []))))))))
 
 abbrev pub instr_written : ℕ → TInstr → List Lexeme
 instr_written d (Arith op rd rs v) =
     op_written op ∷ (space ∷ (Register rd ∷ (comma ∷ (space ∷ (Register rs ∷ (comma ∷ (space ∷ value_written d v)))))))
-instr_written d (Bnz r v) =
-    Reserved (codes "bnz") k.Bnz ∷ (space ∷ (Register r ∷ (comma ∷ (space ∷ value_written d v))))
+instr_written d (Bnz r v) = Reserved (codes "bnz") ∷ (space ∷ (Register r ∷ (comma ∷ (space ∷ value_written d v))))
 instr_written d (Ld rd rs i) =
-    Reserved (codes "ld") k.Ld ∷ (space ∷ (Register rd ∷ (comma ∷ (space ∷ place_written rs i))))
-instr_written d (Malloc rd ts) = Reserved (codes "malloc") k.Malloc ∷ (space ∷ (Register rd ∷ list_written d ts))
-instr_written d (Mov rd v) =
-    Reserved (codes "mov") k.Mov ∷ (space ∷ (Register rd ∷ (comma ∷ (space ∷ value_written d v))))
+    Reserved (codes "ld") ∷ (space ∷ (Register rd ∷ (comma ∷ (space ∷ place_written rs i))))
+instr_written d (Malloc rd ts) = Reserved (codes "malloc") ∷ (space ∷ (Register rd ∷ list_written d ts))
+instr_written d (Mov rd v) = Reserved (codes "mov") ∷ (space ∷ (Register rd ∷ (comma ∷ (space ∷ value_written d v))))
 instr_written d (St rd i rs) =
-    Reserved (codes "st") k.St ∷ (space ∷ (place_written rd i ++ (comma ∷ (space ∷ (Register rs ∷ [])))))
+    Reserved (codes "st") ∷ (space ∷ (place_written rd i ++ (comma ∷ (space ∷ (Register rs ∷ [])))))
 instr_written d (Unpack rd v) = unpacked_written d rd ++ value_written d v
 
 abbrev pub end_written : ℕ → TEnd → List Lexeme
-end_written d (Jmp v) = Reserved (codes "jmp") k.Jmp ∷ (space ∷ value_written d v)
-end_written d Halt =
-    Reserved (codes "halt") k.Halt ∷ (Sign 91 k.LeftBracket ∷
-    (Reserved (codes "int") k.Int ∷ (Sign 93 k.RightBracket ∷ [])))
+end_written d (Jmp v) = Reserved (codes "jmp") ∷ (space ∷ value_written d v)
+end_written d Halt = Reserved (codes "halt") ∷ (left_bracket ∷ (Reserved (codes "int") ∷ (right_bracket ∷ [])))
 
 -- one line for each instruction, and for the end
 abbrev pub seq_written : ℕ → TSeq → List Lexeme
@@ -134,9 +128,9 @@ seq_written d (Ends e) = end_written d e ++ line_end ∷ []
 
 abbrev pub block_written : ℕ → TBlock → List Lexeme
 block_written l b =
-    LabelName l ∷ (Sign 58 k.Colon ∷ (space ∷ (Reserved (codes "code") k.Code ∷
+    LabelName l ∷ (colon ∷ (space ∷ (Reserved (codes "code") ∷
     (binds_written 0 b.owes ++ (file_written b.owes b.file ++
-    (Sign 46 k.Dot ∷ (line_end ∷ seq_written b.owes b.code)))))))
+    (dot ∷ (line_end ∷ seq_written b.owes b.code)))))))
 
 -- blocks, with l before them
 abbrev pub blocks_written : ℕ → List TBlock → List Lexeme
@@ -145,7 +139,7 @@ blocks_written l (b ∷ bs) = block_written l b ++ blocks_written (suc l) bs
 
 -- a value and the type that is written for it
 abbrev pub datum_written : TDatum → List Lexeme
-datum_written x = value_written 0 x.value ++ (space ∷ (Sign 58 k.Colon ∷ (space ∷ type_written 0 x.ty)))
+datum_written x = value_written 0 x.value ++ (space ∷ (colon ∷ (space ∷ type_written 0 x.ty)))
 
 -- the fields of a data tuple, with i before them
 abbrev pub data_fields_written : ℕ → TData → List Lexeme
@@ -155,8 +149,8 @@ data_fields_written i (x ∷ xs) = separator i ++ (datum_written x ++ data_field
 -- a line for a data tuple
 abbrev pub data_written : ℕ → TData → List Lexeme
 data_written d xs =
-    DataName d ∷ (Sign 58 k.Colon ∷ (space ∷ (Reserved (codes "data") k.Data ∷ (space ∷ (Sign 60 k.LeftAngle ∷
-    (data_fields_written 0 xs ++ (Sign 62 k.RightAngle ∷ (line_end ∷ []))))))))
+    DataName d ∷ (colon ∷ (space ∷ (Reserved (codes "data") ∷ (space ∷ (left_angle ∷
+    (data_fields_written 0 xs ++ (right_angle ∷ (line_end ∷ []))))))))
 
 -- data tuples, with d before them
 abbrev pub heap_written : ℕ → List TData → List Lexeme
@@ -165,7 +159,7 @@ heap_written d (x ∷ xs) = data_written d x ++ heap_written (suc d) xs
 
 -- a line with the version of the language, and the rest
 abbrev pub version_written : ℕ → List Lexeme → List Lexeme
-version_written n rest = Reserved (codes "tal") k.Tal ∷ (space ∷ (Digit n ∷ (line_end ∷ rest)))
+version_written n rest = Reserved (codes "tal") ∷ (space ∷ (Digit n ∷ (line_end ∷ rest)))
 
 -- a program without data, in the first version
 abbrev pub program_written : List TBlock → List Lexeme

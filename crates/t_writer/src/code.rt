@@ -4,7 +4,8 @@ ghost use Rattle.t_terms.specs.Read.{instr as instr_of, end_of};
 ghost use Rattle.t_terms.specs.Whole.{WellFormedInstr, WellFormedEnd, WellFormedValue};
 ghost use Rattle.t_terms.specs.Read.{value as value_of};
 ghost use Rattle.t_writer.specs.Lexeme.{Register, bytes, render};
-ghost use Rattle.t_writer.specs.Written.{comma, space, op_written, place_written, unpacked_written, value_written};
+ghost use Rattle.t_writer.specs.Lexeme.{comma};
+ghost use Rattle.t_writer.specs.Written.{space, op_written, place_written, unpacked_written, value_written};
 ghost use Rattle.t_writer.specs.Written.{instr_written, end_written};
 
 use crate::names::write_name;

@@ -4,7 +4,7 @@ use Rattle.a_terms.specs.Typing.{aset}
 use Rattle.a_pass.specs.Scope.{all_of, scope}
 use Rattle.a_pass.specs.Emits.{inits}
 use Rattle.a_pass.proofs.Emitting.{emits_same, emits_then}
-use Rattle.a_pass.proofs.TypeLists.{full_set, kinds_types, tuple_kind}
+use Rattle.a_pass.proofs.TypeLists.{kinds_types, tuple_kind}
 use Rattle.a_pass.proofs.parts.made_tuple.Goals as goal
 
 pub returns-clause-emits : goal.returns-clause-emits
@@ -25,5 +25,5 @@ returns-clause-value c = c.plain-value.ensures.value
 pub returns-clause-ty : goal.returns-clause-ty
 returns-clause-ty c = λ g.
     let kinds = c.in_ok-kinds.kinds in
-    tuple_kind g kinds ∙ ap a.ATuple (full_set g kinds.items ∙ ap aset (kinds_types g kinds.items c.args.seen.items
-    (c.in_ok-kinds.ensures g)))
+    tuple_kind g kinds
+    ∙ ap (λ ts. a.ATuple (aset ts)) (kinds_types g kinds.items c.args.seen.items (c.in_ok-kinds.ensures g))

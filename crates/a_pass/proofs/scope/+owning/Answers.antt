@@ -2,8 +2,9 @@ use Rattle.std.proofs.Common.{ap, ◌∙◌, sym}
 use Rattle.std.proofs.lemmas.List.{take_all}
 use Rattle.a_terms.specs.Tree as a
 use Rattle.a_terms.specs.Read.{afields}
+use Rattle.a_terms.specs.Typing.{aset}
 use Rattle.a_terms.specs.ReadLaws.{a_tuple}
-use Rattle.a_pass.specs.Scope.{full_of, scope}
+use Rattle.a_pass.specs.Scope.{all_of, scope}
 use Rattle.a_pass.proofs.TypeLists.{full_push, is_kinds}
 use Rattle.a_pass.proofs.scope.+owning.Goals as goal
 
@@ -23,5 +24,5 @@ own_fields-loop-kind-preserved m c =
 
 pub own_fields-returns : goal.own_fields-returns
 own_fields-returns t c =
-    c.loop-kind.invariant ∙ ap (full_of (scope c.args.binders c.args.names.now)) (take_all c.loop-kind.kind-index
-    c.args.kinds.now c.loop-kind-test.false)
+    c.loop-kind.invariant ∙ ap (λ ks. aset (all_of (scope c.args.binders c.args.names.now) ks))
+    (take_all c.loop-kind.kind-index c.args.kinds.now c.loop-kind-test.false)

@@ -8,7 +8,8 @@ use Rattle.a_terms.specs.Tree as a
 use Rattle.a_terms.specs.Tree.{AVar, over, over_types, over_fields}
 use Rattle.a_terms.specs.Read.{atree, afields}
 use Rattle.a_terms.specs.ReadLaws.{a_tuple, a_code, at_types, at_type}
-use Rattle.a_laws.specs.Allocate.{atype, atypes, afull}
+use Rattle.a_terms.specs.Typing.{aset}
+use Rattle.a_laws.specs.Allocate.{atype, atypes}
 use Rattle.calc_core.proofs.Trees.{tree_is_tuple, tree_is_code}
 use Rattle.a_pass.proofs.CTrees.{atrees_push, afields_push}
 use Rattle.a_pass.proofs.types.+allocating.Goals as goal
@@ -62,5 +63,5 @@ a_fields-loop-t-preserved m c =
 
 pub a_fields-returns : goal.a_fields-returns
 a_fields-returns t c =
-    c.loop-t.invariant ∙ ap (λ xs. over_fields (shifted AVar c.args.by) c.args.d (afull (ctys xs)))
+    c.loop-t.invariant ∙ ap (λ xs. over_fields (shifted AVar c.args.by) c.args.d (aset (atypes (ctys xs))))
     (take_all c.loop-t.t-index c.args.ts.now c.loop-t-test.false)

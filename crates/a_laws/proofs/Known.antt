@@ -9,7 +9,7 @@ use Rattle.a_laws.specs.Allocate.{datum_of, is_const, is_label, is_pack, is_some
 use Rattle.a_laws.specs.Allocate.{n_v, n_vs, named, one_more, or_zero, packs, plain, v_next}
 use Rattle.a_laws.specs.Constants.{Constants, constant, constant_at, constants, is_package, named_by, of_args, one_if}
 use Rattle.a_laws.specs.Constants.{packed, tuples_all, tuples_d, tuples_t, tuples_v, tuples_vs, two}
-use Rattle.a_laws.specs.Stands.{Shows, Shows_fields, Shows_v}
+use Rattle.a_laws.specs.Stands.{Carries, Carries_fields, Carries_v}
 use Rattle.a_terms.specs.Meaning.{pick}
 use Rattle.a_terms.specs.Tree.{AConsts, ATy, AVal}
 use Rattle.a_terms.specs.Typing.{types_of}
@@ -23,7 +23,7 @@ module _ (ds : List HVal) where
   Same None None = Unit {0}
   Same None (Some w) = ⊥
   Same (Some c) None = ⊥
-  Same (Some c) (Some w) = Shows_v ds c w × (is_pack c ≡ is_package w)
+  Same (Some c) (Some w) = Carries_v ds c w × (is_pack c ≡ is_package w)
 
   abbrev pub AgreeK : List Known → Constants → Type 0
   AgreeK [] [] = Unit {0}
@@ -44,10 +44,10 @@ module _ (ds : List HVal) where
   same_var (l ∷ ls) (o ∷ os) zero a = a.0
   same_var (l ∷ ls) (o ∷ os) (suc i) a = same_var ls os i a.1
 
-  shows_both : (xs ys : List AConsts) (us ws : List HVal) → Shows ds xs us → Shows ds ys ws →
-      Shows ds (xs ++ ys) (us ++ ws)
-  shows_both [] ys us ws a b = subst (λ u. Shows ds ys (u ++ ws)) (sym a) b
-  shows_both (x ∷ xs) ys us ws a b = (a.0, a.1 ++ ws, ap (λ u. u ++ ws) a.2, a.3, shows_both xs ys a.1 ws a.4 b)
+  carries_both : (xs ys : List AConsts) (us ws : List HVal) → Carries ds xs us → Carries ds ys ws →
+      Carries ds (xs ++ ys) (us ++ ws)
+  carries_both [] ys us ws a b = subst (λ u. Carries ds ys (u ++ ws)) (sym a) b
+  carries_both (x ∷ xs) ys us ws a b = (a.0, a.1 ++ ws, ap (λ u. u ++ ws) a.2, a.3, carries_both xs ys a.1 ws a.4 b)
 
   module _ (ks : HBlks) (g : List ATy) (ls : List Known) (os : Constants) (known : AgreeK ls os) where
     -- a constant on both sides
@@ -55,7 +55,7 @@ module _ (ds : List HVal) where
       pub yes : is_const ls v ≡ true
       pub value : HVal
       pub is : constant os v ≡ Some value
-      pub shows : Shows_v ds (const_of ls b v) value
+      pub carries : Carries_v ds (const_of ls b v) value
       pub packing : packs ls v ≡ is_package value
       pub pack : is_pack (const_of ls b v) ≡ is_package value
 
@@ -64,21 +64,21 @@ module _ (ds : List HVal) where
 
     pub record Fact (b : ℕ) (v : HVal) : Type 0 where
       pub long : n_v ls b v ≡ b + length (tuples_v os v)
-      pub shows : Shows ds (data_v ks g ls b v) (tuples_v os v)
+      pub carries : Carries ds (data_v ks g ls b v) (tuples_v os v)
       pub told : Told b v
 
     pub record Cons (b : ℕ) (vs : HVals) : Type 0 where
       pub yes : are_const ls vs ≡ true
       pub values : HVals
       pub is : constants os vs ≡ Some values
-      pub fields : Shows_fields ds (datum_of ks g ls b vs) values
+      pub fields : Carries_fields ds (datum_of ks g ls b vs) values
 
     abbrev pub AllTold : ℕ → HVals → Type 0
     AllTold b vs = Cons b vs ⊎ ((are_const ls vs ≡ false) × (constants os vs ≡ None))
 
     pub record Facts (b : ℕ) (vs : HVals) : Type 0 where
       pub long : n_vs ls b vs ≡ b + length (tuples_vs os vs)
-      pub shows : Shows ds (data_vs ks g ls b vs) (tuples_vs os vs)
+      pub carries : Carries ds (data_vs ks g ls b vs) (tuples_vs os vs)
       pub told : AllTold b vs
 
     var_told : (i b : ℕ) → (o : Option AVal) (p : Option HVal) → named (slice_get ls i) ≡ o → constant_at os i ≡ p →
@@ -90,19 +90,19 @@ module _ (ds : List HVal) where
       yes = ap is_some e;
       value = w;
       is = f;
-      shows = subst (λ o. Shows_v ds (or_zero o) w) (sym e) s.0;
+      carries = subst (λ o. Carries_v ds (or_zero o) w) (sym e) s.0;
       packing = ap (λ o. is_pack (or_zero o)) e ∙ s.1;
       pack = ap (λ o. is_pack (or_zero o)) e ∙ s.1;
     })
 
-    label_shows : (v : HVal) (b : ℕ) → is_label v ≡ true → Shows_v ds (const_of ls b v) v
+    label_carries : (v : HVal) (b : ℕ) → is_label v ≡ true → Carries_v ds (const_of ls b v) v
         × (is_pack (const_of ls b v) ≡ false)
-    label_shows (HVar i) b e = cc
-    label_shows (HInt n) b e = cc
-    label_shows (HLabel l) b e = (refl, refl)
-    label_shows (HTuple vs) b e = cc
-    label_shows (HApply v ts) b e = cc
-    label_shows (HPack h v s) b e = cc
+    label_carries (HVar i) b e = cc
+    label_carries (HInt n) b e = cc
+    label_carries (HLabel l) b e = (refl, refl)
+    label_carries (HTuple vs) b e = cc
+    label_carries (HApply v ts) b e = cc
+    label_carries (HPack h v s) b e = cc
 
     first_true : (a b : Bool) → a && b ≡ true → a ≡ true
     first_true true b e = refl
@@ -111,12 +111,12 @@ module _ (ds : List HVal) where
     apply_told : (v : HVal) (ts : CTys) (b : ℕ) (q : Bool) → is_label v && all_closed 0 (atypes ts) ≡ q →
         Told b (HApply v ts)
     apply_told v ts b true e =
-        let l = label_shows v b (first_true (is_label v) (all_closed 0 (atypes ts)) e) in
+        let l = label_carries v b (first_true (is_label v) (all_closed 0 (atypes ts)) e) in
         inl (record {
           yes = e;
           value = HApply v ts;
           is = ap (λ q. pick q (Some (HApply v ts)) None) e;
-          shows = (v, ts, refl, refl, l.0);
+          carries = (v, ts, refl, refl, l.0);
           packing = refl;
           pack = l.1;
         })
@@ -140,7 +140,7 @@ module _ (ds : List HVal) where
           yes = tests ∙ e;
           value = HPack h c.value s;
           is = ap (packed h s) c.is ∙ ap (λ q. pick q (Some (HPack h c.value s)) None) e;
-          shows = (h, c.value, s, refl, refl, refl, c.shows);
+          carries = (h, c.value, s, refl, refl, refl, c.carries);
           packing = refl;
           pack = refl;
         })
@@ -162,15 +162,15 @@ module _ (ds : List HVal) where
               let e2 = ap (λ o. length (us ++ one_if o)) is in
               let e3 = length-append us (w ∷ []) in
               omega (arith, e1, e2, e3, f.long));
-          shows = shows_both (data_vs ks g ls b vs) (pick (are_const ls vs) (x ∷ []) []) us
-              (one_if (constant os (HTuple vs))) f.shows
-              (subst (λ q. Shows ds (pick q (x ∷ []) []) (one_if (constant os (HTuple vs)))) (sym c.yes)
-              (subst (λ o. Shows ds (x ∷ []) (one_if o)) (sym is) (c.values, [], refl, c.fields, refl)));
+          carries = carries_both (data_vs ks g ls b vs) (pick (are_const ls vs) (x ∷ []) []) us
+              (one_if (constant os (HTuple vs))) f.carries
+              (subst (λ q. Carries ds (pick q (x ∷ []) []) (one_if (constant os (HTuple vs)))) (sym c.yes)
+              (subst (λ o. Carries ds (x ∷ []) (one_if o)) (sym is) (c.values, [], refl, c.fields, refl)));
           told = inl (record {
             yes = c.yes;
             value = w;
             is = is;
-            shows = ap (slice_get ds) (sym z) ∙ there;
+            carries = ap (slice_get ds) (sym z) ∙ there;
             packing = refl;
             pack = refl;
           });
@@ -184,10 +184,10 @@ module _ (ds : List HVal) where
               let e2 = ap (λ o. length (us ++ one_if o)) is in
               let e3 = length-append us [] in
               omega (arith, e1, e2, e3, f.long));
-          shows = shows_both (data_vs ks g ls b vs) (pick (are_const ls vs) (x ∷ []) []) us
-              (one_if (constant os (HTuple vs))) f.shows
-              (subst (λ q. Shows ds (pick q (x ∷ []) []) (one_if (constant os (HTuple vs)))) (sym n.0)
-              (subst (λ o. Shows ds [] (one_if o)) (sym is) refl));
+          carries = carries_both (data_vs ks g ls b vs) (pick (are_const ls vs) (x ∷ []) []) us
+              (one_if (constant os (HTuple vs))) f.carries
+              (subst (λ q. Carries ds (pick q (x ∷ []) []) (one_if (constant os (HTuple vs)))) (sym n.0)
+              (subst (λ o. Carries ds [] (one_if o)) (sym is) refl));
           told = inr (n.0, is);
         }
 
@@ -196,7 +196,7 @@ module _ (ds : List HVal) where
       yes = ap (λ x. x && are_const ls vs) c.yes ∙ cs.yes;
       values = MoreHVals c.value cs.values;
       is = ap (λ o. two o (constants os vs)) c.is ∙ ap (two (Some c.value)) cs.is;
-      fields = (c.value, cs.values, refl, c.shows, cs.fields);
+      fields = (c.value, cs.values, refl, c.carries, cs.fields);
     })
     all_told v vs b (inl c) (inr n) =
         inr (
@@ -211,20 +211,21 @@ module _ (ds : List HVal) where
       fact (HVar i) b wi =
           record {
             long = omega arith;
-            shows = refl;
+            carries = refl;
             told = var_told i b (named (slice_get ls i)) (constant_at os i) refl refl (same_var ls os i known);
           }
       fact (HInt n) b wi =
           record {
             long = omega arith;
-            shows = refl;
-            told = inl (record { yes = refl; value = HInt n; is = refl; shows = refl; packing = refl; pack = refl });
+            carries = refl;
+            told = inl (record { yes = refl; value = HInt n; is = refl; carries = refl; packing = refl; pack = refl });
           }
       fact (HLabel l) b wi =
           record {
             long = omega arith;
-            shows = refl;
-            told = inl (record { yes = refl; value = HLabel l; is = refl; shows = refl; packing = refl; pack = refl });
+            carries = refl;
+            told =
+                inl (record { yes = refl; value = HLabel l; is = refl; carries = refl; packing = refl; pack = refl });
           }
       fact (HTuple vs) b wi =
           let f = facts vs b (front ds b (tuples_vs os vs) (one_if (constant os (HTuple vs))) wi) in
@@ -233,17 +234,17 @@ module _ (ds : List HVal) where
           let f = fact v b wi in
           record {
             long = f.long;
-            shows = f.shows;
+            carries = f.carries;
             told = apply_told v ts b (is_label v && all_closed 0 (atypes ts)) refl;
           }
       fact (HPack h v s) b wi =
-          let f = fact v b wi in record { long = f.long; shows = f.shows; told = pack_told h v s b f.told }
+          let f = fact v b wi in record { long = f.long; carries = f.carries; told = pack_told h v s b f.told }
 
       pub facts : (vs : HVals) (b : ℕ) → Within ds b (tuples_vs os vs) → Facts b vs
       facts NoHVals b wi =
           record {
             long = omega arith;
-            shows = refl;
+            carries = refl;
             told = inl (record { yes = refl; values = NoHVals; is = refl; fields = refl });
           }
       facts (MoreHVals v vs) b wi =
@@ -254,26 +255,26 @@ module _ (ds : List HVal) where
           let h = facts vs b1 (back ds b b1 us ws f.long wi) in
           record {
             long = more_len b b1 us ws f.long (n_vs ls b1 vs) h.long;
-            shows = shows_both (data_v ks g ls b v) (data_vs ks g ls b1 vs) us ws f.shows h.shows;
+            carries = carries_both (data_v ks g ls b v) (data_vs ks g ls b1 vs) us ws f.carries h.carries;
             told = all_told v vs b f.told h.told;
           }
 
     same_of : (v : HVal) (b : ℕ) → Told b v → Same (pick (is_const ls v) (Some (const_of ls b v)) None) (constant os v)
     same_of v b (inl c) =
         subst (λ q. Same (pick q (Some (const_of ls b v)) None) (constant os v)) (sym c.yes)
-        (subst (λ o. Same (Some (const_of ls b v)) o) (sym c.is) (c.shows, c.pack))
+        (subst (λ o. Same (Some (const_of ls b v)) o) (sym c.is) (c.carries, c.pack))
     same_of v b (inr n) =
         subst (λ q. Same (pick q (Some (const_of ls b v)) None) (constant os v)) (sym n.0)
         (subst (λ o. Same None o) (sym n.1) tt)
 
     pub record FactD (b : ℕ) (e : HDecl) : Type 0 where
       pub long : n_d ls b e ≡ b + length (tuples_d os e)
-      pub shows : Shows ds (data_d ks g ls b e) (tuples_d os e)
+      pub carries : Carries ds (data_d ks g ls b e) (tuples_d os e)
       pub same : Same (d_const ls b e) (named_by os e)
 
     two_long : (v w : HVal) (b : ℕ) → Within ds b (tuples_v os v ++ tuples_v os w) →
         (n_v ls (n_v ls b v) w ≡ b + length (tuples_v os v ++ tuples_v os w))
-        × Shows ds (data_v ks g ls b v ++ data_v ks g ls (n_v ls b v) w) (tuples_v os v ++ tuples_v os w)
+        × Carries ds (data_v ks g ls b v ++ data_v ks g ls (n_v ls b v) w) (tuples_v os v ++ tuples_v os w)
     two_long v w b wi =
         let b1 = n_v ls b v in
         let us = tuples_v os v in
@@ -281,21 +282,22 @@ module _ (ds : List HVal) where
         let f = fact v b (front ds b us ws wi) in
         let h = fact w b1 (back ds b b1 us ws f.long wi) in (
           more_len b b1 us ws f.long (n_v ls b1 w) h.long,
-          shows_both (data_v ks g ls b v) (data_v ks g ls b1 w) us ws f.shows h.shows,
+          carries_both (data_v ks g ls b v) (data_v ks g ls b1 w) us ws f.carries h.carries,
         )
 
     pub fact_d : (e : HDecl) (b : ℕ) → Within ds b (tuples_d os e) → FactD b e
-    fact_d (HName v) b wi = let f = fact v b wi in record { long = f.long; shows = f.shows; same = same_of v b f.told }
-    fact_d (HProj i v) b wi = let f = fact v b wi in record { long = f.long; shows = f.shows; same = tt }
-    fact_d (HArith op v w) b wi = let f = two_long v w b wi in record { long = f.0; shows = f.1; same = tt }
-    fact_d (HUnpack v) b wi = let f = fact v b wi in record { long = f.long; shows = f.shows; same = tt }
-    fact_d (HCell v) b wi = let f = fact v b wi in record { long = f.long; shows = f.shows; same = tt }
-    fact_d (HGet v) b wi = let f = fact v b wi in record { long = f.long; shows = f.shows; same = tt }
-    fact_d (HSet v w) b wi = let f = two_long v w b wi in record { long = f.0; shows = f.1; same = tt }
+    fact_d (HName v) b wi =
+        let f = fact v b wi in record { long = f.long; carries = f.carries; same = same_of v b f.told }
+    fact_d (HProj i v) b wi = let f = fact v b wi in record { long = f.long; carries = f.carries; same = tt }
+    fact_d (HArith op v w) b wi = let f = two_long v w b wi in record { long = f.0; carries = f.1; same = tt }
+    fact_d (HUnpack v) b wi = let f = fact v b wi in record { long = f.long; carries = f.carries; same = tt }
+    fact_d (HCell v) b wi = let f = fact v b wi in record { long = f.long; carries = f.carries; same = tt }
+    fact_d (HGet v) b wi = let f = fact v b wi in record { long = f.long; carries = f.carries; same = tt }
+    fact_d (HSet v w) b wi = let f = two_long v w b wi in record { long = f.0; carries = f.1; same = tt }
 
   pub fact_t : (ks : HBlks) (t : HTm) (g : List ATy) (ls : List Known) (os : Constants) (b d : ℕ) → AgreeK ls os →
       Within ds b (tuples_t os t) →
-      (n_t ls b d t ≡ b + length (tuples_t os t)) × Shows ds (data_t ks g ls b d t) (tuples_t os t)
+      (n_t ls b d t ≡ b + length (tuples_t os t)) × Carries ds (data_t ks g ls b d t) (tuples_t os t)
   fact_t ks (HLet e t) g ls os b d a wi =
       let b1 = n_d ls b e in
       let us = tuples_d os e in
@@ -304,8 +306,8 @@ module _ (ds : List HVal) where
       let h = fact_t ks t (d_types ks g e) (known_of ls b d e ∷ ls) (named_by os e ∷ os) b1 (suc (d_next ls d e))
       (f.same, a) (back ds b b1 us ws f.long wi) in (
         more_len b b1 us ws f.long _ h.0,
-        shows_both (data_d ks g ls b e)
-            (data_t ks (d_types ks g e) (known_of ls b d e ∷ ls) b1 (suc (d_next ls d e)) t) us ws f.shows h.1,
+        carries_both (data_d ks g ls b e)
+            (data_t ks (d_types ks g e) (known_of ls b d e ∷ ls) b1 (suc (d_next ls d e)) t) us ws f.carries h.1,
       )
   fact_t ks (HCall f ts vs) g ls os b d a wi =
       let b1 = n_v ls b f in
@@ -314,7 +316,7 @@ module _ (ds : List HVal) where
       let x = fact ks g ls os a f b (front ds b us ws wi) in
       let y = facts ks g ls os a vs b1 (back ds b b1 us ws x.long wi) in (
         more_len b b1 us ws x.long (n_vs ls b1 vs) y.long,
-        shows_both (data_v ks g ls b f) (data_vs ks g ls b1 vs) us ws x.shows y.shows,
+        carries_both (data_v ks g ls b f) (data_vs ks g ls b1 vs) us ws x.carries y.carries,
       )
   fact_t ks (HIf v t u) g ls os b d a wi =
       let b1 = n_v ls b v in
@@ -328,20 +330,20 @@ module _ (ds : List HVal) where
       let y = fact_t ks t g ls os b1 d1 a (front ds b1 ws zs w2) in
       let z = fact_t ks u g ls os b2 d1 a (back ds b1 b2 ws zs y.0 w2) in (
         more_len b b1 us (ws ++ zs) x.long (n_t ls b2 d1 u) (more_len b1 b2 ws zs y.0 (n_t ls b2 d1 u) z.0),
-        shows_both (data_v ks g ls b v) (data_t ks g ls b1 d1 t ++ data_t ks g ls b2 d1 u) us (ws ++ zs) x.shows
-            (shows_both (data_t ks g ls b1 d1 t) (data_t ks g ls b2 d1 u) ws zs y.1 z.1),
+        carries_both (data_v ks g ls b v) (data_t ks g ls b1 d1 t ++ data_t ks g ls b2 d1 u) us (ws ++ zs) x.carries
+            (carries_both (data_t ks g ls b1 d1 t) (data_t ks g ls b2 d1 u) ws zs y.1 z.1),
       )
-  fact_t ks (HHalt v) g ls os b d a wi = let x = fact ks g ls os a v b wi in (x.long, x.shows)
+  fact_t ks (HHalt v) g ls os b d a wi = let x = fact ks g ls os a v b wi in (x.long, x.carries)
 
   pub fact_block : (ks : HBlks) (x : HBlk) (b : ℕ) → Within ds b (tuples_t (of_args x.args []) x.body) →
       (n_block b x ≡ b + length (tuples_t (of_args x.args []) x.body))
-      × Shows ds (data_block ks b x) (tuples_t (of_args x.args []) x.body)
+      × Carries ds (data_block ks b x) (tuples_t (of_args x.args []) x.body)
   fact_block ks x b wi =
       fact_t ks x.body (types_of (atypes x.args) []) (arg_levels 0 [] x.args) (of_args x.args []) b
       (arg_depth 0 x.args) (agree_args x.args 0 [] [] tt) wi
 
   pub fact_all : (ks xs : HBlks) (b : ℕ) → Within ds b (tuples_all xs) → (n_all b xs ≡ b + length (tuples_all xs))
-      × Shows ds (data_all ks b xs) (tuples_all xs)
+      × Carries ds (data_all ks b xs) (tuples_all xs)
   fact_all ks [] b wi = (omega arith, refl)
   fact_all ks (x ∷ xs) b wi =
       let b1 = n_block b x in
@@ -349,8 +351,8 @@ module _ (ds : List HVal) where
       let ws = tuples_all xs in
       let f = fact_block ks x b (front ds b us ws wi) in
       let h = fact_all ks xs b1 (back ds b b1 us ws f.0 wi) in
-      (more_len b b1 us ws f.0 (n_all b1 xs) h.0, shows_both (data_block ks b x) (data_all ks b1 xs) us ws f.1 h.1)
+      (more_len b b1 us ws f.0 (n_all b1 xs) h.0, carries_both (data_block ks b x) (data_all ks b1 xs) us ws f.1 h.1)
 
-  pub all_shows : (xs ys : List AConsts) (us ws : List HVal) → Shows ds xs us → Shows ds ys ws →
-      Shows ds (xs ++ ys) (us ++ ws)
-  all_shows = shows_both
+  pub all_carry : (xs ys : List AConsts) (us ws : List HVal) → Carries ds xs us → Carries ds ys ws →
+      Carries ds (xs ++ ys) (us ++ ws)
+  all_carry = carries_both

@@ -19,8 +19,8 @@ use Rattle.a_terms.specs.Tree.{ATys, NoATys, MoreATys, AVal, Var, ADecl, Value, 
 use Rattle.a_terms.specs.Tree.{Let, Call, If0, Halt, ABlk, AConsts, arity}
 use Rattle.a_laws.specs.Allocate.{alloc_main, alloc_prog, atypes}
 use Rattle.a_laws.specs.Constants.{Constants, constant, constant_at, of_args, tuples_in}
-use Rattle.a_laws.specs.Stands.{scope, AllocStands, Thing, Is, Gone, listed, made_at, takes, Stands_v, Stands_vs, Shows}
-use Rattle.a_laws.specs.Stands.{Any}
+use Rattle.a_laws.specs.Stands.{scope, AllocStands, Thing, Is, Gone, listed, made_at, takes, Stands_v, Stands_vs}
+use Rattle.a_laws.specs.Stands.{Carries, Any}
 use Rattle.a_laws.specs.Stands.{Filling}
 use Rattle.a_laws.specs.Stands.{Content}
 use Rattle.a_laws.specs.Stands.{Unit_named, Stands_t, Stands_all, arg_things}
@@ -146,7 +146,7 @@ record At (D : List AConsts) (m : List ℕ) (h : A.AHeap) (st : HWords) (os : Co
   agree : Agree m h k ys env vars
   known : Known os ys
 
-module _ (D : List AConsts) (ds : List HVal) (shown : Shows ds D ds) (ks : HBlks) where
+module _ (D : List AConsts) (ds : List HVal) (carried : Carries ds D ds) (ks : HBlks) where
   -- one more variable on both sides
   next_at : (m : List ℕ) (h : A.AHeap) (st : HWords) (os : Constants) (env : List Thing) (k : ℕ) (ys : HWords)
       (vars : List A.AWord) → At D m h st os env k ys vars → (o : Option HVal) (y : HWord) (w : A.AWord) →
@@ -174,14 +174,14 @@ module _ (D : List AConsts) (ds : List HVal) (shown : Shows ds D ds) (ks : HBlks
       (vars : List A.AWord) → At D m h st os env k ys vars → (v : AVal) (w : HVal) → Stands_v (scope ds os env k) v w →
       Reads m h vars v (hv_value w ys)
   read_v m h st os env k ys vars a v w s =
-      value_reads m h D ds shown a.stores.kept os k ys a.known env vars a.agree v w s
+      value_reads m h D ds carried a.stores.kept os k ys a.known env vars a.agree v w s
 
   read_vs : (m : List ℕ) (h : A.AHeap) (st : HWords) (os : Constants) (env : List Thing) (k : ℕ) (ys : HWords)
       (vars : List A.AWord) → At D m h st os env k ys vars → (vs : List AVal) (ws : HVals) →
       Stands_vs (scope ds os env k) vs ws → (xs : List A.AWord) × (A.values vars vs ≡ Some xs) × Rels m h
       (hvs_value ws ys) xs
   read_vs m h st os env k ys vars a vs ws s =
-      values_read m h D ds shown a.stores.kept os k ys a.known env vars a.agree vs ws s
+      values_read m h D ds carried a.stores.kept os k ys a.known env vars a.agree vs ws s
 
   none_is : (y : HWord) (c : HVal) → None ≡ Some c → y ≡ hv_value c NoWords
   none_is y c e = absurd (clash e)

@@ -10,8 +10,8 @@ use Rattle.a_laws.specs.Back.{drop_fields, drops, held_by, shown_at}
 use Rattle.a_laws.specs.Constants.{Constants, constant, constant_at, constants, is_package, of_args, one_if, or_else}
 use Rattle.a_laws.specs.Constants.{packed, settle_all, settle_t, settle_v, settle_vs, tuples_all, tuples_in, tuples_t}
 use Rattle.a_laws.specs.Constants.{tuples_v, tuples_vs, two}
-use Rattle.a_laws.specs.Stands.{scope, Any, Content, Filling, Gone, Is, Made, Means, Shown, Shows, Shows_fields}
-use Rattle.a_laws.specs.Stands.{Shows_v}
+use Rattle.a_laws.specs.Stands.{scope, Any, Content, Filling, Gone, Is, Made, Means, Shown, Carries, Carries_fields}
+use Rattle.a_laws.specs.Stands.{Carries_v}
 use Rattle.a_laws.specs.Stands.{Stands_all, Stands_t, Stands_v, Stands_vs, Thing, arg_things, listed, made_at, named}
 use Rattle.a_laws.specs.Stands.{takes, thing_at}
 use Rattle.a_terms.specs.Meaning.{pick}
@@ -158,7 +158,7 @@ module _ (ds : List HVal) where
   held_is (x ∷ ws) (suc n) w e = held_is ws n w e
 
   -- data
-  shown_back : (v : AVal) (w : HVal) → Shows_v ds v w → NoCell_v w → back_v ds [] 0 v ≡ w
+  shown_back : (v : AVal) (w : HVal) → Carries_v ds v w → NoCell_v w → back_v ds [] 0 v ≡ w
   shown_back (Var i) w s c = absurd s
   shown_back (Num n) w s c = sym s
   shown_back (Lab l) w s c = sym s
@@ -171,13 +171,13 @@ module _ (ds : List HVal) where
       ap (λ x. HPack x (back_v ds [] 0 v) (drop u)) (ap drop (sym s.4) ∙ drop_is s.0 n.0)
       ∙ ap₂ (HPack s.0) (shown_back v s.1 s.6 n.1) (ap drop (sym s.5) ∙ drop_is s.2 n.2) ∙ sym s.3
 
-  fields_back : (cs : AConsts) (vs : HVals) → Shows_fields ds cs vs → NoCell_vs vs → back_fields ds cs ≡ vs
+  fields_back : (cs : AConsts) (vs : HVals) → Carries_fields ds cs vs → NoCell_vs vs → back_fields ds cs ≡ vs
   fields_back [] vs s c = sym s
   fields_back (x ∷ cs) vs s c =
       let n = subst NoCell_vs s.2 c in
       ap₂ MoreHVals (shown_back x.value s.0 s.3 n.0) (fields_back cs s.1 s.4 n.1) ∙ sym s.2
 
-  data_back : (xs : List AConsts) (us : List HVal) → Shows ds xs us → AllNo us → back_data ds xs ≡ us
+  data_back : (xs : List AConsts) (us : List HVal) → Carries ds xs us → AllNo us → back_data ds xs ≡ us
   data_back [] us s c = sym s
   data_back (x ∷ xs) us s c =
       let n = subst AllNo s.2 c in

@@ -11,8 +11,8 @@ use Rattle.a_terms.specs.Meaning.{with_more}
 use Rattle.a_terms.specs.Tree.{AConsts, AVal, Var, Num, Lab, Data, Apply, Pack}
 use Rattle.a_laws.specs.Allocate.{all_closed, atype, atypes, closed, is_label}
 use Rattle.a_laws.specs.Constants.{Constants, constant, constant_at, constants, is_package, packed, two}
-use Rattle.a_laws.specs.Stands.{scope, Thing, Is, Made, Gone, thing_at, Means, Stands_v, Stands_vs, Shows, Shows_fields}
-use Rattle.a_laws.specs.Stands.{Shows_v, listed}
+use Rattle.a_laws.specs.Stands.{scope, Thing, Is, Made, Gone, thing_at, Means, Stands_v, Stands_vs, Carries}
+use Rattle.a_laws.specs.Stands.{Carries_fields, Carries_v, listed}
 use Rattle.a_laws.proofs.OneValue.{form}
 use Rattle.a_laws.proofs.Rel.{Holds, Moves, Rel, Rels, rel_moves}
 use Rattle.a_laws.proofs.Inside.{inside, applied, content, first_value, more_values, no_values}
@@ -25,14 +25,14 @@ pub other : (v w : HVal) → v ≡ w → (form v ≡ form w → ⊥) → ⊥
 other v w e f = f (ap form e)
 
 -- the data tuple of a constant
-pub shows_at : (ds : List HVal) (xs : List AConsts) (us : List HVal) (n : ℕ) (c : HVal) → Shows ds xs us →
+pub carries_at : (ds : List HVal) (xs : List AConsts) (us : List HVal) (n : ℕ) (c : HVal) → Carries ds xs us →
     slice_get us n ≡ Some c →
-    (x : AConsts) × (vs : HVals) × (slice_get xs n ≡ Some x) × (c ≡ HTuple vs) × Shows_fields ds x vs
-shows_at ds [] us n c s e = absurd (none_some c (sym (ap (λ z. slice_get z n) s) ∙ e))
-shows_at ds (x ∷ xs) us zero c s e =
+    (x : AConsts) × (vs : HVals) × (slice_get xs n ≡ Some x) × (c ≡ HTuple vs) × Carries_fields ds x vs
+carries_at ds [] us n c s e = absurd (none_some c (sym (ap (λ z. slice_get z n) s) ∙ e))
+carries_at ds (x ∷ xs) us zero c s e =
     let q = ap (λ z. slice_get z 0) s.2 in
     (x, s.0, refl, same_Some _ _ (sym e ∙ q), s.3)
-shows_at ds (x ∷ xs) us (suc n) c s e = shows_at ds xs s.1 n c s.4 (sym (ap (λ z. slice_get z (suc n)) s.2) ∙ e)
+carries_at ds (x ∷ xs) us (suc n) c s e = carries_at ds xs s.1 n c s.4 (sym (ap (λ z. slice_get z (suc n)) s.2) ∙ e)
 
 -- the constants that variables name are their values
 abbrev pub Known : Constants → HWords → Type 0
@@ -161,48 +161,48 @@ module _ (m : List ℕ) (h : AHeap) where
   abbrev pub Reads : List AWord → AVal → HWord → Type 0
   Reads vars v y = (w : AWord) × (value vars v ≡ Some w) × Rel m h y w
 
-  module _ (D : List AConsts) (ds : List HVal) (shown : Shows ds D ds) (holds : Holds D m h) where
+  module _ (D : List AConsts) (ds : List HVal) (carried : Carries ds D ds) (holds : Holds D m h) where
     mutual
-      show_v : (w : HVal) (v : AVal) → Shows_v ds v w → Reads [] v (hv_value w NoWords)
+      show_v : (w : HVal) (v : AVal) → Carries_v ds v w → Reads [] v (hv_value w NoWords)
       show_v w (Var i) s = absurd s
       show_v w (Num n) s = (ZInt n, refl, subst (λ z. Rel m h (hv_value z NoWords) (ZInt n)) (sym s) refl)
       show_v w (Lab l) s = (ZLabel l, refl, subst (λ z. Rel m h (hv_value z NoWords) (ZLabel l)) (sym s) refl)
       show_v (HTuple vs) (Data n) s =
-          let x = shows_at ds D ds n (HTuple vs) shown s in
+          let x = carries_at ds D ds n (HTuple vs) carried s in
           let there = holds n x.0 x.2 in
-          let ws = show_vs vs x.0 (subst (Shows_fields ds x.0) (sym (inside x.3)) x.4) in
+          let ws = show_vs vs x.0 (subst (Carries_fields ds x.0) (sym (inside x.3)) x.4) in
           (ZTuple n, refl, (n, ws.0, refl, there.0 ∙ ap Some ws.1, there.1, ws.2))
       show_v (HVar i) (Data n) s =
-          absurd (let x = shows_at ds D ds n (HVar i) shown s in other _ _ x.3 (λ e. omega (arith, e)))
+          absurd (let x = carries_at ds D ds n (HVar i) carried s in other _ _ x.3 (λ e. omega (arith, e)))
       show_v (HInt i) (Data n) s =
-          absurd (let x = shows_at ds D ds n (HInt i) shown s in other _ _ x.3 (λ e. omega (arith, e)))
+          absurd (let x = carries_at ds D ds n (HInt i) carried s in other _ _ x.3 (λ e. omega (arith, e)))
       show_v (HLabel i) (Data n) s =
-          absurd (let x = shows_at ds D ds n (HLabel i) shown s in other _ _ x.3 (λ e. omega (arith, e)))
+          absurd (let x = carries_at ds D ds n (HLabel i) carried s in other _ _ x.3 (λ e. omega (arith, e)))
       show_v (HApply u ts) (Data n) s =
-          absurd (let x = shows_at ds D ds n (HApply u ts) shown s in other _ _ x.3 (λ e. omega (arith, e)))
+          absurd (let x = carries_at ds D ds n (HApply u ts) carried s in other _ _ x.3 (λ e. omega (arith, e)))
       show_v (HPack a u b) (Data n) s =
-          absurd (let x = shows_at ds D ds n (HPack a u b) shown s in other _ _ x.3 (λ e. omega (arith, e)))
-      show_v (HApply u ts) (Apply v us) s = show_v u v (subst (Shows_v ds v) (sym (applied s.2)) s.4)
+          absurd (let x = carries_at ds D ds n (HPack a u b) carried s in other _ _ x.3 (λ e. omega (arith, e)))
+      show_v (HApply u ts) (Apply v us) s = show_v u v (subst (Carries_v ds v) (sym (applied s.2)) s.4)
       show_v (HVar i) (Apply v us) s = absurd (other _ _ s.2 (λ e. omega (arith, e)))
       show_v (HInt i) (Apply v us) s = absurd (other _ _ s.2 (λ e. omega (arith, e)))
       show_v (HLabel i) (Apply v us) s = absurd (other _ _ s.2 (λ e. omega (arith, e)))
       show_v (HTuple vs) (Apply v us) s = absurd (other _ _ s.2 (λ e. omega (arith, e)))
       show_v (HPack a u b) (Apply v us) s = absurd (other _ _ s.2 (λ e. omega (arith, e)))
-      show_v (HPack a u b) (Pack c v d) s = show_v u v (subst (Shows_v ds v) (sym (content s.3)) s.6)
+      show_v (HPack a u b) (Pack c v d) s = show_v u v (subst (Carries_v ds v) (sym (content s.3)) s.6)
       show_v (HVar i) (Pack c v d) s = absurd (other _ _ s.3 (λ e. omega (arith, e)))
       show_v (HInt i) (Pack c v d) s = absurd (other _ _ s.3 (λ e. omega (arith, e)))
       show_v (HLabel i) (Pack c v d) s = absurd (other _ _ s.3 (λ e. omega (arith, e)))
       show_v (HTuple vs) (Pack c v d) s = absurd (other _ _ s.3 (λ e. omega (arith, e)))
       show_v (HApply u ts) (Pack c v d) s = absurd (other _ _ s.3 (λ e. omega (arith, e)))
 
-      show_vs : (vs : HVals) (cs : AConsts) → Shows_fields ds cs vs →
+      show_vs : (vs : HVals) (cs : AConsts) → Carries_fields ds cs vs →
           (ws : List AWord) × (datum cs ≡ map Some ws) × Rels m h (hvs_value vs NoWords) ws
       show_vs NoHVals [] s = ([], refl, refl)
       show_vs NoHVals (c ∷ cs) s = absurd (no_values s.2)
       show_vs (MoreHVals v vs) [] s = absurd (no_values (sym s))
       show_vs (MoreHVals v vs) (c ∷ cs) s =
-          let a = show_v v c.value (subst (Shows_v ds c.value) (sym (first_value s.2)) s.3) in
-          let b = show_vs vs cs (subst (Shows_fields ds cs) (sym (more_values s.2)) s.4) in
+          let a = show_v v c.value (subst (Carries_v ds c.value) (sym (first_value s.2)) s.3) in
+          let b = show_vs vs cs (subst (Carries_fields ds cs) (sym (more_values s.2)) s.4) in
           (a.0 ∷ b.0, ap₂ (λ o q. o ∷ q) a.1 b.1, (a.0, b.0, refl, a.2, b.2))
 
     module _ (os : Constants) (k : ℕ) (ys : HWords) (known : Known os ys) where

@@ -4,7 +4,7 @@ use Rattle.std.proofs.Common.{refl, sym, ap, ◌∙◌, subst, arith, slice_get,
 use Rattle.std.proofs.Common.{ap₂, true≢false}
 use Rattle.std.specs.Prelude.{Bool}
 use Rattle.a_laws.proofs.Consts.{Within, back, front, whole}
-use Rattle.a_laws.proofs.Known.{AgreeK, Told, all_shows, agree_args, fact, fact_all, fact_block, fact_d, fact_t}
+use Rattle.a_laws.proofs.Known.{AgreeK, Told, all_carry, agree_args, fact, fact_all, fact_block, fact_d, fact_t}
 use Rattle.a_laws.proofs.Rel.{At, Later, at_more, at_new}
 use Rattle.a_laws.proofs.Scopes.{InT, InV, InVs, args_length, in_t}
 use Rattle.a_laws.specs.Allocate.{Known, alloc_all, alloc_data, alloc_prog, alloc_t, are_const, arg_depth, arg_levels}
@@ -221,7 +221,7 @@ module _ (ds : List HVal) where
       taken = [];
       shows = λ made next e rest h x. as_is made next e env rest h x;
       later = λ p x q. q;
-      good = λ d3 env3 q. ((vs, c.value, refl, c.is, c.shows), refl);
+      good = λ d3 env3 q. ((vs, c.value, refl, c.is, c.carries), refl);
     })
     tuple_comes NoHVals b d env f (inr n) = absurd (true≢false n.0)
     tuple_comes (MoreHVals v us) b d env f (inr n) =
@@ -616,7 +616,7 @@ alloc_stands typed ks t h =
     let f = fact_all ds ks ks 0 w0 in
     let w1 = back ds 0 b us ws f.0 (whole ds) in
     let m = fact_t ds ks t [] [] [] b 0 tt w1 in (
-      all_shows ds (data_all ks 0 ks) (data_t ks [] [] b 0 t) us ws f.1 m.1,
+      all_carry ds (data_all ks 0 ks) (data_t ks [] [] b 0 t) us ws f.1 m.1,
       all_have_kinds (alloc_prog ks t) (alloc_data ks t) (typed ks t h).tuples,
       all_stand ds ks ks 0 w0 h.0,
       stands_is ds ks t [] [] [] 0 b 0 [] w1 tt (in_t ks 0 [] 0 refl t h.1) tt,

@@ -103,25 +103,25 @@ Stands_vs s (v ∷ vs) ws =
     (x : HVal) × (xs : HVals) × (ws ≡ MoreHVals x xs) × Stands_v s v x × Stands_vs s vs xs
 
 -- the value of a data field, in which no variable stands, is w
-abbrev pub Shows_v : List HVal → AVal → HVal → Type 0
-Shows_v ds (Var i) w = ⊥
-Shows_v ds (Num n) w = w ≡ HInt n
-Shows_v ds (Lab l) w = w ≡ HLabel l
-Shows_v ds (Data n) w = slice_get ds n ≡ Some w
-Shows_v ds (Apply v ts) w = (x : HVal) × (us : CTys) × (w ≡ HApply x us) × (atypes us ≡ ts) × Shows_v ds v x
-Shows_v ds (Pack h v s) w =
-    (a : CTy) × (x : HVal) × (b : CTy) × (w ≡ HPack a x b) × (atype a ≡ h) × (atype b ≡ s) × Shows_v ds v x
+abbrev pub Carries_v : List HVal → AVal → HVal → Type 0
+Carries_v ds (Var i) w = ⊥
+Carries_v ds (Num n) w = w ≡ HInt n
+Carries_v ds (Lab l) w = w ≡ HLabel l
+Carries_v ds (Data n) w = slice_get ds n ≡ Some w
+Carries_v ds (Apply v ts) w = (x : HVal) × (us : CTys) × (w ≡ HApply x us) × (atypes us ≡ ts) × Carries_v ds v x
+Carries_v ds (Pack h v s) w =
+    (a : CTy) × (x : HVal) × (b : CTy) × (w ≡ HPack a x b) × (atype a ≡ h) × (atype b ≡ s) × Carries_v ds v x
 
-abbrev pub Shows_fields : List HVal → AConsts → HVals → Type 0
-Shows_fields ds [] ws = ws ≡ NoHVals
-Shows_fields ds (c ∷ cs) ws =
-    (x : HVal) × (xs : HVals) × (ws ≡ MoreHVals x xs) × Shows_v ds c.value x × Shows_fields ds cs xs
+abbrev pub Carries_fields : List HVal → AConsts → HVals → Type 0
+Carries_fields ds [] ws = ws ≡ NoHVals
+Carries_fields ds (c ∷ cs) ws =
+    (x : HVal) × (xs : HVals) × (ws ≡ MoreHVals x xs) × Carries_v ds c.value x × Carries_fields ds cs xs
 
 -- data tuples, one after the other, are these values
-abbrev pub Shows : List HVal → List AConsts → List HVal → Type 0
-Shows ds [] ws = ws ≡ []
-Shows ds (x ∷ xs) ws =
-    (vs : HVals) × (us : List HVal) × (ws ≡ HTuple vs ∷ us) × Shows_fields ds x vs × Shows ds xs us
+abbrev pub Carries : List HVal → List AConsts → List HVal → Type 0
+Carries ds [] ws = ws ≡ []
+Carries ds (x ∷ xs) ws =
+    (vs : HVals) × (us : List HVal) × (ws ≡ HTuple vs ∷ us) × Carries_fields ds x vs × Carries ds xs us
 
 -- the type that is written at each field of data is that of its value, in which no variable stands: so each flag in it
 -- is set
@@ -206,7 +206,7 @@ Stands_all ds (b ∷ bs) (x ∷ xs) =
 -- constants of that, and have their types
 abbrev pub Stands : AProg → ATm → HBlks → HTm → Type 0
 Stands p main ks t =
-    Shows (tuples_in ks t) p.tuples (tuples_in ks t) × AllHaveKinds p p.tuples
+    Carries (tuples_in ks t) p.tuples (tuples_in ks t) × AllHaveKinds p p.tuples
     × Stands_all (tuples_in ks t) p.blocks ks × Stands_t (scope (tuples_in ks t) [] [] 0) [] main Any t
 
 -- the allocation of a typed program stands for it

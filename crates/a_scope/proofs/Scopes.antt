@@ -17,8 +17,8 @@ use Rattle.a_terms.specs.declared.nodes.AWrap.TheVariants.{Apply, Pack}
 use Rattle.a_terms.specs.declared.nodes.ABlock.{ABlock}
 use Rattle.a_terms.specs.TypeLaws.{field_shift}
 use Rattle.a_scope.proofs.Filling.{filled_shift, field_filled_to}
-use Rattle.a_scope.specs.Scope.{filled_to, noted, noted_type, shown, scope, homes, Under, Stands, Held, bare, wrap_type}
-use Rattle.a_scope.specs.Scope.{decl_ty}
+use Rattle.a_scope.specs.Scope.{filled_to, noted, noted_type, shown, scope, homes, Under, EntryOf, Held, bare}
+use Rattle.a_scope.specs.Scope.{wrap_type, decl_ty}
 use Rattle.a_scope.specs.declared.scope.Entry.{Entry}
 use Rattle.std.proofs.lemmas.Option.{slice_get_past as get_out, none-some, same_Some}
 use Rattle.a_terms.proofs.Lists.{length_data, wrapped_snoc}
@@ -169,13 +169,13 @@ same_names : (k : ℕ) (e f : Entry) (t : a.ATy) → noted f ≡ t → f.names �
 same_names k e f t is n = ap₂ (λ m u. ashift (k - m) 0 u) n is
 
 pub same_stands : (p : a.AProg) (k : ℕ) (es : List Entry) (v : a.AVal) (e f : Entry) → Held p k es v e →
-    Under k es → noted f ≡ noted e → f.names ≡ e.names → Stands k (or_int (type_of p (scope k es) v)) f
+    Under k es → noted f ≡ noted e → f.names ≡ e.names → EntryOf k (or_int (type_of p (scope k es) v)) f
 same_stands p k es v e f h u t n =
     (same_names k e f (noted e) t n ∙ ap or_int h.0, subst (λ m. m ≤ k) (sym n) (h.1 u))
 
 pub filled_stands : (p : a.AProg) (k : ℕ) (es : List Entry) (v : a.AVal) (e f : Entry) (i m : ℕ) →
     Held p k es v e → Under k es → ((t : a.ATy) → filled_to m t ≡ filled_of i (Some (filled_to e.filled t))) →
-    noted f ≡ filled_to m (noted_type e.ty) → f.names ≡ e.names → Stands k (filled_of i (type_of p (scope k es) v)) f
+    noted f ≡ filled_to m (noted_type e.ty) → f.names ≡ e.names → EntryOf k (filled_of i (type_of p (scope k es) v)) f
 filled_stands p k es v e f i m h u step t n = (
   same_names k e f (filled_to m (noted_type e.ty)) t n ∙ ap (ashift (k - e.names) 0) (step (noted_type e.ty))
       ∙ sym (filled_shift (k - e.names) i (noted e)) ∙ ap (filled_of i) h.0,
@@ -190,14 +190,14 @@ entry_field k i e = ap (ashift (k - e.names) 0) (sym (field_filled_to i e.filled
 
 -- variables for the parts of a variable's type: those of a type that is lent, and those that are made
 pub field_stands : (k i : ℕ) (e f : Entry) → noted f ≡ field_of i (Some (noted_type e.ty)) → f.names ≡ e.names →
-    e.names ≤ k → Stands k (field_of i (Some (shown k e))) f
+    e.names ≤ k → EntryOf k (field_of i (Some (shown k e))) f
 field_stands k i e f t n le = (
   same_names k e f (field_of i (Some (noted_type e.ty))) t n ∙ entry_field k i e,
   subst (λ m. m ≤ k) (sym n) le,
 )
 
 pub field_made : (k i b : ℕ) (e f : Entry) (t : a.ATy) → b ≡ k - e.names → t ≡ noted_type e.ty →
-    Stands k (ashift b 0 (field_of i (Some t))) f → Stands k (field_of i (Some (shown k e))) f
+    EntryOf k (ashift b 0 (field_of i (Some t))) f → EntryOf k (field_of i (Some (shown k e))) f
 field_made k i b e f t is same h =
     (h.0 ∙ ap₂ (λ n u. ashift n 0 (field_of i (Some u))) is same ∙ entry_field k i e, h.1)
 
@@ -205,7 +205,7 @@ pub body_none : (b : ℕ) (t : a.ATy) → b ≡ 0 → body_of (Some t) ≡ ashif
 body_none b t none = sym (ap (λ n. ashift n 1 (body_of (Some t))) none ∙ shift_zero_law a_over 1 (body_of (Some t)))
 
 -- a variable whose type was noted where as many names are in scope
-pub own_stands : (k : ℕ) (e : Entry) (t : a.ATy) → noted e ≡ t → e.names ≡ k → Stands k t e
+pub own_stands : (k : ℕ) (e : Entry) (t : a.ATy) → noted e ≡ t → e.names ≡ k → EntryOf k t e
 own_stands k e t is n = (shown_own k e n ∙ is, omega (arith, n))
 
 -- a package, from the last that is put round it

@@ -54,13 +54,13 @@ Under k [] = Unit {0}
 Under k (e ∷ es) = (e.names ≤ k) × Under k es
 
 -- a variable of this type, which was noted where no more than k names were in scope
-abbrev pub Stands : ℕ → a.ATy → Entry → Type 0
-Stands k t e = (shown k e ≡ t) × (e.names ≤ k)
+abbrev pub EntryOf : ℕ → a.ATy → Entry → Type 0
+EntryOf k t e = (shown k e ≡ t) × (e.names ≤ k)
 
 -- the same, if there is a variable
-abbrev pub MayStand : ℕ → a.ATy → Option Entry → Type 0
-MayStand k t None = Unit {0}
-MayStand k t (Some e) = Stands k t e
+abbrev pub MaybeEntryOf : ℕ → a.ATy → Option Entry → Type 0
+MaybeEntryOf k t None = Unit {0}
+MaybeEntryOf k t (Some e) = EntryOf k t e
 
 -- the number of a value that is a variable, with nothing around it
 abbrev pub bare : a.AVal → Option ℕ

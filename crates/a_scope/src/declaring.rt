@@ -5,7 +5,7 @@ ghost use Rattle.a_terms.specs.Typing.{type_of, or_int, filled_of as the_filled_
 ghost use Rattle.a_terms.specs.NodeTrees.{a_value, a_values, is_decl, a_decl};
 ghost use Rattle.a_terms.specs.Arity.{AArity};
 ghost use Rattle.a_terms.specs.Program.{program_in};
-ghost use Rattle.a_scope.specs.Scope.{scope, Under, Stands, MayStand, decl_tree, decl_ty, type_here};
+ghost use Rattle.a_scope.specs.Scope.{scope, Under, EntryOf, MaybeEntryOf, decl_tree, decl_ty, type_here};
 ghost use Rattle.a_scope.specs.declared.scope.Entry.{Entry as TheEntry};
 
 use crate::field::{body_entry, field_entry};
@@ -20,7 +20,7 @@ use std::alloc::Global;
 
 // A variable for a value that is none: the shape of a package is lent.
 fn other_entry<'a>(around: &Around, v: &'a AValue) -> Result<Entry<'a>, OutOfMemory>
-    ensures { IfOk result (Stands around.now.names (or_int (type_here around.now (a_value v.now)))) }
+    ensures { IfOk result (EntryOf around.now.names (or_int (type_here around.now (a_value v.now)))) }
 {
     match packed(v) {
         Some(shape) => Ok(noted_lent(shape, around.names)),
@@ -35,7 +35,7 @@ fn other_entry<'a>(around: &Around, v: &'a AValue) -> Result<Entry<'a>, OutOfMem
 // A variable for a value.
 fn value_entry<'a>(around: &Around<'_, 'a>, v: &'a AValue) -> Result<Entry<'a>, OutOfMemory>
     requires { Under around.now.names around.now.vars.now }
-    ensures { IfOk result (Stands around.now.names (or_int (type_here around.now (a_value v.now)))) }
+    ensures { IfOk result (EntryOf around.now.names (or_int (type_here around.now (a_value v.now)))) }
 {
     match entry_of(around.vars, v) {
         Some(entry) => {
@@ -51,7 +51,7 @@ fn value_entry<'a>(around: &Around<'_, 'a>, v: &'a AValue) -> Result<Entry<'a>, 
 
 // A variable for a tuple whose field i is initialised. Its type is made.
 fn filled_made<'a>(around: &Around, v: &AValue, i: u64) -> Result<Entry<'a>, OutOfMemory>
-    ensures { IfOk result (Stands around.now.names (the_filled_of i (type_here around.now (a_value v.now)))) }
+    ensures { IfOk result (EntryOf around.now.names (the_filled_of i (type_here around.now (a_value v.now)))) }
 {
     let ty = type_of_value(around.alloc, around.program, around.vars, around.names, v)?;
     let made = noted_now(around.alloc, filled_of(ty, i), around.names)?;
@@ -67,7 +67,7 @@ fn shared_filled<'a>(
 ) -> Result<Option<Entry<'a>>, OutOfMemory>
     requires { Under names vars.now }
     ensures { IfOk result (λ o. (p : AProg)
-        → MayStand names (the_filled_of i (type_of p (scope names vars.now) (a_value v.now))) o) }
+        → MaybeEntryOf names (the_filled_of i (type_of p (scope names vars.now) (a_value v.now))) o) }
 {
     match entry_of(vars, v) {
         Some(entry) => {
@@ -86,7 +86,7 @@ fn shared_filled<'a>(
 // A variable for a tuple whose field i is initialised, which shares the type of the tuple where that is a variable.
 fn filled_entry<'a>(around: &Around<'_, 'a>, v: &AValue, i: u64) -> Result<Entry<'a>, OutOfMemory>
     requires { Under around.now.names around.now.vars.now }
-    ensures { IfOk result (Stands around.now.names (the_filled_of i (type_here around.now (a_value v.now)))) }
+    ensures { IfOk result (EntryOf around.now.names (the_filled_of i (type_here around.now (a_value v.now)))) }
 {
     match shared_filled(around.vars, around.names, v, i)? {
         Some(entry) => Ok(entry),
@@ -119,7 +119,7 @@ fn declared_entry<'a>(
     requires form { is_decl form.now ≡ true }
     requires arity { AArity form.now (a_values values.now) }
     requires under { Under around.now.names around.now.vars.now }
-    ensures { IfOk result (Stands (more_vars (a_decl form.now (a_values values.now)) around.now.names)
+    ensures { IfOk result (EntryOf (more_vars (a_decl form.now (a_values values.now)) around.now.names)
         (decl_ty (program_in around.now.program.now) (scope around.now.names around.now.vars.now)
         (a_decl form.now (a_values values.now)))) }
 {

@@ -5,7 +5,7 @@ ghost use Rattle.a_terms.specs.Tree.{ashift};
 ghost use Rattle.a_terms.specs.Typing.{field_of as the_field_of, body_of as the_body_of};
 ghost use Rattle.a_terms.specs.Read.{atree, maybe};
 ghost use Rattle.a_terms.specs.NodeTrees.{a_value};
-ghost use Rattle.a_scope.specs.Scope.{shown, Stands, Under, type_here};
+ghost use Rattle.a_scope.specs.Scope.{shown, EntryOf, Under, type_here};
 
 use crate::noted::{Noted, lent_body, lent_field, room_field};
 use crate::scope::{Around, Entry, noted_as, noted_now};
@@ -24,7 +24,7 @@ fn made_field<'a>(
     by: u64,
     names: u64,
 ) -> Result<Entry<'a>, OutOfMemory>
-    ensures { IfOk result (Stands names (ashift by 0 (the_field_of i (Some (atree t.now))))) }
+    ensures { IfOk result (EntryOf names (ashift by 0 (the_field_of i (Some (atree t.now))))) }
 {
     let made = field_of(alloc, t, i, by)?;
     let noted = noted_now(alloc, made, names)?;
@@ -39,7 +39,7 @@ fn field_of_entry<'a>(
     i: u64,
 ) -> Result<Entry<'a>, OutOfMemory>
     requires { entry.now.names ≤ names }
-    ensures { IfOk result (Stands names (the_field_of i (Some (shown names entry.now)))) }
+    ensures { IfOk result (EntryOf names (the_field_of i (Some (shown names entry.now)))) }
 {
     match &entry.ty {
         Noted::Int => Ok(noted_as(Noted::Int, names)),
@@ -74,7 +74,7 @@ fn field_of_known(alloc: Global, ty: Option<AType>, i: u64) -> Result<AType, Out
 
 // A variable for field i of a value that is none.
 fn field_of_other<'a>(around: &Around, v: &AValue, i: u64) -> Result<Entry<'a>, OutOfMemory>
-    ensures { IfOk result (Stands around.now.names (the_field_of i (type_here around.now (a_value v.now)))) }
+    ensures { IfOk result (EntryOf around.now.names (the_field_of i (type_here around.now (a_value v.now)))) }
 {
     let ty = type_of_value(around.alloc, around.program, around.vars, around.names, v)?;
     let made = field_of_known(around.alloc, ty, i)?;
@@ -89,7 +89,7 @@ pub(crate) fn field_entry<'a>(
     i: u64,
 ) -> Result<Entry<'a>, OutOfMemory>
     requires { Under around.now.names around.now.vars.now }
-    ensures { IfOk result (Stands around.now.names (the_field_of i (type_here around.now (a_value v.now)))) }
+    ensures { IfOk result (EntryOf around.now.names (the_field_of i (type_here around.now (a_value v.now)))) }
 {
     match entry_of(around.vars, v) {
         Some(entry) => {
@@ -105,7 +105,7 @@ pub(crate) fn field_entry<'a>(
 
 // A variable for what a package of this type hides, under `by` more names around it, of which there are `after` then.
 fn made_body<'a>(alloc: Global, t: &AType, by: u64, after: u64) -> Result<Entry<'a>, OutOfMemory>
-    ensures { IfOk result (Stands after (ashift by 1 (the_body_of (Some (atree t.now))))) }
+    ensures { IfOk result (EntryOf after (ashift by 1 (the_body_of (Some (atree t.now))))) }
 {
     let made = body_of(alloc, t, by)?;
     let noted = noted_now(alloc, made, after)?;
@@ -119,7 +119,7 @@ fn lent_or_made<'a>(
     by: u64,
     after: u64,
 ) -> Result<Entry<'a>, OutOfMemory>
-    ensures { IfOk result (Stands after (ashift by 1 (the_body_of (Some (atree t.now))))) }
+    ensures { IfOk result (EntryOf after (ashift by 1 (the_body_of (Some (atree t.now))))) }
 {
     if by == 0 {
         return Ok(noted_as(lent_body(t), after));
@@ -135,7 +135,7 @@ fn body_of_entry<'a>(
     names: u64,
     after: u64,
 ) -> Result<Entry<'a>, OutOfMemory>
-    ensures { IfOk result (Stands after (the_body_of (Some (shown names entry.now)))) }
+    ensures { IfOk result (EntryOf after (the_body_of (Some (shown names entry.now)))) }
 {
     if entry.filled > 0 {
         return Ok(noted_as(Noted::Int, after));
@@ -175,7 +175,7 @@ fn body_of_known(ty: Option<AType>) -> AType
 
 // A variable for what a value that is none hides.
 fn body_of_other<'a>(around: &Around, v: &AValue, after: u64) -> Result<Entry<'a>, OutOfMemory>
-    ensures { IfOk result (Stands after (the_body_of (type_here around.now (a_value v.now)))) }
+    ensures { IfOk result (EntryOf after (the_body_of (type_here around.now (a_value v.now)))) }
 {
     let ty = type_of_value(around.alloc, around.program, around.vars, around.names, v)?;
     let made = noted_now(around.alloc, body_of_known(ty), after)?;
@@ -184,7 +184,7 @@ fn body_of_other<'a>(around: &Around, v: &AValue, after: u64) -> Result<Entry<'a
 
 // A variable for what a package hides, where one type name more is in scope.
 pub(crate) fn body_entry<'a>(around: &Around<'_, 'a>, v: &AValue) -> Result<Entry<'a>, OutOfMemory>
-    ensures { IfOk result (Stands (suc around.now.names) (the_body_of (type_here around.now (a_value v.now)))) }
+    ensures { IfOk result (EntryOf (suc around.now.names) (the_body_of (type_here around.now (a_value v.now)))) }
 {
     let after = sum(around.names, 1)?;
     match entry_of(around.vars, v) {

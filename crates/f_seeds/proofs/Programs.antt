@@ -35,7 +35,7 @@ use Rattle.f_seeds.specs.Source.{kind_of, number_of, item, item_at, items_to, so
 use Rattle.f_seeds.specs.Laws.{SourcesArePrograms}
 use Rattle.f_seeds.proofs.Meaning.{item_term, turns, Given, item_given}
 use Rattle.f_seeds.proofs.Running.{at, run}
-use Rattle.f_seeds.proofs.Texts.{few, Stands, stands}
+use Rattle.f_seeds.proofs.Texts.{few, Denotes, denotes}
 
 low_number : (n j : ℕ) → number_of n j < 20
 low_number n j = omega arith
@@ -124,7 +124,7 @@ pub record Sums (text bytes : List ℕ) (e : Term) : Type 0 where
   pub bound : TermOf text [] [] shape.tree term
   pub is : plain term ≡ e
 
-alone : (text bytes : List ℕ) (e : Term) → Stands text 0 bytes e → Sums text bytes e
+alone : (text bytes : List ℕ) (e : Term) → Denotes text 0 bytes e → Sums text bytes e
 alone text bytes e s = record {
   tokens_of = s.tokens_of;
   shape = s.shape;
@@ -139,7 +139,7 @@ alone text bytes e s = record {
 join : (a b c t : List ℕ) → (a ++ b ++ c) ++ t ≡ a ++ (b ++ (c ++ t))
 join a b c t = simp append_assoc
 
-more : (text bytes next : List ℕ) (e f : Term) → Sums text bytes e → Stands text (length bytes + 3) next f →
+more : (text bytes next : List ℕ) (e f : Term) → Sums text bytes e → Denotes text (length bytes + 3) next f →
     Sums text (bytes ++ codes " + " ++ next) (MArith Add e f)
 more text bytes next e f s t =
     let plus = tok k.Plus (at (length bytes) 1 2) in
@@ -167,7 +167,7 @@ more text bytes next e f s t =
 
 texts : (n j : ℕ) (text rest : List ℕ) → text ≡ items_to n j ++ rest → Sums text (items_to n j) (sum_term n j)
 unfolding items_to sum_term
-texts n zero text rest e = alone text _ _ (stands (kind_of n 0) text 0 (number_of n 0) rest (low_number n 0) e)
+texts n zero text rest e = alone text _ _ (denotes (kind_of n 0) text 0 (number_of n 0) rest (low_number n 0) e)
 texts n (suc j) text rest e =
     let next = item_at n (suc j) in
     let first : text ≡ items_to n j ++ (codes " + " ++ (next ++ rest)) =
@@ -178,7 +178,7 @@ texts n (suc j) text rest e =
     let here : drop (length (items_to n j) + 3) text ≡ next ++ rest =
     sym (drop-drop 3 (length (items_to n j)) text) ∙ ap (λ (s : List ℕ). drop 3 s) after in
     more text _ _ _ _ (texts n j text (codes " + " ++ (next ++ rest)) first)
-    (stands (kind_of n (suc j)) text (length (items_to n j) + 3) (number_of n (suc j)) rest
+    (denotes (kind_of n (suc j)) text (length (items_to n j) + 3) (number_of n (suc j)) rest
     (low_number n (suc j)) here)
 
 -- within the limits

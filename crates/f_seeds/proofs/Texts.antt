@@ -27,7 +27,7 @@ abbrev pub few : ℕ → Bool
 few n = nat_le n 200
 
 -- the bytes, which stand at the place i of the text, are a product of the grammar, and stand for the term e
-pub record Stands (text : List ℕ) (i : ℕ) (bytes : List ℕ) (e : Term) : Type 0 where
+pub record Denotes (text : List ℕ) (i : ℕ) (bytes : List ℕ) (e : Term) : Type 0 where
   pub tokens_of : List Token
   pub shape : Piece
   pub product : M tokens_of shape
@@ -89,7 +89,7 @@ place_four i n m l a d b e f h j k =
 
 -- C
 number : (text : List ℕ) (i c d : ℕ) (ds : List ℕ) → c < 20 → Spelled c d ds →
-    Stands text i (d ∷ ds) (item_term Number c)
+    Denotes text i (d ∷ ds) (item_term Number c)
 number text i c d ds low h = record {
   tokens_of = number_at c i (length (d ∷ ds)) ∷ [];
   shape = _;
@@ -104,7 +104,7 @@ number text i c d ds low h = record {
 -- (fix f(n:int):int. if0(n, 1, n * f(n - 1))) C
 factorial : (text : List ℕ) (i c d : ℕ) (ds rest : List ℕ) → c < 20 → Spelled c d ds →
     drop i text ≡ (codes "(fix f(n:int):int. if0(n, 1, n * f(n - 1))) " ++ (d ∷ ds)) ++ rest →
-    Stands text i (codes "(fix f(n:int):int. if0(n, 1, n * f(n - 1))) " ++ (d ∷ ds)) (item_term Factorial c)
+    Denotes text i (codes "(fix f(n:int):int. if0(n, 1, n * f(n - 1))) " ++ (d ∷ ds)) (item_term Factorial c)
 factorial text i c d ds rest low h here =
     let bytes = codes "(fix f(n:int):int. if0(n, 1, n * f(n - 1))) " in
     let number = number_at c (i + 44) (length (d ∷ ds)) in
@@ -151,7 +151,7 @@ factorial text i c d ds rest low h here =
 -- (gen a. fix i(x:a):a. x)[int] C
 identity : (text : List ℕ) (i c d : ℕ) (ds rest : List ℕ) → c < 20 → Spelled c d ds →
     drop i text ≡ (codes "(gen a. fix i(x:a):a. x)[int] " ++ (d ∷ ds)) ++ rest →
-    Stands text i (codes "(gen a. fix i(x:a):a. x)[int] " ++ (d ∷ ds)) (item_term Identity c)
+    Denotes text i (codes "(gen a. fix i(x:a):a. x)[int] " ++ (d ∷ ds)) (item_term Identity c)
 identity text i c d ds rest low h here =
     let bytes = codes "(gen a. fix i(x:a):a. x)[int] " in
     let number = number_at c (i + 30) (length (d ∷ ds)) in
@@ -186,7 +186,7 @@ identity text i c d ds rest low h here =
 
 -- if0(C, 1, 2)
 branch : (text : List ℕ) (i c d : ℕ) (ds : List ℕ) → c < 20 → Spelled c d ds →
-    Stands text i (codes "if0(" ++ (d ∷ ds) ++ codes ", 1, 2)") (item_term Branch c)
+    Denotes text i (codes "if0(" ++ (d ∷ ds) ++ codes ", 1, 2)") (item_term Branch c)
 branch text i c d ds low h =
     let before = codes "if0(" in
     let after = codes ", 1, 2)" in
@@ -218,7 +218,7 @@ branch text i c d ds low h =
 twice : (text : List ℕ) (i c d : ℕ) (ds rest : List ℕ) → c < 20 → Spelled c d ds →
     drop i text ≡ (codes "(fix t(g:int -> int):int. g (g " ++ (d ∷ ds) ++ codes ")) (fix s(y:int):int. y * 3)")
     ++ rest →
-    Stands text i (codes "(fix t(g:int -> int):int. g (g " ++ (d ∷ ds) ++ codes ")) (fix s(y:int):int. y * 3)")
+    Denotes text i (codes "(fix t(g:int -> int):int. g (g " ++ (d ∷ ds) ++ codes ")) (fix s(y:int):int. y * 3)")
     (item_term Twice c)
 twice text i c d ds rest low h here =
     let before = codes "(fix t(g:int -> int):int. g (g " in
@@ -274,7 +274,7 @@ twice text i c d ds rest low h here =
 
 -- #2 <C, C + 1, <>>
 field : (text : List ℕ) (i c d : ℕ) (ds : List ℕ) → c < 20 → Spelled c d ds →
-    Stands text i (codes "#2 <" ++ (d ∷ ds) ++ codes ", " ++ (d ∷ ds) ++ codes " + 1, <>>") (item_term Field c)
+    Denotes text i (codes "#2 <" ++ (d ∷ ds) ++ codes ", " ++ (d ∷ ds) ++ codes " + 1, <>>") (item_term Field c)
 field text i c d ds low h =
     let before = codes "#2 <" in
     let comma = codes ", " in
@@ -322,33 +322,33 @@ field text i c d ds low h =
     }
 
 -- any item
-pub stands : (kind : Kind) (text : List ℕ) (i c : ℕ) (rest : List ℕ) → c < 20 → drop i text ≡ item kind c ++ rest →
-    Stands text i (item kind c) (item_term kind c)
-stands Number text i c rest low here =
+pub denotes : (kind : Kind) (text : List ℕ) (i c : ℕ) (rest : List ℕ) → c < 20 → drop i text ≡ item kind c ++ rest →
+    Denotes text i (item kind c) (item_term kind c)
+denotes Number text i c rest low here =
     let n = numeral c low in
-    subst (λ (s : List ℕ). Stands text i s (item_term Number c)) (sym n.text) (number text i c n.d n.ds low n.spelled)
-stands Factorial text i c rest low here =
+    subst (λ (s : List ℕ). Denotes text i s (item_term Number c)) (sym n.text) (number text i c n.d n.ds low n.spelled)
+denotes Factorial text i c rest low here =
     let n = numeral c low in
     let form : List ℕ → List ℕ = λ s. codes "(fix f(n:int):int. if0(n, 1, n * f(n - 1))) " ++ s in
-    subst (λ (s : List ℕ). Stands text i (form s) (item_term Factorial c)) (sym n.text)
+    subst (λ (s : List ℕ). Denotes text i (form s) (item_term Factorial c)) (sym n.text)
     (factorial text i c n.d n.ds rest low n.spelled (here ∙ ap (λ (s : List ℕ). form s ++ rest) n.text))
-stands Field text i c rest low here =
+denotes Field text i c rest low here =
     let n = numeral c low in
-    subst (λ (s : List ℕ). Stands text i (codes "#2 <" ++ s ++ codes ", " ++ s ++ codes " + 1, <>>")
+    subst (λ (s : List ℕ). Denotes text i (codes "#2 <" ++ s ++ codes ", " ++ s ++ codes " + 1, <>>")
     (item_term Field c)) (sym n.text)
     (field text i c n.d n.ds low n.spelled)
-stands Identity text i c rest low here =
+denotes Identity text i c rest low here =
     let n = numeral c low in
     let form : List ℕ → List ℕ = λ s. codes "(gen a. fix i(x:a):a. x)[int] " ++ s in
-    subst (λ (s : List ℕ). Stands text i (form s) (item_term Identity c)) (sym n.text)
+    subst (λ (s : List ℕ). Denotes text i (form s) (item_term Identity c)) (sym n.text)
     (identity text i c n.d n.ds rest low n.spelled (here ∙ ap (λ (s : List ℕ). form s ++ rest) n.text))
-stands Branch text i c rest low here =
+denotes Branch text i c rest low here =
     let n = numeral c low in
-    subst (λ (s : List ℕ). Stands text i (codes "if0(" ++ s ++ codes ", 1, 2)") (item_term Branch c)) (sym n.text)
+    subst (λ (s : List ℕ). Denotes text i (codes "if0(" ++ s ++ codes ", 1, 2)") (item_term Branch c)) (sym n.text)
     (branch text i c n.d n.ds low n.spelled)
-stands Twice text i c rest low here =
+denotes Twice text i c rest low here =
     let n = numeral c low in
     let form : List ℕ → List ℕ =
     λ s. codes "(fix t(g:int -> int):int. g (g " ++ s ++ codes ")) (fix s(y:int):int. y * 3)" in
-    subst (λ (s : List ℕ). Stands text i (form s) (item_term Twice c)) (sym n.text)
+    subst (λ (s : List ℕ). Denotes text i (form s) (item_term Twice c)) (sym n.text)
     (twice text i c n.d n.ds rest low n.spelled (here ∙ ap (λ (s : List ℕ). form s ++ rest) n.text))

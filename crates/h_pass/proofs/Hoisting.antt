@@ -14,8 +14,8 @@ use Rattle.c_terms.specs.Meaning.{crun}
 use Rattle.h_terms.specs.H.{HBlk, HBlks, block_at}
 use Rattle.h_terms.specs.Meaning.{HWord, HWords, hv_value, hvs_value, hd_value, HEnter, with_block, hopen, hterm}
 use Rattle.h_terms.specs.Meaning.{henter, hrun}
-use Rattle.h_pass.proofs.Words.{MadeStands, StandAll, Stands, all_size, compute_stands, get_stands, given_stands}
-use Rattle.h_pass.proofs.Words.{halt_stands, more_stands, project_stands, set_stands, value_stands, zero_stands}
+use Rattle.h_pass.proofs.Words.{MadeHoistsTo, AllHoistTo, HoistsTo, all_size, compute_hoists, get_hoists, given_hoists}
+use Rattle.h_pass.proofs.Words.{halt_hoists, more_hoists, project_hoists, set_hoists, value_hoists, zero_hoists}
 use Rattle.h_pass.specs.Hoist.{Code, Lost, Near, Nobody, Own, Self, Spot, block_of, blocks_d, blocks_of, blocks_t}
 use Rattle.h_pass.specs.Hoist.{blocks_v, blocks_vs, deeper, hoist_d, hoist_t, hoist_v, hoist_vs, main_of, spot}
 use Rattle.h_pass.specs.Hoist.{spot_value}
@@ -177,13 +177,13 @@ abbrev EnvOwn : HBlks → Own → CWords → Type 0
 EnvOwn ks Nobody NoWords = Unit {0}
 EnvOwn ks Nobody (MoreWords w ws) = ⊥
 EnvOwn ks (Code l) NoWords = ⊥
-EnvOwn ks (Code l) (MoreWords w ws) = Stands (IsBlock ks) w (WCode l NoWords) × (ws ≡ NoWords)
+EnvOwn ks (Code l) (MoreWords w ws) = HoistsTo (IsBlock ks) w (WCode l NoWords) × (ws ≡ NoWords)
 
 abbrev EnvOk : HBlks → Own → ℕ → CWords → HWords → Type 0
 EnvOk ks own zero ws ys = EnvOwn ks own ws
 EnvOk ks own (suc d) NoWords ys = ⊥
 EnvOk ks own (suc d) (MoreWords w ws) NoWords = ⊥
-EnvOk ks own (suc d) (MoreWords w ws) (MoreWords y ys) = Stands (IsBlock ks) w y × EnvOk ks own d ws ys
+EnvOk ks own (suc d) (MoreWords w ws) (MoreWords y ys) = HoistsTo (IsBlock ks) w y × EnvOk ks own d ws ys
 
 deeper_value : (s : Spot) (y : HWord) (ys : HWords) → hv_value (spot_value (deeper s)) (MoreWords y ys)
     ≡ hv_value (spot_value s) ys
@@ -191,25 +191,25 @@ deeper_value (Near i) y ys = refl
 deeper_value (Self l) y ys = refl
 deeper_value Lost y ys = refl
 
-var_stands : (ks : HBlks) (own : Own) (d i : ℕ) (ws : CWords) (ys : HWords) → EnvOk ks own d ws ys →
-    Stands (IsBlock ks) (at ws i) (hv_value (spot_value (spot own d i)) ys)
-var_stands ks Nobody zero i NoWords ys h = refl
-var_stands ks Nobody zero i (MoreWords w ws) ys h = absurd h
-var_stands ks (Code l) zero i NoWords ys h = absurd h
-var_stands ks (Code l) zero zero (MoreWords w ws) ys h = h.0
-var_stands ks (Code l) zero (suc i) (MoreWords w ws) ys h =
-    subst (λ z. Stands (IsBlock ks) (at z i) (WInt (pos 0))) (sym h.1) refl
-var_stands ks own (suc d) i NoWords ys h = absurd h
-var_stands ks own (suc d) i (MoreWords w ws) NoWords h = absurd h
-var_stands ks own (suc d) zero (MoreWords w ws) (MoreWords y ys) h = h.0
-var_stands ks own (suc d) (suc i) (MoreWords w ws) (MoreWords y ys) h =
-    subst (Stands (IsBlock ks) (at ws i)) (sym (deeper_value (spot own d i) y ys))
-    (var_stands ks own d i ws ys h.1)
+var_hoists : (ks : HBlks) (own : Own) (d i : ℕ) (ws : CWords) (ys : HWords) → EnvOk ks own d ws ys →
+    HoistsTo (IsBlock ks) (at ws i) (hv_value (spot_value (spot own d i)) ys)
+var_hoists ks Nobody zero i NoWords ys h = refl
+var_hoists ks Nobody zero i (MoreWords w ws) ys h = absurd h
+var_hoists ks (Code l) zero i NoWords ys h = absurd h
+var_hoists ks (Code l) zero zero (MoreWords w ws) ys h = h.0
+var_hoists ks (Code l) zero (suc i) (MoreWords w ws) ys h =
+    subst (λ z. HoistsTo (IsBlock ks) (at z i) (WInt (pos 0))) (sym h.1) refl
+var_hoists ks own (suc d) i NoWords ys h = absurd h
+var_hoists ks own (suc d) i (MoreWords w ws) NoWords h = absurd h
+var_hoists ks own (suc d) zero (MoreWords w ws) (MoreWords y ys) h = h.0
+var_hoists ks own (suc d) (suc i) (MoreWords w ws) (MoreWords y ys) h =
+    subst (HoistsTo (IsBlock ks) (at ws i)) (sym (deeper_value (spot own d i) y ys))
+    (var_hoists ks own d i ws ys h.1)
 
 mutual
   stands_v : (v : CVal) (ks : HBlks) (own : Own) (d b : ℕ) (ws : CWords) (ys : HWords) → HoldsV ks b v →
-      EnvOk ks own d ws ys → Stands (IsBlock ks) (cv_value b v ws) (hv_value (hoist_v own d b v) ys)
-  stands_v (CVar i) ks own d b ws ys k h = var_stands ks own d i ws ys h
+      EnvOk ks own d ws ys → HoistsTo (IsBlock ks) (cv_value b v ws) (hv_value (hoist_v own d b v) ys)
+  stands_v (CVar i) ks own d b ws ys k h = var_hoists ks own d i ws ys h
   stands_v (CInt n) ks own d b ws ys k h = refl
   stands_v (CTuple vs) ks own d b ws ys k h = (_, refl, stands_vs vs ks own d b ws ys k h)
   stands_v (CCode owes args body) ks own d b ws ys k h = (b, refl, (refl, k.0, k.1))
@@ -217,46 +217,46 @@ mutual
   stands_v (CPack hid v s) ks own d b ws ys k h = stands_v v ks own d b ws ys k h
 
   stands_vs : (vs : CVals) (ks : HBlks) (own : Own) (d b : ℕ) (ws : CWords) (ys : HWords) → HoldsVs ks b vs →
-      EnvOk ks own d ws ys → StandAll (IsBlock ks) (cvs_value b vs ws) (hvs_value (hoist_vs own d b vs) ys)
+      EnvOk ks own d ws ys → AllHoistTo (IsBlock ks) (cvs_value b vs ws) (hvs_value (hoist_vs own d b vs) ys)
   stands_vs NoCVals ks own d b ws ys k h = refl
   stands_vs (MoreCVals v vs) ks own d b ws ys k h =
       (_, _, refl, stands_v v ks own d b ws ys k.0 h, stands_vs vs ks own d (cv_next b v) ws ys k.1 h)
 
 stands_d : (e : CDecl) (ks : HBlks) (own : Own) (d b : ℕ) (ws : CWords) (ys : HWords) (st : CWords) (hst : HWords) →
-    HoldsD ks b e → EnvOk ks own d ws ys → StandAll (IsBlock ks) st hst →
-    MadeStands (IsBlock ks) (cd_value b e ws st) (hd_value (hoist_d own d b e) ys hst)
+    HoldsD ks b e → EnvOk ks own d ws ys → AllHoistTo (IsBlock ks) st hst →
+    MadeHoistsTo (IsBlock ks) (cd_value b e ws st) (hd_value (hoist_d own d b e) ys hst)
 stands_d (CName v) ks own d b ws ys st hst k h r = (stands_v v ks own d b ws ys k h, r)
 stands_d (CProj i v) ks own d b ws ys st hst k h r =
-    given_stands (IsBlock ks) _ _ st hst (project_stands (IsBlock ks) i _ _ (stands_v v ks own d b ws ys k h)) r
+    given_hoists (IsBlock ks) _ _ st hst (project_hoists (IsBlock ks) i _ _ (stands_v v ks own d b ws ys k h)) r
 stands_d (CArith op v w) ks own d b ws ys st hst k h r =
-    given_stands (IsBlock ks) _ _ st hst
-    (compute_stands (IsBlock ks) op _ _ _ _ (stands_v v ks own d b ws ys k.0 h)
+    given_hoists (IsBlock ks) _ _ st hst
+    (compute_hoists (IsBlock ks) op _ _ _ _ (stands_v v ks own d b ws ys k.0 h)
     (stands_v w ks own d (cv_next b v) ws ys k.1 h))
     r
 stands_d (CUnpack v) ks own d b ws ys st hst k h r = (stands_v v ks own d b ws ys k h, r)
 stands_d (CCell v) ks own d b ws ys st hst k h r =
-    (ap WCell (all_size (IsBlock ks) st hst r), more_stands (IsBlock ks) st hst _ _ r (stands_v v ks own d b ws ys k h))
-stands_d (CGet v) ks own d b ws ys st hst k h r = get_stands (IsBlock ks) _ _ st hst (stands_v v ks own d b ws ys k h) r
+    (ap WCell (all_size (IsBlock ks) st hst r), more_hoists (IsBlock ks) st hst _ _ r (stands_v v ks own d b ws ys k h))
+stands_d (CGet v) ks own d b ws ys st hst k h r = get_hoists (IsBlock ks) _ _ st hst (stands_v v ks own d b ws ys k h) r
 stands_d (CSet v w) ks own d b ws ys st hst k h r =
-    set_stands (IsBlock ks) _ _ _ _ st hst (stands_v v ks own d b ws ys k.0 h)
+    set_hoists (IsBlock ks) _ _ _ _ st hst (stands_v v ks own d b ws ys k.0 h)
     (stands_v w ks own d (cv_next b v) ws ys k.1 h) r
 
 -- terms
 abbrev HFollows : HBlks → CEnter → HEnter → Type 0
 HFollows ks ce he =
     (b : ℕ) (owes : ℕ) (args : CTys) (body : CTm) (vs : CWords) (ys : HWords) (st : CWords) (hst : HWords) →
-    block_at ks b ≡ Some (block_of b owes args body) → HoldsT ks (suc b) body → StandAll (IsBlock ks) vs ys →
-    StandAll (IsBlock ks) st hst → size vs ≡ ccount args →
+    block_at ks b ≡ Some (block_of b owes args body) → HoldsT ks (suc b) body → AllHoistTo (IsBlock ks) vs ys →
+    AllHoistTo (IsBlock ks) st hst → size vs ≡ ccount args →
     he b (hoist_t (Code b) (ccount args) (suc b) body) (onto ys NoWords) hst
     ≡ ce b body (onto vs (MoreWords (WCode (CCodeAt b owes args body) NoWords) NoWords)) st
 
-call_stands : (ks : HBlks) (ce : CEnter) (he : HEnter) → HFollows ks ce he →
-    (v : CWord) (y : HWord) (vs : CWords) (ys : HWords) (st : CWords) (hst : HWords) → Stands (IsBlock ks) v y →
-    StandAll (IsBlock ks) vs ys → StandAll (IsBlock ks) st hst → hopen ks he y ys hst ≡ copen ce v vs st
-call_stands ks ce he f (WInt n) y vs ys st hst r q w = ap (λ z. hopen ks he z ys hst) r
-call_stands ks ce he f (WTuple ws) y vs ys st hst r q w = ap (λ z. hopen ks he z ys hst) r.1
-call_stands ks ce he f (WCell p) y vs ys st hst r q w = ap (λ z. hopen ks he z ys hst) r
-call_stands ks ce he f (WCode (CCodeAt b owes args body) env) y vs ys st hst r q w =
+call_hoists : (ks : HBlks) (ce : CEnter) (he : HEnter) → HFollows ks ce he →
+    (v : CWord) (y : HWord) (vs : CWords) (ys : HWords) (st : CWords) (hst : HWords) → HoistsTo (IsBlock ks) v y →
+    AllHoistTo (IsBlock ks) vs ys → AllHoistTo (IsBlock ks) st hst → hopen ks he y ys hst ≡ copen ce v vs st
+call_hoists ks ce he f (WInt n) y vs ys st hst r q w = ap (λ z. hopen ks he z ys hst) r
+call_hoists ks ce he f (WTuple ws) y vs ys st hst r q w = ap (λ z. hopen ks he z ys hst) r.1
+call_hoists ks ce he f (WCell p) y vs ys st hst r q w = ap (λ z. hopen ks he z ys hst) r
+call_hoists ks ce he f (WCode (CCodeAt b owes args body) env) y vs ys st hst r q w =
     ap (λ z. hopen ks he z ys hst) (r.1 ∙ ap (λ l. WCode l NoWords) r.2.0)
     ∙ ap (λ o. with_block o (λ k. if_fits (nat_eq (size ys) (ccount k.args)) (he b k.body (onto ys NoWords) hst)))
     r.2.1
@@ -267,23 +267,23 @@ call_stands ks ce he f (WCode (CCodeAt b owes args body) env) y vs ys st hst r q
 
 stands_t : (ks : HBlks) (ce : CEnter) (he : HEnter) → HFollows ks ce he →
     (t : CTm) (own : Own) (d b : ℕ) (ws : CWords) (ys : HWords) (st : CWords) (hst : HWords) → HoldsT ks b t →
-    EnvOk ks own d ws ys → StandAll (IsBlock ks) st hst → hterm ks he (hoist_t own d b t) ys hst ≡ cterm ce b t ws st
+    EnvOk ks own d ws ys → AllHoistTo (IsBlock ks) st hst → hterm ks he (hoist_t own d b t) ys hst ≡ cterm ce b t ws st
 stands_t ks ce he f (CLet e t) own d b ws ys st hst k h w =
-    value_stands (IsBlock ks) (cd_value b e ws st) (hd_value (hoist_d own d b e) ys hst) _ _
+    value_hoists (IsBlock ks) (cd_value b e ws st) (hd_value (hoist_d own d b e) ys hst) _ _
     (stands_d e ks own d b ws ys st hst k.0 h w)
     (λ v y st2 hst2 r w2. stands_t ks ce he f t own (suc d) (cd_next b e) (MoreWords v ws) (MoreWords y ys) st2 hst2
     k.1 (r, h) w2)
 stands_t ks ce he f (CCall g ts vs) own d b ws ys st hst k h w =
-    call_stands ks ce he f _ _ _ _ st hst (stands_v g ks own d b ws ys k.0 h)
+    call_hoists ks ce he f _ _ _ _ st hst (stands_v g ks own d b ws ys k.0 h)
     (stands_vs vs ks own d (cv_next b g) ws ys k.1 h) w
 stands_t ks ce he f (CIf v t u) own d b ws ys st hst k h w =
-    zero_stands (IsBlock ks) _ _ _ _ _ _ (stands_v v ks own d b ws ys k.0 h)
+    zero_hoists (IsBlock ks) _ _ _ _ _ _ (stands_v v ks own d b ws ys k.0 h)
     (stands_t ks ce he f t own d (cv_next b v) ws ys st hst k.1 h w)
     (stands_t ks ce he f u own d (ct_next (cv_next b v) t) ws ys st hst k.2 h w)
 stands_t ks ce he f (CHalt v) own d b ws ys st hst k h w =
-    halt_stands (IsBlock ks) _ _ (stands_v v ks own d b ws ys k h)
+    halt_hoists (IsBlock ks) _ _ (stands_v v ks own d b ws ys k h)
 
-env_onto : (ks : HBlks) (own : Own) (d : ℕ) (vs ws : CWords) (ys zs : HWords) → StandAll (IsBlock ks) vs ys →
+env_onto : (ks : HBlks) (own : Own) (d : ℕ) (vs ws : CWords) (ys zs : HWords) → AllHoistTo (IsBlock ks) vs ys →
     EnvOk ks own d ws zs → EnvOk ks own (lift (size vs) d) (onto vs ws) (onto ys zs)
 env_onto ks own d NoWords ws ys zs r h = subst (λ y. EnvOk ks own d ws (onto y zs)) (sym r) h
 env_onto ks own d (MoreWords v vs) ws ys zs r h =

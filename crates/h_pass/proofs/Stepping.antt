@@ -28,7 +28,7 @@ use Rattle.h_pass.proofs.Spots.{deep}
 use Rattle.h_pass.specs.Hoist.{Code, Nobody, Own}
 use Rattle.h_pass.specs.Stream.{Around, Found, both, code_found, found_in, has_room, hoisted, is_none, is_one, is_some}
 use Rattle.h_pass.specs.Stream.{is_two, nothing, out_found}
-use Rattle.h_pass.specs.Walk.{Begun, Declares, Ends, Goes, IsPart, Labelled, Makes, Stands, Steps, Walked, arity}
+use Rattle.h_pass.specs.Walk.{Begun, Declares, Ends, Goes, IsPart, Labelled, Makes, Yields, Steps, Walked, arity}
 use Rattle.h_pass.specs.Walk.{around, body_with, built, closes, fill_own, filled, h_onto, one_name, own_of, waiting}
 use Rattle.calc_core.proofs.Lifts.{lift_add}
 use Rattle.calc_core.proofs.Trees.{count_length as count_is}
@@ -123,8 +123,8 @@ onto_nil [] = refl
 onto_nil (x ∷ xs) = ap (h_build x.form (values x)) (onto_nil xs)
 
 pub quiet : (r s : Found) (bs : List HBlock) (own : Option ℕ) (ns : List HNode) (ds : List ℕ) (fs : List Open)
-    (p : HBlks × HTm) → s ≡ r → Stands r bs own ns ds fs p → Stands s bs own ns ds fs p
-quiet r s bs own ns ds fs p e st = subst (λ x. Stands x bs own ns ds fs p) (sym e) st
+    (p : HBlks × HTm) → s ≡ r → Yields r bs own ns ds fs p → Yields s bs own ns ds fs p
+quiet r s bs own ns ds fs p e st = subst (λ x. Yields x bs own ns ds fs p) (sym e) st
 
 pub arity_of : (form : HForm) (vs : List HVal) → arity form vs ≡ true → HArity form vs
 arity_of F.Name vs h = one_of vs h
@@ -142,8 +142,8 @@ emitted : (form : HForm) (room : List ℕ → Bool) (parts : Vec HPart Global) (
     (own : Option ℕ) (ns new : List HNode) (ds after : List ℕ) (fs : List Open) (p : HBlks × HTm) →
     new ≡ ns ++ record { form = form; values = parts } ∷ [] → ((xs : List ℕ) → room xs ≡ true → is_some xs ≡ true) →
     (is_some ds ≡ true → length after ≡ lift (h_kids form) (length (others ds))) →
-    Stands (built form (reads [] parts.items) (both (room ds) (arity form (reads [] parts.items))) r) bs own ns ds fs
-    p → Stands r bs own new after fs p
+    Yields (built form (reads [] parts.items) (both (room ds) (arity form (reads [] parts.items))) r) bs own ns ds fs
+    p → Yields r bs own new after fs p
 emitted form room parts r bs own ns new ds after fs p is due kids st =
     let node : HNode = record { form = form; values = parts } in
     let ok = arity form (reads [] parts.items) in
@@ -175,8 +175,8 @@ pub begins : (k : HBlock) (r : Found) (bs new : List HBlock) (b e : ℕ) (cur : 
     (ds after : List ℕ) (fs : List Open) (p : HBlks × HTm) →
     new ≡ bs ++ k ∷ [] → b ≡ length bs → HRow k.body.items 1 → length cur.depths.items ≡ length ds → ns ≡ [] →
     after ≡ e ∷ [] →
-    Stands (code_found k.owes (ctys k.args.items) r) bs cur.own cur.nodes.items ds fs p →
-    Stands r new (Some b) ns after (cur ∷ fs) p
+    Yields (code_found k.owes (ctys k.args.items) r) bs cur.own cur.nodes.items ds fs p →
+    Yields r new (Some b) ns after (cur ∷ fs) p
 begins k r bs new b e cur ns ds after fs p is at row long ns_is after_is st = record {
   fine = st.fine;
   same =
@@ -205,8 +205,8 @@ pub ends : (l : ℕ) (r : Found) (bs new : List HBlock) (ns : List HNode) (ds : 
     (p : HBlks × HTm) →
     l < length bs → length new ≡ length bs → h_blocks new ≡ filled l (h_tree ns) (h_blocks bs) →
     (HRow ns 1 → HRows bs → HRows new) →
-    Stands (out_found (is_none ds) r) bs (Some l) ns ds (f ∷ fs) p →
-    Stands r new f.own f.nodes.items f.depths.items fs p
+    Yields (out_found (is_none ds) r) bs (Some l) ns ds (f ∷ fs) p →
+    Yields r new f.own f.nodes.items f.depths.items fs p
 ends l r bs new ns ds f fs p lt count made rows st =
     let none = none_is ds (both_left (is_none ds) r.fine st.fine) in
     record {
@@ -226,18 +226,18 @@ ends l r bs new ns ds f fs p lt count made rows st =
 -- the whole
 pub starts : (rest : List S.CNd) (bs : List HBlock) (ns : List HNode) (ds : List ℕ) (ps : List HPart)
     (fs : List Open) → bs ≡ [] → ns ≡ [] → ds ≡ 0 ∷ [] → ps ≡ [] → fs ≡ [] → (hoisted rest).fine ≡ true →
-    Stands (found_in rest (length bs) Nobody ds (reads [] ps) None (around fs)) bs None ns ds fs
+    Yields (found_in rest (length bs) Nobody ds (reads [] ps) None (around fs)) bs None ns ds fs
     ((hoisted rest).blocks, top no_term (hoisted rest).terms)
 starts rest bs ns ds ps fs e1 e2 e3 e4 e5 fine =
-    subst (λ x. Stands (found_in rest (length x) Nobody ds (reads [] ps) None (around fs)) x None ns ds fs
+    subst (λ x. Yields (found_in rest (length x) Nobody ds (reads [] ps) None (around fs)) x None ns ds fs
     ((hoisted rest).blocks, top no_term (hoisted rest).terms)) (sym e1)
-    (subst (λ x. Stands (found_in rest 0 Nobody ds (reads [] ps) None (around fs)) [] None x ds fs
+    (subst (λ x. Yields (found_in rest 0 Nobody ds (reads [] ps) None (around fs)) [] None x ds fs
     ((hoisted rest).blocks, top no_term (hoisted rest).terms)) (sym e2)
-    (subst (λ x. Stands (found_in rest 0 Nobody x (reads [] ps) None (around fs)) [] None [] x fs
+    (subst (λ x. Yields (found_in rest 0 Nobody x (reads [] ps) None (around fs)) [] None [] x fs
     ((hoisted rest).blocks, top no_term (hoisted rest).terms)) (sym e3)
-    (subst (λ x. Stands (found_in rest 0 Nobody (0 ∷ []) (reads [] x) None (around fs)) [] None [] (0 ∷ []) fs
+    (subst (λ x. Yields (found_in rest 0 Nobody (0 ∷ []) (reads [] x) None (around fs)) [] None [] (0 ∷ []) fs
     ((hoisted rest).blocks, top no_term (hoisted rest).terms)) (sym e4)
-    (subst (λ x. Stands (found_in rest 0 Nobody (0 ∷ []) [] None (around x)) [] None [] (0 ∷ []) x
+    (subst (λ x. Yields (found_in rest 0 Nobody (0 ∷ []) [] None (around x)) [] None [] (0 ∷ []) x
     ((hoisted rest).blocks, top no_term (hoisted rest).terms)) (sym e5)
     (record { fine = fine; same = refl; rows = tt; begun = λ more h. h; all = tt; labelled = tt })))))
 
@@ -252,7 +252,7 @@ pub record Whole (bs : List HBlock) (ns : List HNode) (p : HBlks × HTm) : Type 
   pub row : HRow ns 1
 
 pub finished : (bs : List HBlock) (own : Option ℕ) (ns : List HNode) (ds : List ℕ) (fs : List Open) (p : HBlks × HTm) →
-    Stands (nothing (both (is_none ds) (is_none (around fs)))) bs own ns ds fs p → Whole bs ns p
+    Yields (nothing (both (is_none ds) (is_none (around fs)))) bs own ns ds fs p → Whole bs ns p
 finished bs own ns ds fs p st =
     let none = none_is ds (both_left (is_none ds) (is_none (around fs)) st.fine) in
     let alone = no_outer fs (both_right (is_none ds) (is_none (around fs)) st.fine) in
@@ -271,15 +271,15 @@ pub emits : (form : HForm) (room : List ℕ → Bool) (parts : Vec HPart Global)
     new ≡ ns ++ record { form = form; values = parts } ∷ [] → left ≡ [] → ds2 ≡ after ds →
     ((xs : List ℕ) → room xs ≡ true → is_some xs ≡ true) →
     (is_some ds ≡ true → length (after ds) ≡ lift (h_kids form) (length (others ds))) → Makes form room after n →
-    Stands (found_in (n ∷ rest) b o ds (reads [] parts.items) c fs) bs own ns ds gs p →
-    Stands (found_in rest b o ds2 (reads [] left) c fs) bs own new ds2 gs p
+    Yields (found_in (n ∷ rest) b o ds (reads [] parts.items) c fs) bs own ns ds gs p →
+    Yields (found_in rest b o ds2 (reads [] left) c fs) bs own new ds2 gs p
 emits form room parts n after rest b o ds ds2 c fs bs own ns new left gs p made none deep due kids makes st =
     let r = found_in rest b o (after ds) [] c fs in
     let vs = reads [] parts.items in
-    let old : Stands (built form vs (both (room ds) (arity form vs)) r) bs own ns ds gs p =
-    subst (λ x. Stands x bs own ns ds gs p) (makes rest b o ds vs c fs) st in
-    subst (λ xs. Stands (found_in rest b o xs (reads [] left) c fs) bs own new xs gs p) (sym deep)
-    (subst (λ (xs : List HPart). Stands (found_in rest b o (after ds) (reads [] xs) c fs) bs own new (after ds) gs p)
+    let old : Yields (built form vs (both (room ds) (arity form vs)) r) bs own ns ds gs p =
+    subst (λ x. Yields x bs own ns ds gs p) (makes rest b o ds vs c fs) st in
+    subst (λ xs. Yields (found_in rest b o xs (reads [] left) c fs) bs own new xs gs p) (sym deep)
+    (subst (λ (xs : List HPart). Yields (found_in rest b o (after ds) (reads [] xs) c fs) bs own new (after ds) gs p)
     (sym none)
     (emitted form room parts r bs own ns new ds (after ds) gs p made due kids old))
 
@@ -294,7 +294,7 @@ room_due (d ∷ ds) h = refl
 pub room_of : (form : HForm) (n : S.CNd) (rest : List S.CNd) (b : ℕ) (o : Own) (ds : List ℕ) (vs : List HVal)
     (c : Option CTys) (fs : List Around) (bs : List HBlock) (own : Option ℕ) (ns : List HNode) (gs : List Open)
     (p : HBlks × HTm) →
-    Makes form has_room one_name n → Stands (found_in (n ∷ rest) b o ds vs c fs) bs own ns ds gs p →
+    Makes form has_room one_name n → Yields (found_in (n ∷ rest) b o ds vs c fs) bs own ns ds gs p →
     top 0 ds < 18446744073709551615
 room_of form n rest b o ds vs c fs bs own ns gs p makes st =
     let r = found_in rest b o (one_name ds) [] c fs in
@@ -318,31 +318,31 @@ pub calls : (types : Vec CType Global) (parts : Vec HPart Global) (rest : List S
     (bs : List HBlock) (own : Option ℕ) (ns new : List HNode) (left : List HPart) (gs : List Open) (p : HBlks × HTm) →
     Ends rest → old ≡ Some types → now ≡ None → new ≡ ns ++ record { form = F.Call types; values = parts } ∷ [] →
     left ≡ [] → ds2 ≡ others ds →
-    Stands (found_in rest b o ds (reads [] parts.items) (waiting old) fs) bs own ns ds gs p →
-    Stands (found_in rest b o ds2 (reads [] left) (waiting now) fs) bs own new ds2 gs p
+    Yields (found_in rest b o ds (reads [] parts.items) (waiting old) fs) bs own ns ds gs p →
+    Yields (found_in rest b o ds2 (reads [] left) (waiting now) fs) bs own new ds2 gs p
 calls types parts rest b o ds ds2 old now fs bs own ns new left gs p ends e1 e2 made none deep st =
     let r = found_in rest b o (others ds) [] None fs in
     let vs = reads [] parts.items in
-    let before : Stands (built (F.Call types) vs (both (is_some ds) (is_some vs)) r) bs own ns ds gs p =
+    let before : Yields (built (F.Call types) vs (both (is_some ds) (is_some vs)) r) bs own ns ds gs p =
     quiet (found_in rest b o ds vs (waiting old) fs) (built (F.Call types) vs (both (is_some ds) (is_some vs)) r) bs
     own ns ds gs p
     (sym (ap (λ (x : Option (Vec CType Global)). found_in rest b o ds vs (waiting x) fs) e1
     ∙ call_ends rest b o ds vs (ctys types.items) fs ends)) st in
-    subst (λ (x : Option (Vec CType Global)). Stands (found_in rest b o ds2 (reads [] left) (waiting x) fs) bs own new
+    subst (λ (x : Option (Vec CType Global)). Yields (found_in rest b o ds2 (reads [] left) (waiting x) fs) bs own new
     ds2 gs p) (sym e2)
-    (subst (λ xs. Stands (found_in rest b o xs (reads [] left) None fs) bs own new xs gs p) (sym deep)
-    (subst (λ (xs : List HPart). Stands (found_in rest b o (others ds) (reads [] xs) None fs) bs own new
+    (subst (λ xs. Yields (found_in rest b o xs (reads [] left) None fs) bs own new xs gs p) (sym deep)
+    (subst (λ (xs : List HPart). Yields (found_in rest b o (others ds) (reads [] xs) None fs) bs own new
     (others ds) gs p) (sym none)
     (emitted (F.Call types) is_some parts r bs own ns new ds (others ds) gs p made (λ xs h. h) (λ s. refl) before)))
 
 pub else_goes : (rest : List S.CNd) (b : ℕ) (o : Own) (ds : List ℕ) (vs : List HVal) (call : Option (Vec CType Global))
     (fs : List Around) (bs : List HBlock) (own : Option ℕ) (ns : List HNode) (gs : List Open) (p : HBlks × HTm) →
-    call ≡ None → Stands (found_in (S.MElse ∷ rest) b o ds vs (waiting call) fs) bs own ns ds gs p →
-    Stands (found_in rest b o ds vs (waiting call) fs) bs own ns ds gs p
+    call ≡ None → Yields (found_in (S.MElse ∷ rest) b o ds vs (waiting call) fs) bs own ns ds gs p →
+    Yields (found_in rest b o ds vs (waiting call) fs) bs own ns ds gs p
 else_goes rest b o ds vs call fs bs own ns gs p e st =
-    subst (λ (x : Option (Vec CType Global)). Stands (found_in rest b o ds vs (waiting x) fs) bs own ns ds gs p)
+    subst (λ (x : Option (Vec CType Global)). Yields (found_in rest b o ds vs (waiting x) fs) bs own ns ds gs p)
     (sym e) (subst
-    (λ (x : Option (Vec CType Global)). Stands (found_in (S.MElse ∷ rest) b o ds vs (waiting x) fs) bs own ns ds gs
+    (λ (x : Option (Vec CType Global)). Yields (found_in (S.MElse ∷ rest) b o ds vs (waiting x) fs) bs own ns ds gs
     p) e st)
 
 abbrev at_open : List S.CNd → ℕ → Open → List Open → Found
@@ -377,7 +377,7 @@ pub end_goes : (rest : List S.CNd) (w : Walk) (f cur inner : Open) (gs outer : L
     h_blocks new ≡ fill_own inner.own (h_tree inner.nodes.items) (h_blocks w.blocks.items) →
     (HRow inner.nodes.items 1 → HRows w.blocks.items → HRows new) →
     Walked w (S.MEnd ∷ rest) p →
-    Stands (at_open rest (length new) cur outer) new cur.own cur.nodes.items cur.depths.items outer p
+    Yields (at_open rest (length new) cur outer) new cur.own cur.nodes.items cur.depths.items outer p
 end_goes rest w f cur inner gs outer l new p call out is cur_is outer_is mine lt count made rows st =
     let bs = w.blocks.items in
     let ns = w.current.nodes.items in
@@ -387,26 +387,26 @@ end_goes rest w f cur inner gs outer l new p call out is cur_is outer_is mine lt
     let now : h_blocks new ≡ filled l (h_tree ns) (h_blocks bs) =
     made ∙ ap (λ (x : Open). fill_own x.own (h_tree x.nodes.items) (h_blocks bs)) is
     ∙ ap (λ (x : Option ℕ). fill_own x (h_tree ns) (h_blocks bs)) mine in
-    let s1 : Stands (found_in (S.MEnd ∷ rest) (length bs) (own_of w.current.own) ds vs None (around w.outer.items)) bs
+    let s1 : Yields (found_in (S.MEnd ∷ rest) (length bs) (own_of w.current.own) ds vs None (around w.outer.items)) bs
     w.current.own ns ds w.outer.items p =
     subst (λ (x : Option (Vec CType Global)).
-    Stands (found_in (S.MEnd ∷ rest) (length bs) (own_of w.current.own) ds vs (waiting x) (around w.outer.items))
+    Yields (found_in (S.MEnd ∷ rest) (length bs) (own_of w.current.own) ds vs (waiting x) (around w.outer.items))
     bs w.current.own ns ds w.outer.items p) call st in
-    let s2 : Stands (out_found (is_none ds) (at_open rest (length bs) f gs)) bs w.current.own ns ds (f ∷ gs) p =
+    let s2 : Yields (out_found (is_none ds) (at_open rest (length bs) f gs)) bs w.current.own ns ds (f ∷ gs) p =
     subst (λ (x : List Open).
-    Stands (found_in (S.MEnd ∷ rest) (length bs) (own_of w.current.own) ds vs None (around x)) bs w.current.own ns
+    Yields (found_in (S.MEnd ∷ rest) (length bs) (own_of w.current.own) ds vs None (around x)) bs w.current.own ns
     ds x p) out s1 in
-    let s3 : Stands (out_found (is_none ds) (at_open rest (length bs) f gs)) bs (Some l) ns ds (f ∷ gs) p =
-    subst (λ (x : Option ℕ). Stands (out_found (is_none ds) (at_open rest (length bs) f gs)) bs x ns ds (f ∷ gs) p)
+    let s3 : Yields (out_found (is_none ds) (at_open rest (length bs) f gs)) bs (Some l) ns ds (f ∷ gs) p =
+    subst (λ (x : Option ℕ). Yields (out_found (is_none ds) (at_open rest (length bs) f gs)) bs x ns ds (f ∷ gs) p)
     mine s2 in
-    let s4 : Stands (at_open rest (length bs) f gs) new f.own f.nodes.items f.depths.items gs p =
+    let s4 : Yields (at_open rest (length bs) f gs) new f.own f.nodes.items f.depths.items gs p =
     ends l (at_open rest (length bs) f gs) bs new ns ds f gs p lt count now
     (λ h. rows (subst (λ (x : List HNode). HRow x 1) (sym nodes) h)) s3 in
-    subst (λ (x : Open). Stands (at_open rest (length new) x outer) new x.own x.nodes.items x.depths.items outer p)
+    subst (λ (x : Open). Yields (at_open rest (length new) x outer) new x.own x.nodes.items x.depths.items outer p)
     (sym cur_is)
-    (subst (λ (x : List Open). Stands (at_open rest (length new) f x) new f.own f.nodes.items f.depths.items x p)
+    (subst (λ (x : List Open). Yields (at_open rest (length new) f x) new f.own f.nodes.items f.depths.items x p)
     (sym outer_is)
-    (subst (λ n. Stands (at_open rest n f gs) new f.own f.nodes.items f.depths.items gs p) (sym count) s4))
+    (subst (λ n. Yields (at_open rest n f gs) new f.own f.nodes.items f.depths.items gs p) (sym count) s4))
 
 pub close_goes : (rest : List S.CNd) (w : Walk) (f cur inner : Open) (gs outer : List Open) (new : List HBlock)
     (p : HBlks × HTm) →
@@ -415,7 +415,7 @@ pub close_goes : (rest : List S.CNd) (w : Walk) (f cur inner : Open) (gs outer :
     h_blocks new ≡ fill_own inner.own (h_tree inner.nodes.items) (h_blocks w.blocks.items) →
     (HRow inner.nodes.items 1 → HRows w.blocks.items → HRows new) →
     Walked w (S.MEnd ∷ rest) p →
-    Stands (at_open rest (length new) cur outer) new cur.own cur.nodes.items cur.depths.items outer p
+    Yields (at_open rest (length new) cur outer) new cur.own cur.nodes.items cur.depths.items outer p
 close_goes rest w f cur inner gs outer new p call out is cur_is outer_is count made rows st =
     its_label (length w.blocks.items) w.current.own f gs
     (subst (Labelled (length w.blocks.items) w.current.own) out st.labelled)
@@ -437,7 +437,7 @@ pub begin_goes : (rest : List S.CNd) (w : Walk) (owes : ℕ) (args : Vec CType G
     inner.own ≡ Some label → inner.nodes.items ≡ [] → inner.parts.items ≡ [] → inner.call ≡ None →
     inner.depths.items ≡ count ∷ [] →
     Walked w (S.MCode owes (ctys args.items) ∷ rest) p →
-    Stands (at_open rest (length new) inner outer) new inner.own inner.nodes.items inner.depths.items outer p
+    Yields (at_open rest (length new) inner outer) new inner.own inner.nodes.items inner.depths.items outer p
 begin_goes rest w owes args body parts inner cur outer label count new p is row at number put cur_is outer_is own nodes
     none call depths st =
     let bs = w.blocks.items in
@@ -484,14 +484,14 @@ begin_goes rest w owes args body parts inner cur outer label count new p is row 
       call = waiting w.current.call;
     } in y) ∷ fs))
     (put ∙ ap (λ l. reads [] w.current.parts.items ++ HLabel l ∷ []) at) in
-    let s1 : Stands r new (Some b) inner.nodes.items inner.depths.items (g ∷ w.outer.items) p =
+    let s1 : Yields r new (Some b) inner.nodes.items inner.depths.items (g ∷ w.outer.items) p =
     begins k r bs new b e g inner.nodes.items w.current.depths.items inner.depths.items w.outer.items p is refl row
     refl nodes deep st in
-    let s2 : Stands r new inner.own inner.nodes.items inner.depths.items (g ∷ w.outer.items) p =
-    subst (λ (x : Option ℕ). Stands r new x inner.nodes.items inner.depths.items (g ∷ w.outer.items) p)
+    let s2 : Yields r new inner.own inner.nodes.items inner.depths.items (g ∷ w.outer.items) p =
+    subst (λ (x : Option ℕ). Yields r new x inner.nodes.items inner.depths.items (g ∷ w.outer.items) p)
     (sym mine) s1 in
-    let s3 : Stands r new inner.own inner.nodes.items inner.depths.items outer p =
-    subst (λ (x : List Open). Stands r new inner.own inner.nodes.items inner.depths.items x p) (sym outs) s2 in
+    let s3 : Yields r new inner.own inner.nodes.items inner.depths.items outer p =
+    subst (λ (x : List Open). Yields r new inner.own inner.nodes.items inner.depths.items x p) (sym outs) s2 in
     quiet r (at_open rest (length new) inner outer) new inner.own inner.nodes.items inner.depths.items outer p same s3
 
 pub moved_on : (w : Walk) (ns ms : List S.CNd) (p : HBlks × HTm) → ns ≡ ms → Walked w ns p → Walked w ms p
@@ -502,7 +502,7 @@ pub whole_of : (w : Walk) (p : HBlks × HTm) → w.current.call ≡ None → Wal
 whole_of w p e st =
     finished w.blocks.items w.current.own w.current.nodes.items w.current.depths.items w.outer.items p
     (subst (λ (x : Option (Vec CType Global)).
-    Stands (found_in [] (length w.blocks.items) (own_of w.current.own) w.current.depths.items
+    Yields (found_in [] (length w.blocks.items) (own_of w.current.own) w.current.depths.items
     (reads [] w.current.parts.items) (waiting x) (around w.outer.items)) w.blocks.items w.current.own
     w.current.nodes.items w.current.depths.items w.outer.items p) e st)
 

@@ -81,7 +81,7 @@ Labelled n None (f ∷ fs) = ⊥
 Labelled n (Some l) (f ∷ fs) = (l < n) × Labelled n f.own fs
 
 -- what is made so far and what the rest holds are the program
-pub record Stands (r : Found) (bs : List HBlock) (own : Option ℕ) (ns : List HNode) (ds : List ℕ) (fs : List Open)
+pub record Yields (r : Found) (bs : List HBlock) (own : Option ℕ) (ns : List HNode) (ds : List ℕ) (fs : List Open)
     (program : HBlks × HTm) : Type 0 where
   pub fine : r.fine ≡ true
   pub same : closes own (body_with ns r.terms) fs r.outer (h_blocks bs ++ r.blocks) ≡ program
@@ -92,7 +92,7 @@ pub record Stands (r : Found) (bs : List HBlock) (own : Option ℕ) (ns : List H
 
 abbrev pub Walked : Walk → List S.CNd → HBlks × HTm → Type 0
 Walked w rest program =
-    Stands
+    Yields
     (found w rest) w.blocks.items w.current.own w.current.nodes.items w.current.depths.items w.outer.items program
 
 -- a step

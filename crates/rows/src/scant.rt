@@ -29,8 +29,8 @@ impl Files for RowFiles {
     }
 }
 
-/// An output in memory. Where it is scant its next put finds no memory, and later ones do. It counts the puts that wanted
-/// memory.
+/// An output in memory. Where it is scant its next put finds no memory, and later ones do. It counts the puts that
+/// wanted memory.
 #[derive(Drop)]
 pub struct RowSink {
     pub sink: MemSink,

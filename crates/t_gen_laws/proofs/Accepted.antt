@@ -76,14 +76,14 @@ fields_are [] = refl
 fields_are (c ∷ cs) = ap (MoreFields (ty c.kind) true) (fields_are cs)
 
 -- where the generated blocks stand
-pub record Stands (p : AProg) (main : ATm) : Type 0 where
+pub record BlocksAt (p : AProg) (main : ATm) : Type 0 where
   pub labels : Labels p (generated p main)
   pub of_main : HasAt (generated_blocks p main) (suc (length p.blocks)) (extras p 0 [] [] (suc (length p.blocks)) main)
   pub of_blocks : HasAt (generated_blocks p main) (suc (length p.blocks) + thirds main)
       (seconds p p.blocks (suc (length p.blocks) + thirds main))
 
-pub stands : (p : AProg) (main : ATm) → Stands p main
-stands p main =
+pub blocks_at : (p : AProg) (main : ATm) → BlocksAt p main
+blocks_at p main =
     let P = generated_blocks p main in
     let at = suc (length p.blocks) in
     let at0 = at + thirds main in
@@ -131,7 +131,7 @@ module _ (A : AProp) (N : ℕ → Type 0) (S : ATy → Type 0) (Q : TProp) (C : 
     good_each (b ∷ bs) h = ((h.0.1, h.0.2), good_each bs h.1)
 
   pub all_good : (p : AProg) (main : ATm) (q : TypedProgram p main) → BsEach A p p.blocks → TEach A p 0 [] main →
-      Good A N S Q C p (generated p main) (stands p main).labels (args_below p q.blocks q.tuples)
+      Good A N S Q C p (generated p main) (blocks_at p main).labels (args_below p q.blocks q.tuples)
       (generated_blocks p main)
   all_good p main q be te =
       let P = generated p main in
@@ -140,7 +140,7 @@ module _ (A : AProp) (N : ℕ → Type 0) (S : ATy → Type 0) (Q : TProp) (C : 
       let fs = firsts p.blocks at0 in
       let es = extras p 0 [] [] at main in
       let ss = seconds p p.blocks at0 in
-      let there = stands p main in
+      let there = blocks_at p main in
       let ok = args_below p q.blocks q.tuples in
       let both = firsts_good A N S Q C p P there.labels ok p.blocks at0 q.blocks be there.of_blocks in
       let main_extras =
@@ -211,7 +211,7 @@ module _ (p : AProg) where
 pub accepted : (p : AProg) (main : ATm) → TypedProgram p main → Accepted (generated p main)
 accepted p main q =
     let P = generated p main in
-    let there = stands p main in
+    let there = blocks_at p main in
     let ok = args_below p q.blocks q.tuples in (
       (refl, refl),
       tuples_ok p P there.labels p.tuples q.tuples,

@@ -21,7 +21,7 @@ use Rattle.t_gen_laws.specs.TypesEach.{HasEach, DataEach, HeapEach, tbinds}
 use Rattle.t_gen_laws.specs.TypesEach.{tbinds_file, tbinds_fields, TWithin, TypesWithin}
 use Rattle.t_gen_laws.proofs.Values.{All-of, Carried, Labels}
 use Rattle.t_gen_laws.proofs.Typed.{own_q, all_q, each_type, applied_each}
-use Rattle.t_gen_laws.proofs.Accepted.{constant_has, stands, good_each, all_good}
+use Rattle.t_gen_laws.proofs.Accepted.{constant_has, blocks_at, good_each, all_good}
 
 -- the reach of translated types
 mutual
@@ -222,7 +222,7 @@ module _ (N R B : ℕ) where
 pub types_within : TypesWithin
 types_within N R B p main q each =
     let P = generated p main in
-    let there = stands p main in
+    let there = blocks_at p main in
     let ok = args_below p q.blocks q.tuples in (
       good_each (AWithin N R B) (λ k. k ≤ N) (Part N R B) (TWithin N (R + 2) (N + B)) (carried N R B) p P there.labels
           ok (generated_blocks p main)

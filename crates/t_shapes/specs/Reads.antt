@@ -250,8 +250,8 @@ abbrev pub IsIndex : List Token → ℕ → Result FoundIndex Stopped → Type 0
 IsIndex ts i r = IsLine LIndex (λ f. i + 3) (λ f. OfIndex (ending f.field f.end)) ts 0 i r
 
 -- reg [ n ]
-abbrev pub IsPlace : List Token → ℕ → Result FoundPlace Stopped → Type 0
-IsPlace ts i r =
+abbrev pub IsRegField : List Token → ℕ → Result FoundPlace Stopped → Type 0
+IsRegField ts i r =
     IsLine LAt (λ f. i + 4) (λ f. OfAt (record { reg = f.reg; field = f.field; end = f.end })) ts 0 i r
 
 -- [ name , reg ]

@@ -1,6 +1,6 @@
 // The reading of what stands in brackets of instructions. There no construct is open around.
 ghost use Rattle.std.specs.Prelude.{◌≤◌, length};
-ghost use Rattle.t_shapes.specs.Reads.{IsIndex, IsPlace, IsTarget, IsInt, IsOperand};
+ghost use Rattle.t_shapes.specs.Reads.{IsIndex, IsRegField, IsTarget, IsInt, IsOperand};
 ghost use Rattle.t_text.specs.Kept.{tokens_of};
 
 use crate::{Stopped, expect, expect_index, expect_register, expect_two};
@@ -48,7 +48,7 @@ pub fn index(tokens: &Tokens, at: usize) -> Result<FoundIndex, Stopped>
 #[inline(always)]
 pub fn place(tokens: &Tokens, at: usize) -> Result<FoundPlace, Stopped>
     requires { at ≤ length (tokens_of tokens.now) }
-    ensures { IsPlace (tokens_of tokens.now) at result }
+    ensures { IsRegField (tokens_of tokens.now) at result }
 {
     let (reg, _) = expect_register(tokens, at)?;
     let found = index(tokens, at + 1)?;

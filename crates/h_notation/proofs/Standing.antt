@@ -4,7 +4,7 @@ use Rattle.std.proofs.Common.{map, Vec, Global, refl, sym, ◌∙◌, ap, ap₂,
 use Rattle.std.proofs.Common.{add-one}
 use Rattle.std.proofs.lemmas.List.{append-nil, take_more, map_push}
 use Rattle.std.proofs.Math.ListN.{drop_of_length-le}
-use Rattle.page_core.specs.Pieces.{text_at, Keeps, Stands}
+use Rattle.page_core.specs.Pieces.{text_at, Keeps, HasText}
 use Rattle.page_core.specs.declared.pieces.Pieces.{Pieces}
 use Rattle.c_terms.specs.C.{CTy}
 use Rattle.h_terms.specs.H.{HPack, HTuple, HVal}
@@ -14,39 +14,39 @@ use Rattle.page_core.specs.Names.{separator}
 use Rattle.page_core.proofs.Listed.{listed}
 use Rattle.h_notation.specs.Notation.{value_text, values_text}
 use Rattle.let_types.specs.TypeTexts.{pack_behind, pack_front}
-use Rattle.h_notation.specs.Values.{Stand, texts_of}
+use Rattle.h_notation.specs.Values.{HaveValues, texts_of}
 use Rattle.h_terms.proofs.Parts.{reads_push, at_last_push}
 
-pub stand_keeps : (p q : Pieces) (n m : ℕ) (xs : List ℕ) (vs : List HVal) → Keeps p q → Stand p n m xs vs →
-    Stand q n m xs vs
+pub stand_keeps : (p q : Pieces) (n m : ℕ) (xs : List ℕ) (vs : List HVal) → Keeps p q → HaveValues p n m xs vs →
+    HaveValues q n m xs vs
 stand_keeps p q n m [] [] k h = tt
 stand_keeps p q n m [] (v ∷ vs) k h = absurd h
 stand_keeps p q n m (x ∷ xs) [] k h = absurd h
 stand_keeps p q n m (x ∷ xs) (v ∷ vs) k h = (k x (value_text n m v) h.0, stand_keeps p q n m xs vs k h.1)
 
-stand_snoc : (p : Pieces) (n m : ℕ) (xs : List ℕ) (vs : List HVal) (x : ℕ) (v : HVal) → Stand p n m xs vs →
-    Stands p x (value_text n m v) → Stand p n m (xs ++ x ∷ []) (vs ++ v ∷ [])
+stand_snoc : (p : Pieces) (n m : ℕ) (xs : List ℕ) (vs : List HVal) (x : ℕ) (v : HVal) → HaveValues p n m xs vs →
+    HasText p x (value_text n m v) → HaveValues p n m (xs ++ x ∷ []) (vs ++ v ∷ [])
 stand_snoc p n m [] [] x v h s = (s, tt)
 stand_snoc p n m [] (w ∷ vs) x v h s = absurd h
 stand_snoc p n m (y ∷ xs) [] x v h s = absurd h
 stand_snoc p n m (y ∷ xs) (w ∷ vs) x v h s = (h.0, stand_snoc p n m xs vs x v h.1 s)
 
-stand_length : (p : Pieces) (n m : ℕ) (xs : List ℕ) (vs : List HVal) → Stand p n m xs vs → length xs ≡ length vs
+stand_length : (p : Pieces) (n m : ℕ) (xs : List ℕ) (vs : List HVal) → HaveValues p n m xs vs → length xs ≡ length vs
 stand_length p n m [] [] h = refl
 stand_length p n m [] (v ∷ vs) h = absurd h
 stand_length p n m (x ∷ xs) [] h = absurd h
 stand_length p n m (x ∷ xs) (v ∷ vs) h = ap suc (stand_length p n m xs vs h.1)
 
-stand_take : (k : ℕ) (p : Pieces) (n m : ℕ) (xs : List ℕ) (vs : List HVal) → Stand p n m xs vs →
-    Stand p n m (take k xs) (take k vs)
+stand_take : (k : ℕ) (p : Pieces) (n m : ℕ) (xs : List ℕ) (vs : List HVal) → HaveValues p n m xs vs →
+    HaveValues p n m (take k xs) (take k vs)
 stand_take zero p n m xs vs h = tt
 stand_take (suc k) p n m [] [] h = tt
 stand_take (suc k) p n m [] (v ∷ vs) h = absurd h
 stand_take (suc k) p n m (x ∷ xs) [] h = absurd h
 stand_take (suc k) p n m (x ∷ xs) (v ∷ vs) h = (h.0, stand_take k p n m xs vs h.1)
 
-stand_drop : (k : ℕ) (p : Pieces) (n m : ℕ) (xs : List ℕ) (vs : List HVal) → Stand p n m xs vs →
-    Stand p n m (drop k xs) (drop k vs)
+stand_drop : (k : ℕ) (p : Pieces) (n m : ℕ) (xs : List ℕ) (vs : List HVal) → HaveValues p n m xs vs →
+    HaveValues p n m (drop k xs) (drop k vs)
 stand_drop zero p n m xs vs h = h
 stand_drop (suc k) p n m [] [] h = tt
 stand_drop (suc k) p n m [] (v ∷ vs) h = absurd h
@@ -54,7 +54,7 @@ stand_drop (suc k) p n m (x ∷ xs) [] h = absurd h
 stand_drop (suc k) p n m (x ∷ xs) (v ∷ vs) h = stand_drop k p n m xs vs h.1
 
 -- the texts of all
-pub stand_texts : (p : Pieces) (n m : ℕ) (xs : List ℕ) (vs : List HVal) → Stand p n m xs vs →
+pub stand_texts : (p : Pieces) (n m : ℕ) (xs : List ℕ) (vs : List HVal) → HaveValues p n m xs vs →
     map (text_at p) xs ≡ map (value_text n m) vs
 stand_texts p n m [] [] h = refl
 stand_texts p n m [] (v ∷ vs) h = absurd h
@@ -62,22 +62,24 @@ stand_texts p n m (x ∷ xs) [] h = absurd h
 stand_texts p n m (x ∷ xs) (v ∷ vs) h = ap₂ (λ s t. s ∷ t) (h.0).is (stand_texts p n m xs vs h.1)
 
 -- the value of a piece
-stand_at : (p : Pieces) (n m i : ℕ) (xs : List ℕ) (vs : List HVal) (x : ℕ) → Stand p n m xs vs → x ≡ get_or xs i x →
-    i < length xs → (v : HVal) × (drop i vs ≡ v ∷ drop (suc i) vs) × Stands p x (value_text n m v)
+stand_at : (p : Pieces) (n m i : ℕ) (xs : List ℕ) (vs : List HVal) (x : ℕ) → HaveValues p n m xs vs →
+    x ≡ get_or xs i x → i < length xs →
+    (v : HVal) × (drop i vs ≡ v ∷ drop (suc i) vs) × HasText p x (value_text n m v)
 stand_at p n m i [] vs x h is lt = absurd (omega (arith, lt))
 stand_at p n m i (y ∷ xs) [] x h is lt = absurd h
-stand_at p n m zero (y ∷ xs) (v ∷ vs) x h is lt = (v, refl, subst (λ z. Stands p z (value_text n m v)) (sym is) h.0)
+stand_at p n m zero (y ∷ xs) (v ∷ vs) x h is lt = (v, refl, subst (λ z. HasText p z (value_text n m v)) (sym is) h.0)
 stand_at p n m (suc i) (y ∷ xs) (v ∷ vs) x h is lt = stand_at p n m i xs vs x h.1 is (omega (arith, lt))
 
 -- one more value
 pub put_done : (p q : Pieces) (n m : ℕ) (xs ys : List ℕ) (x : ℕ) (vs : List HVal) (v : HVal) (s : List ℕ) → Keeps p q →
-    Stands q x s → ys ≡ xs ++ x ∷ [] → s ≡ value_text n m v → Stand p n m xs vs → Stand q n m ys (vs ++ v ∷ [])
+    HasText q x s → ys ≡ xs ++ x ∷ [] → s ≡ value_text n m v → HaveValues p n m xs vs →
+    HaveValues q n m ys (vs ++ v ∷ [])
 put_done p q n m xs ys x vs v s k st e is h =
-    subst (λ zs. Stand q n m zs (vs ++ v ∷ [])) (sym e)
-    (stand_snoc q n m xs vs x v (stand_keeps p q n m xs vs k h) (subst (λ t. Stands q x t) is st))
+    subst (λ zs. HaveValues q n m zs (vs ++ v ∷ [])) (sym e)
+    (stand_snoc q n m xs vs x v (stand_keeps p q n m xs vs k h) (subst (λ t. HasText q x t) is st))
 
-stand_last : (p : Pieces) (n m : ℕ) (xs : List ℕ) (x : ℕ) (vs : List HVal) → Stand p n m (xs ++ x ∷ []) vs →
-    (us : List HVal) × (v : HVal) × (vs ≡ us ++ v ∷ []) × Stand p n m xs us × Stands p x (value_text n m v)
+stand_last : (p : Pieces) (n m : ℕ) (xs : List ℕ) (x : ℕ) (vs : List HVal) → HaveValues p n m (xs ++ x ∷ []) vs →
+    (us : List HVal) × (v : HVal) × (vs ≡ us ++ v ∷ []) × HaveValues p n m xs us × HasText p x (value_text n m v)
 stand_last p n m [] x [] h = absurd h
 stand_last p n m [] x (v ∷ []) h = ([], v, refl, tt, h.0)
 stand_last p n m [] x (v ∷ w ∷ vs) h = absurd h.1
@@ -87,16 +89,16 @@ stand_last p n m (y ∷ xs) x (v ∷ vs) h =
 
 pub wrap_done : (p q : Pieces) (n m : ℕ) (xs ys zs : List ℕ) (inner whole : ℕ) (vs : List HVal) (f : HVal → HVal)
     (before behind : List ℕ) → xs ≡ ys ++ inner ∷ [] → Keeps p q →
-    ((s : List ℕ) → Stands p inner s → Stands q whole (before ++ (s ++ behind))) → zs ≡ ys ++ whole ∷ [] →
-    ((v : HVal) → value_text n m (f v) ≡ before ++ (value_text n m v ++ behind)) → Stand p n m xs vs →
-    Stand q n m zs (at_last f vs)
+    ((s : List ℕ) → HasText p inner s → HasText q whole (before ++ (s ++ behind))) → zs ≡ ys ++ whole ∷ [] →
+    ((v : HVal) → value_text n m (f v) ≡ before ++ (value_text n m v ++ behind)) → HaveValues p n m xs vs →
+    HaveValues q n m zs (at_last f vs)
 wrap_done p q n m xs ys zs inner whole vs f before behind e k st more is h =
-    let r = stand_last p n m ys inner vs (subst (λ us. Stand p n m us vs) e h) in
-    let last = subst (λ t. Stands q whole t) (sym (is r.1)) (st (value_text n m r.1) r.4) in
+    let r = stand_last p n m ys inner vs (subst (λ us. HaveValues p n m us vs) e h) in
+    let last = subst (λ t. HasText q whole t) (sym (is r.1)) (st (value_text n m r.1) r.4) in
     let all = stand_snoc q n m ys r.0 whole (f r.1) (stand_keeps p q n m ys r.0 k r.3) last in
     let same : at_last f vs ≡ r.0 ++ f r.1 ∷ [] = ap (at_last f) r.2 ∙ at_last_push f r.0 r.1 in
-    subst (λ us. Stand q n m us (at_last f vs)) (sym more)
-    (subst (λ us. Stand q n m (ys ++ whole ∷ []) us) (sym same) all)
+    subst (λ us. HaveValues q n m us (at_last f vs)) (sym more)
+    (subst (λ us. HaveValues q n m (ys ++ whole ∷ []) us) (sym same) all)
 
 pub pack_text : (n m : ℕ) (v : HVal) (h s : CTy) (before behind : List ℕ) →
     before ≡ pack_front n h → behind ≡ pack_behind n s →
@@ -105,9 +107,9 @@ pack_text n m v h s before behind e f = sym (ap₂ (λ (a b : List ℕ). a ++ (v
 
 -- the last values become a tuple
 pub tuple_done : (p q : Pieces) (n m from k : ℕ) (xs ys zs : List ℕ) (whole : ℕ) (vs : List HVal) → Keeps p q →
-    from ≡ length xs - k → ((us : List HVal) → Stand p n m (drop from xs) us →
-    Stands q whole (value_text n m (HTuple (tied us)))) → ys ≡ take from xs → zs ≡ ys ++ whole ∷ [] →
-    Stand p n m xs vs → Stand q n m zs (tupled k vs)
+    from ≡ length xs - k → ((us : List HVal) → HaveValues p n m (drop from xs) us →
+    HasText q whole (value_text n m (HTuple (tied us)))) → ys ≡ take from xs → zs ≡ ys ++ whole ∷ [] →
+    HaveValues p n m xs vs → HaveValues q n m zs (tupled k vs)
 tuple_done p q n m from k xs ys zs whole vs keep is st e f h =
     let many = stand_length p n m xs vs h in
     let same : from ≡ length vs - k = is ∙ ap (λ l. l - k) many in
@@ -115,8 +117,8 @@ tuple_done p q n m from k xs ys zs whole vs keep is st e f h =
     (stand_keeps p q n m (take from xs) (take from vs) keep (stand_take from p n m xs vs h))
     (st (drop from vs) (stand_drop from p n m xs vs h)) in
     let stack : zs ≡ take from xs ++ whole ∷ [] = f ∙ ap (λ (us : List ℕ). us ++ whole ∷ []) e in
-    subst (λ us. Stand q n m us (tupled k vs)) (sym stack)
-    (subst (λ j. Stand q n m (take from xs ++ whole ∷ []) (take j vs ++ HTuple (tied (drop j vs)) ∷ [])) same all)
+    subst (λ us. HaveValues q n m us (tupled k vs)) (sym stack)
+    (subst (λ j. HaveValues q n m (take from xs ++ whole ∷ []) (take j vs ++ HTuple (tied (drop j vs)) ∷ [])) same all)
 
 -- the fields of a tuple
 abbrev pub value_item : ℕ → ℕ → ℕ → HVal → List ℕ
@@ -131,12 +133,12 @@ values_listed i n m (v ∷ vs) =
 -- what the loop over the fields keeps: the piece so far, and what is left
 pub record Joining (p q : Pieces) (fields : List ℕ) (i piece : ℕ) : Type 0 where
   pub keeps : Keeps p q
-  pub left : (n m : ℕ) (vs : List HVal) → Stand p n m fields vs → (s : List ℕ) × Stands q piece s
+  pub left : (n m : ℕ) (vs : List HVal) → HaveValues p n m fields vs → (s : List ℕ) × HasText q piece s
       × (s ++ listed (value_item n m) i (drop i vs) ≡ codes "<" ++ listed (value_item n m) 0 vs)
 
 pub joining_more : (p q r : Pieces) (fields : List ℕ) (i piece x next : ℕ) → x ≡ get_or fields i x → i < length fields →
     Joining p q fields i piece → Keeps q r →
-    ((s t : List ℕ) → Stands q piece s → Stands q x t → Stands r next (s ++ (separator i ++ t))) →
+    ((s t : List ℕ) → HasText q piece s → HasText q x t → HasText r next (s ++ (separator i ++ t))) →
     Joining p r fields (i + 1) next
 joining_more p q r fields i piece x next is lt h k st = record {
   keeps = λ y s stands. k y s (h.keeps y s stands);
@@ -156,9 +158,9 @@ joining_more p q r fields i piece x next is lt h k st = record {
 }
 
 pub joining_end : (p q r s : Pieces) (fields : List ℕ) (i piece close whole : ℕ) (t : List ℕ) → length fields ≤ i →
-    Joining p q fields i piece → t ≡ codes ">" → Keeps q r → Stands r close t →
-    ((u w : List ℕ) → Stands r piece u → Stands r close w → Stands s whole (u ++ w)) →
-    (n m : ℕ) (vs : List HVal) → Stand p n m fields vs → Stands s whole (value_text n m (HTuple (tied vs)))
+    Joining p q fields i piece → t ≡ codes ">" → Keeps q r → HasText r close t →
+    ((u w : List ℕ) → HasText r piece u → HasText r close w → HasText s whole (u ++ w)) →
+    (n m : ℕ) (vs : List HVal) → HaveValues p n m fields vs → HasText s whole (value_text n m (HTuple (tied vs)))
 joining_end p q r s fields i piece close whole t le h is k last st n m vs all =
     let l = h.left n m vs all in
     let many = stand_length p n m fields vs all in
@@ -168,7 +170,7 @@ joining_end p q r s fields i piece close whole t le h is k last st n m vs all =
     ∙ ap (λ (u : List ℕ). codes "<" ++ u) (sym (values_listed 0 n m vs)) in
     let same : l.0 ++ t ≡ codes "<" ++ (values_text 0 n m (tied vs) ++ codes ">") =
     ap₂ (λ (u w : List ℕ). u ++ w) e is ∙ append_assoc (codes "<") (values_text 0 n m (tied vs)) (codes ">") in
-    subst (λ u. Stands s whole u) same (st l.0 t (k piece l.0 l.1) last)
+    subst (λ u. HasText s whole u) same (st l.0 t (k piece l.0 l.1) last)
 
 -- one part more
 pub reads_more : (ps : List HPart) (i : ℕ) (p : HPart) → p ≡ get_or ps i p → i < length ps →

@@ -1,7 +1,7 @@
 -- What pieces of text stand for, and the lines of nodes by the texts of their values.
 use Rattle.std.specs.Prelude.{ℕ, suc, List, [], ◌∷◌, ◌++◌, Vec, codes, decimal}
 use Rattle.std.specs.declared.alloc.Global.{Global}
-use Rattle.page_core.specs.Pieces.{Stands}
+use Rattle.page_core.specs.Pieces.{HasText}
 use Rattle.page_core.specs.declared.pieces.Pieces.{Pieces}
 use Rattle.c_terms.specs.C.{CTys}
 use Rattle.c_terms.specs.Read.{ctys}
@@ -14,11 +14,11 @@ use Rattle.page_core.specs.Names.{op_sign, separator, type_name, value_name}
 use Rattle.h_notation.specs.Notation.{let_text, value_text}
 
 -- pieces that have the texts of these values inside n type names and m value names
-abbrev pub Stand : Pieces → ℕ → ℕ → List ℕ → List HVal → Type 0
-Stand p n m [] [] = Unit {0}
-Stand p n m [] (v ∷ vs) = ⊥
-Stand p n m (x ∷ xs) [] = ⊥
-Stand p n m (x ∷ xs) (v ∷ vs) = Stands p x (value_text n m v) × Stand p n m xs vs
+abbrev pub HaveValues : Pieces → ℕ → ℕ → List ℕ → List HVal → Type 0
+HaveValues p n m [] [] = Unit {0}
+HaveValues p n m [] (v ∷ vs) = ⊥
+HaveValues p n m (x ∷ xs) [] = ⊥
+HaveValues p n m (x ∷ xs) (v ∷ vs) = HasText p x (value_text n m v) × HaveValues p n m xs vs
 
 -- some texts
 abbrev pub texts_of : List (Vec ℕ Global) → List (List ℕ)

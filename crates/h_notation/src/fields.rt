@@ -3,9 +3,9 @@ ghost use Rattle.std.specs.Prelude.{◌++◌, ℕ, List, IfOk, OnOk};
 ghost use Rattle.h_terms.specs.H.{HTuple, HVal};
 ghost use Rattle.h_terms.specs.Nodes.{tied, tupled};
 ghost use Rattle.page_core.specs.Names.{separator};
-ghost use Rattle.page_core.specs.Pieces.{Keeps, Stands};
+ghost use Rattle.page_core.specs.Pieces.{Keeps, HasText};
 ghost use Rattle.h_notation.specs.Notation.{value_text};
-ghost use Rattle.h_notation.specs.Values.{Stand};
+ghost use Rattle.h_notation.specs.Values.{HaveValues};
 
 use idx_core::OutOfMemory;
 use page_core::{Pieces, write_separator};
@@ -20,8 +20,8 @@ fn join_field(
     before: u64,
 ) -> Result<u64, OutOfMemory>
     ensures keeps { OnOk result (Keeps pieces.old pieces.new) }
-    ensures stands { IfOk result (λ whole. (s t : List ℕ) → Stands pieces.old piece s → Stands pieces.old field t →
-        Stands pieces.new whole (s ++ (separator before ++ t))) }
+    ensures stands { IfOk result (λ whole. (s t : List ℕ) → HasText pieces.old piece s → HasText pieces.old field t →
+        HasText pieces.new whole (s ++ (separator before ++ t))) }
 {
     let mut comma = Vec::new(alloc);
     write_separator(&mut comma, before)?;
@@ -34,8 +34,8 @@ fn join_field(
 // The piece of a tuple of these fields.
 fn join_fields(alloc: Global, pieces: &mut Pieces, fields: &[u64]) -> Result<u64, OutOfMemory>
     ensures keeps { OnOk result (Keeps pieces.old pieces.new) }
-    ensures stands { IfOk result (λ whole. (n m : ℕ) (vs : List HVal) → Stand pieces.old n m fields.now vs →
-        Stands pieces.new whole (value_text n m (HTuple (tied vs)))) }
+    ensures stands { IfOk result (λ whole. (n m : ℕ) (vs : List HVal) → HaveValues pieces.old n m fields.now vs →
+        HasText pieces.new whole (value_text n m (HTuple (tied vs)))) }
 {
     let open_angle = Vec::from_slice(alloc, b"<")?;
     let mut piece = pieces.bytes(open_angle)?;
@@ -55,8 +55,8 @@ pub(crate) fn put_tuple(
     stack: &mut Vec<u64>,
     count: u64,
 ) -> Result<(), OutOfMemory>
-    ensures { OnOk result ((n m : ℕ) (vs : List HVal) → Stand pieces.old n m stack.old.items vs →
-        Stand pieces.new n m stack.new.items (tupled count vs)) }
+    ensures { OnOk result ((n m : ℕ) (vs : List HVal) → HaveValues pieces.old n m stack.old.items vs →
+        HaveValues pieces.new n m stack.new.items (tupled count vs)) }
 {
     let from = stack.len().saturating_sub(count as usize);
     let whole = join_fields(alloc, pieces, &stack[from..])?;

@@ -5,9 +5,9 @@ ghost use Rattle.let_types.specs.TypeTexts.{type_text};
 ghost use Rattle.h_terms.specs.H.{HVal};
 ghost use Rattle.h_terms.specs.Nodes.{at_last, more, reads};
 ghost use Rattle.page_core.specs.Names.{number, value_name};
-ghost use Rattle.page_core.specs.Pieces.{text_at, Keeps, Stands};
+ghost use Rattle.page_core.specs.Pieces.{text_at, Keeps, HasText};
 ghost use Rattle.h_notation.specs.Notation.{value_text};
-ghost use Rattle.h_notation.specs.Values.{Stand, texts_of};
+ghost use Rattle.h_notation.specs.Values.{HaveValues, texts_of};
 
 use crate::fields::put_tuple;
 use crate::scope::Scope;
@@ -45,7 +45,7 @@ fn label_text(alloc: Global, label: u64) -> Result<Vec<u8>, OutOfMemory>
 // One more value.
 fn put(pieces: &mut Pieces, stack: &mut Vec<u64>, text: Vec<u8>) -> Result<(), OutOfMemory>
     ensures { OnOk result ((n m : ℕ) (vs : List HVal) (v : HVal) → text.items ≡ value_text n m v →
-        Stand pieces.old n m stack.old.items vs → Stand pieces.new n m stack.new.items (vs ++ v ∷ [])) }
+        HaveValues pieces.old n m stack.old.items vs → HaveValues pieces.new n m stack.new.items (vs ++ v ∷ [])) }
 {
     let piece = pieces.bytes(text)?;
     stack.push(piece)?;
@@ -60,8 +60,8 @@ fn around(
     behind: Vec<u8>,
 ) -> Result<u64, OutOfMemory>
     ensures keeps { OnOk result (Keeps pieces.old pieces.new) }
-    ensures stands { IfOk result (λ whole. (s : List ℕ) → Stands pieces.old inner s →
-        Stands pieces.new whole (before.items ++ (s ++ behind.items))) }
+    ensures stands { IfOk result (λ whole. (s : List ℕ) → HasText pieces.old inner s →
+        HasText pieces.new whole (before.items ++ (s ++ behind.items))) }
 {
     let first = pieces.bytes(before)?;
     let last = pieces.bytes(behind)?;
@@ -79,7 +79,7 @@ fn wrap(
 ) -> Result<(), OutOfMemory>
     ensures { OnOk result ((n m : ℕ) (vs : List HVal) (f : HVal → HVal) →
         ((v : HVal) → value_text n m (f v) ≡ before.items ++ (value_text n m v ++ behind.items)) →
-        Stand pieces.old n m stack.old.items vs → Stand pieces.new n m stack.new.items (at_last f vs)) }
+        HaveValues pieces.old n m stack.old.items vs → HaveValues pieces.new n m stack.new.items (at_last f vs)) }
 {
     match stack.pop() {
         None => Ok(()),
@@ -100,8 +100,8 @@ fn put_part(
     scope: &Scope,
 ) -> Result<(), OutOfMemory>
     ensures { OnOk result ((vs : List HVal) →
-        Stand pieces.old scope.now.types scope.now.names stack.old.items vs →
-        Stand pieces.new scope.now.types scope.now.names stack.new.items (more part.now vs)) }
+        HaveValues pieces.old scope.now.types scope.now.names stack.old.items vs →
+        HaveValues pieces.new scope.now.types scope.now.names stack.new.items (more part.now vs)) }
 {
     match part {
         HPart::Var(i) => {

@@ -1,12 +1,12 @@
 -- Pages on which a body begins, ends, or comes to its second branch.
 use Rattle.std.proofs.Common.{◌≡◌, ℕ, ◌+◌, List, [], ◌∷◌, ◌++◌, codes, refl, sym, ap, ◌∙◌, subst, false}
 use Rattle.page_core.specs.Names.{margin}
-use Rattle.page_core.specs.Pieces.{Keeps, Stands}
+use Rattle.page_core.specs.Pieces.{Keeps, HasText}
 use Rattle.page_core.specs.declared.pieces.Pieces.{Pieces}
 use Rattle.kc_notation.specs.declared.page.Scope.{Scope}
 use Rattle.kc_notation.specs.declared.page.Body.{Body}
 use Rattle.kc_notation.specs.declared.page.Page.{Page}
-use Rattle.kc_notation.specs.Standing.{Stand, IsBody, AreBodies, IsPage, IsShut}
+use Rattle.kc_notation.specs.Standing.{HaveTexts, IsBody, AreBodies, IsPage, IsShut}
 use Rattle.kc_notation.specs.ClosedWalk.{Lines, Sheet, lines, scope_of, push, shut, opened, leave, turn}
 use Rattle.kc_notation.proofs.Pages.{keeps_body, keeps_bodies}
 
@@ -29,9 +29,9 @@ module _ (g k s new : Page) (outer : Body) (q r : Pieces) (text end code : ℕ) 
     (items : g.around.items ≡ outer ∷ k.around.items)
     (shuts : (o : Sheet) → IsPage (record g { around = k.around }) o →
     IsShut s o text) (first : Keeps g.pieces s.pieces)
-    (is : line ≡ margin outer.scope.indent ++ codes "}") (second : Keeps s.pieces q) (stands : Stands q end line)
-    (third : Keeps q r) (joins : (a b : List ℕ) → Stands q text a → Stands q end b → Stands r code (a ++ b))
-    (pushes : (o : Sheet) (v : List ℕ) → IsPage (record s { pieces = r; body = outer }) o → Stands r code v →
+    (is : line ≡ margin outer.scope.indent ++ codes "}") (second : Keeps s.pieces q) (stands : HasText q end line)
+    (third : Keeps q r) (joins : (a b : List ℕ) → HasText q text a → HasText q end b → HasText r code (a ++ b))
+    (pushes : (o : Sheet) (v : List ℕ) → IsPage (record s { pieces = r; body = outer }) o → HasText r code v →
     IsPage new (push o v))
     (h : IsPage g p) where
   later : Keeps s.pieces r
@@ -50,7 +50,7 @@ module _ (g k s new : Page) (outer : Body) (q r : Pieces) (text end code : ℕ) 
         body = keeps_body g.pieces r (λ i t st. later i t (first i t st)) outer b are.0;
         around = keeps_bodies s.pieces r later s.around.items bs shut_page.page.around;
       })
-      (subst (λ (e : List ℕ). Stands r code (shut p.body ++ e)) margin_is
+      (subst (λ (e : List ℕ). HasText r code (shut p.body ++ e)) margin_is
       (joins (shut p.body) line (second text (shut p.body) shut_page.text) stands))
 
   pub leave_page : IsPage new (leave p p.around)
@@ -60,8 +60,8 @@ pub turn_page : (g k s e : Page) (scope : Scope) (q r : Pieces) (text end whole 
     →
     g.body.branches.items ≡ scope ∷ k.body.branches.items →
     ((o : Sheet) → IsPage (record g { body = record g.body { branches = k.body.branches } }) o → IsShut s o text) →
-    line ≡ margin scope.indent ++ codes "else\n" → indent ≡ scope.indent + 1 → Keeps s.pieces q → Stands q end line →
-    Keeps q r → ((a b : List ℕ) → Stands q text a → Stands q end b → Stands r whole (a ++ b)) →
+    line ≡ margin scope.indent ++ codes "else\n" → indent ≡ scope.indent + 1 → Keeps s.pieces q → HasText q end line →
+    Keeps q r → ((a b : List ℕ) → HasText q text a → HasText q end b → HasText r whole (a ++ b)) →
     e.body.values.items ≡ [] → IsPage g p →
     IsPage (record {
       alloc = s.alloc;
@@ -108,9 +108,9 @@ turn_page g k s e scope q r text end whole indent line p items shuts is deep sec
       empty = later s.empty [] shut_page.page.empty;
       body = record {
         text =
-            subst (λ (x : List ℕ). Stands r whole (shut p.body ++ x)) is
+            subst (λ (x : List ℕ). HasText r whole (shut p.body ++ x)) is
             (joins (shut p.body) line (second text (shut p.body) shut_page.text) stands);
-        values = subst (λ is. Stand r is []) (sym none) tt;
+        values = subst (λ is. HaveTexts r is []) (sym none) tt;
         called = refl;
         scope = ap (scope_of scope.types) deep;
         branches = shut_page.page.body.branches;

@@ -1,6 +1,6 @@
 // Codes and branches.
 ghost use Rattle.std.specs.Prelude.{◌≡◌, ◌++◌, ℕ, IfOk, OnOk};
-ghost use Rattle.page_core.specs.Pieces.{Keeps, Stands};
+ghost use Rattle.page_core.specs.Pieces.{Keeps, HasText};
 ghost use Rattle.c_terms.specs.Read.{ctys};
 ghost use Rattle.kc_notation.specs.Standing.{IsPage, IsShut};
 ghost use Rattle.kc_notation.specs.ClosedWalk.{Sheet, enter, leave, opened, shut, turn};

@@ -1,7 +1,7 @@
 // Pieces put together.
 ghost use Rattle.std.specs.Prelude.{◌++◌, ℕ, List, IfOk, OnOk};
 ghost use Rattle.page_core.specs.Names.{separator};
-ghost use Rattle.page_core.specs.Pieces.{Keeps, Stands};
+ghost use Rattle.page_core.specs.Pieces.{Keeps, HasText};
 
 use idx_core::OutOfMemory;
 use page_core::{Pieces, write_separator};
@@ -10,7 +10,7 @@ use std::alloc::Global;
 // A piece of these bytes.
 pub(crate) fn piece_of(alloc: Global, pieces: &mut Pieces, text: &[u8]) -> Result<u64, OutOfMemory>
     ensures keeps { OnOk result (Keeps pieces.old pieces.new) }
-    ensures stands { IfOk result (λ piece. Stands pieces.new piece text.now) }
+    ensures stands { IfOk result (λ piece. HasText pieces.new piece text.now) }
 {
     let bytes = Vec::from_slice(alloc, text)?;
     let piece = pieces.bytes(bytes)?;
@@ -25,8 +25,8 @@ pub(crate) fn joined(
     second: u64,
 ) -> Result<u64, OutOfMemory>
     ensures keeps { OnOk result (Keeps pieces.old pieces.new) }
-    ensures stands { IfOk result (λ piece. (s t : List ℕ) → Stands pieces.old first s → Stands pieces.old second t →
-        Stands pieces.new piece (s ++ (bytes.items ++ t))) }
+    ensures stands { IfOk result (λ piece. (s t : List ℕ) → HasText pieces.old first s → HasText pieces.old second t →
+        HasText pieces.new piece (s ++ (bytes.items ++ t))) }
 {
     let middle = pieces.bytes(bytes)?;
     let behind = pieces.joined(middle, second)?;
@@ -43,8 +43,8 @@ pub(crate) fn listed(
     behind: u64,
 ) -> Result<u64, OutOfMemory>
     ensures keeps { OnOk result (Keeps pieces.old pieces.new) }
-    ensures stands { IfOk result (λ piece. (s t : List ℕ) → Stands pieces.old value s → Stands pieces.old behind t →
-        Stands pieces.new piece (s ++ (separator already ++ t))) }
+    ensures stands { IfOk result (λ piece. (s t : List ℕ) → HasText pieces.old value s → HasText pieces.old behind t →
+        HasText pieces.new piece (s ++ (separator already ++ t))) }
 {
     let mut between = Vec::new(alloc);
     write_separator(&mut between, already)?;
@@ -60,8 +60,8 @@ pub(crate) fn wrapped(
     behind: Vec<u8>,
 ) -> Result<u64, OutOfMemory>
     ensures keeps { OnOk result (Keeps pieces.old pieces.new) }
-    ensures stands { IfOk result (λ piece. (s : List ℕ) → Stands pieces.old inner s →
-        Stands pieces.new piece (front.items ++ (s ++ behind.items))) }
+    ensures stands { IfOk result (λ piece. (s : List ℕ) → HasText pieces.old inner s →
+        HasText pieces.new piece (front.items ++ (s ++ behind.items))) }
 {
     let end = pieces.bytes(behind)?;
     let ended = pieces.joined(inner, end)?;

@@ -1,6 +1,6 @@
 // The values that wait.
 ghost use Rattle.std.specs.Prelude.{◌≡◌, ◌++◌, ℕ, List, IfOk, OnOk};
-ghost use Rattle.page_core.specs.Pieces.{Keeps, Stands};
+ghost use Rattle.page_core.specs.Pieces.{Keeps, HasText};
 ghost use Rattle.kc_notation.specs.Standing.{IsPage, Taken};
 ghost use Rattle.kc_notation.specs.ClosedWalk.{Sheet, last, gathered, past, with_values, push, popped, tuple, wrap};
 ghost use Rattle.kc_notation.specs.ClosedWalk.{pair};
@@ -12,7 +12,7 @@ use idx_core::OutOfMemory;
 impl Page {
     // One more value.
     pub(crate) fn push(&mut self, value: u64) -> Result<(), OutOfMemory>
-        ensures { OnOk result ((p : Sheet) (s : List ℕ) → IsPage self.old p → Stands self.old.pieces value s →
+        ensures { OnOk result ((p : Sheet) (s : List ℕ) → IsPage self.old p → HasText self.old.pieces value s →
             IsPage self.new (push p s)) }
     {
         self.body.values.push_front(value)?;
@@ -31,7 +31,7 @@ impl Page {
     pub(crate) fn pop(&mut self) -> u64
         ensures pieces { self.new.pieces ≡ self.old.pieces }
         ensures popped { (p : Sheet) → IsPage self.old p →
-            IsPage self.new (popped p) × Stands self.new.pieces result (last p.body.values) }
+            IsPage self.new (popped p) × HasText self.new.pieces result (last p.body.values) }
     {
         match self.take() {
             Some(value) => value,
@@ -43,9 +43,9 @@ impl Page {
     pub(crate) fn gather(&mut self, count: u64, end: u64) -> Result<u64, OutOfMemory>
         ensures keeps { OnOk result (Keeps self.old.pieces self.new.pieces) }
         ensures gathered { IfOk result (λ whole. (p : Sheet) (s : List ℕ) → IsPage self.old p →
-            Stands self.old.pieces end s →
+            HasText self.old.pieces end s →
             IsPage self.new (with_values p (past count p.body.values))
-            × Stands self.new.pieces whole (gathered count 0 p.body.values s)) }
+            × HasText self.new.pieces whole (gathered count 0 p.body.values s)) }
     {
         let mut whole = end;
         for i in 0..count {

@@ -2,7 +2,7 @@
 use Rattle.std.proofs.Common.{◌≡◌, ℕ, List, [], ◌∷◌, ◌++◌, length, get_or, ap, ap₂, ◌∙◌, arith}
 use Rattle.std.proofs.lemmas.List.{length-append, get_or_append_left}
 use Rattle.std.proofs.Math.Seq.{get_or-append_seam}
-use Rattle.page_core.specs.Pieces.{Stands, Keeps, texts_of}
+use Rattle.page_core.specs.Pieces.{HasText, Keeps, texts_of}
 use Rattle.page_core.specs.Texts.{text_in, texts}
 use Rattle.page_core.specs.declared.piece.Piece.{Piece}
 use Rattle.page_core.specs.declared.pieces.Pieces.{Pieces}
@@ -27,7 +27,7 @@ kept p q x e i s h =
     }
 
 pub stands_new : (p q : Pieces) (x : Piece) (n : ℕ) (s : List ℕ) → q.pieces.items ≡ p.pieces.items ++ x ∷ [] →
-    n ≡ length p.pieces.items → text_in (texts_of p) x ≡ s → Stands q n s
+    n ≡ length p.pieces.items → text_in (texts_of p) x ≡ s → HasText q n s
 stands_new p q x n s e at is =
     let m = more p.pieces.items q.pieces.items x e in
     let l : n ≡ length (texts_of p) = omega (arith, at, grown_length text_in [] p.pieces.items) in

@@ -12,10 +12,10 @@ abbrev pub text_at : Pieces → ℕ → List ℕ
 text_at p i = slice_index_or (texts_of p) i []
 
 -- there is a piece with this number, and it has this text
-pub record Stands (p : Pieces) (piece : ℕ) (s : List ℕ) : Type 0 where
+pub record HasText (p : Pieces) (piece : ℕ) (s : List ℕ) : Type 0 where
   pub inside : piece < length (texts_of p)
   pub is : text_at p piece ≡ s
 
 -- what the pieces of p stand for, they stand for in q
 abbrev pub Keeps : Pieces → Pieces → Type 0
-Keeps p q = (piece : ℕ) (s : List ℕ) → Stands p piece s → Stands q piece s
+Keeps p q = (piece : ℕ) (s : List ℕ) → HasText p piece s → HasText q piece s

@@ -1,6 +1,6 @@
 // An arena of pieces, which only grows.
 ghost use Rattle.std.specs.Prelude.{◌≡◌, [], List, ℕ, IfOk, OnOk, ◌++◌};
-ghost use Rattle.page_core.specs.Pieces.{text_at, texts_of, Keeps, Stands};
+ghost use Rattle.page_core.specs.Pieces.{text_at, texts_of, Keeps, HasText};
 
 use crate::piece::Piece;
 use crate::spelling::spell;
@@ -28,7 +28,7 @@ impl Pieces {
     /// A new piece with these bytes, by its number. Errors: want of memory.
     pub fn bytes(&mut self, bytes: Vec<u8>) -> Result<u64, OutOfMemory>
         ensures keeps { OnOk result (Keeps self.old self.new) }
-        ensures stands { IfOk result (λ piece. Stands self.new piece bytes.items) }
+        ensures stands { IfOk result (λ piece. HasText self.new piece bytes.items) }
     {
         let number = self.pieces.len() as u64;
         self.pieces.push(Piece::Bytes(bytes))?;
@@ -38,8 +38,8 @@ impl Pieces {
     /// A new piece, by its number: the first of two pieces, and the second behind it. Errors: want of memory.
     pub fn joined(&mut self, first: u64, second: u64) -> Result<u64, OutOfMemory>
         ensures keeps { OnOk result (Keeps self.old self.new) }
-        ensures stands { IfOk result (λ piece. (s t : List ℕ) → Stands self.old first s → Stands self.old second t →
-            Stands self.new piece (s ++ t)) }
+        ensures stands { IfOk result (λ piece. (s t : List ℕ) → HasText self.old first s → HasText self.old second t →
+            HasText self.new piece (s ++ t)) }
     {
         let number = self.pieces.len() as u64;
         self.pieces.push(Piece::Joined(first, second))?;

@@ -10,7 +10,8 @@ returns-clause-stands c =
     ∥∥₁_map c.args.program.now.bound
     (λ h. stands c.allocation_stands_for_its_program.ensures (blocks_in c.args.program.now)
     (main_in c.args.program.now) (a.program_in made) (a.main_in made) c.in_ok-made.ensures.program
-    c.in_ok-made.ensures.main (typed c.h_within_is_typed_law.ensures (blocks_in c.args.program.now) (main_in c.args.program.now) h))
+    c.in_ok-made.ensures.main
+    (typed c.h_within_is_typed_law.ensures (blocks_in c.args.program.now) (main_in c.args.program.now) h))
 
 pub returns-clause-bound : goal.returns-clause-bound
 returns-clause-bound c =

@@ -18,8 +18,8 @@ new-requires-clause-bound c =
     let ed = c.in_ok-main.ensures.keeps
     ∙ ap (λ z. z ++ data_t g [] [] (length c.all_blocks.new.tuples.items) 0 m) c.in_ok-blocks.ensures.keeps in
     ∥∥₁_map c.blocks-given.ensures.bound
-    (λ h. bounded (blocks_in c.args.program.now) (main_in c.args.program.now) c.in_ok-blocks.blocks.items _ c.main_term.new.tuples.items _ c.in_ok-main.main.items _
-    c.bounds_are_kept.ensures h
+    (λ h. bounded (blocks_in c.args.program.now) (main_in c.args.program.now) c.in_ok-blocks.blocks.items _
+    c.main_term.new.tuples.items _ c.in_ok-main.main.items _ c.bounds_are_kept.ensures h
     (program_is g _ m _ c.in_ok-blocks.blocks.items c.main_term.new.tuples.items _ c.blocks-given.ensures.same
     c.main.ensures.same c.in_ok-blocks.ensures.made ed n)
     (main_is g _ m _ _ _ c.blocks-given.ensures.same c.main.ensures.same c.in_ok-main.ensures.tree n)

@@ -1,6 +1,6 @@
 use Rattle.std.proofs.Common.{◌≡◌, ◌≤◌, ◌-◌, ℕ, List, length, length-drop, drop, take, arith, ap, subst, sym, ◌∙◌}
 use Rattle.std.proofs.lemmas.List.{take_all}
-use Rattle.h_notation.specs.Values.{Stand}
+use Rattle.h_notation.specs.Values.{HaveValues}
 use Rattle.h_notation.proofs.Standing.{tuple_done}
 use Rattle.h_notation.proofs.fields.put_tuple.Goals as goal
 
@@ -18,6 +18,6 @@ returns c = λ n m vs h.
     tuple_done c.args.pieces.now c.join_fields.new.pieces n m from c.args.count c.args.stack.now.items
     c.truncate.new.self.items c.push.new.self.items c.in_ok-whole.whole vs c.in_ok-whole.ensures.keeps many
     (λ us s. c.in_ok-whole.ensures.stands n m us
-    (subst (λ xs. Stand c.args.pieces.now n m xs us)
+    (subst (λ xs. HaveValues c.args.pieces.now n m xs us)
     (ap (drop from) (sym c.deref.ensures.value) ∙ rest_is from c.deref.result.now) s))
     c.truncate.ensures.items c.in_ok-push.ensures.items h

@@ -1,5 +1,5 @@
 use Rattle.std.proofs.Common.{sym, subst}
-use Rattle.page_core.specs.Pieces.{Stands}
+use Rattle.page_core.specs.Pieces.{HasText}
 use Rattle.kc_notation.proofs.Pages.{gather_start, gather_more, gather_none, gather_end}
 use Rattle.kc_notation.proofs.page.Page.gather.Goals as goal
 
@@ -13,7 +13,7 @@ pub loop-i-preserved : goal.loop-i-preserved
 loop-i-preserved c = record {
   keeps = λ j s st.
       c.in_ok-whole.ensures.keeps j s
-      (subst (λ ps. Stands ps j s) (sym c.in-Some.ensures.pieces) (c.loop-i.invariant.keeps j s st));
+      (subst (λ ps. HasText ps j s) (sym c.in-Some.ensures.pieces) (c.loop-i.invariant.keeps j s st));
   gathers = λ p s h st.
       gather_more c.loop-i.self c.take.new.self c.loop-i.whole c.args.count c.loop-i.i p _ _ c.loop-i-test.true
       c.in-Some.ensures.pieces (c.loop-i.invariant.gathers p s h st) c.listed.new.pieces c.in-Some.value _
@@ -22,7 +22,7 @@ loop-i-preserved c = record {
 
 pub returns-in-None-clause-keeps : goal.returns-in-None-clause-keeps
 returns-in-None-clause-keeps c = λ j s st.
-    subst (λ ps. Stands ps j s) (sym c.in-None.ensures.pieces) (c.loop-i.invariant.keeps j s st)
+    subst (λ ps. HasText ps j s) (sym c.in-None.ensures.pieces) (c.loop-i.invariant.keeps j s st)
 
 pub returns-in-None-clause-gathered : goal.returns-in-None-clause-gathered
 returns-in-None-clause-gathered c = λ p s h st.

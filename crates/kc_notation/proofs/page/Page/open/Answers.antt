@@ -1,7 +1,7 @@
 use Rattle.std.proofs.Common.{◌+◌, [], refl, ap, ◌∙◌, sym, subst}
 use Rattle.kc_notation.specs.declared.page.Body.{Body}
 use Rattle.kc_notation.specs.declared.page.Scope.{Scope}
-use Rattle.kc_notation.specs.Standing.{IsBody, Stand}
+use Rattle.kc_notation.specs.Standing.{IsBody, HaveTexts}
 use Rattle.kc_notation.specs.ClosedWalk.{lines, scope_of}
 use Rattle.kc_notation.proofs.Turns.{open_page}
 use Rattle.kc_notation.proofs.page.Page.open.Goals as goal
@@ -17,7 +17,7 @@ returns c = λ p h.
     (sym c.replace-outer.ensures.after)
     (record {
       text = c.in_ok-text.ensures.stands;
-      values = subst (λ is. Stand q is []) (sym c.new.ensures.items) tt;
+      values = subst (λ is. HaveTexts q is []) (sym c.new.ensures.items) tt;
       called = refl;
       scope =
           ap (λ i. scope_of c.args.types i) (c.in_ok-indent.ensures ∙ ap (λ (s : Scope). s.indent + 1) h.body.scope);

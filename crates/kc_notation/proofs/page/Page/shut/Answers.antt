@@ -1,5 +1,5 @@
 use Rattle.std.proofs.Common.{codes, arith, sym, ◌∙◌, subst}
-use Rattle.page_core.specs.Pieces.{Stands}
+use Rattle.page_core.specs.Pieces.{HasText}
 use Rattle.kc_notation.specs.ClosedWalk.{past, with_values}
 use Rattle.kc_notation.proofs.Pages.{keeps_page, shut_called, stand_length}
 use Rattle.kc_notation.proofs.page.Page.shut.Goals as goal
@@ -16,7 +16,7 @@ returns-clause-shut c = λ p h.
     let long = stand_length c.args.self.now.pieces c.args.self.now.body.values.items p.body.values h.body.values in
     record {
       text =
-          subst (Stands c.joined.new.self c.in_ok-text.text)
+          subst (HasText c.joined.new.self c.in_ok-text.text)
           (shut_called p.body count (sym h.body.called ∙ c.if-not-self.false) (omega (
             arith,
             c.len-count.ensures,

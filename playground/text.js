@@ -24,8 +24,9 @@ export function learn(found) {
     });
 }
 
+// Whether the first token, behind blanks and comments, is the word `tal`.
 export function isAssembly(text) {
-    return text.startsWith('tal ');
+    return /^(?:[ \t\r\n]|--[^\n]*(?:\n|$))*tal(?![A-Za-z0-9_])/.test(text);
 }
 
 // Where a text defines labels: their names, and the places.

@@ -47,7 +47,7 @@ program = record {
 }
 
 program_is : a_text false program main ≡
-    codes "L0: code[a](x0: int, x1: some b. b).\n  let x2 = malloc[int]\n  let x3 = x2[1] <- -5\n  if0 x0 then\n"
+    codes "L0: code[a](x0: int, x1: some b. b).\n  let x2 = malloc[int]\n  let x3 = x2[1] <- ~5\n  if0 x0 then\n"
     ++ (codes "    let [b, x4] = unpack x1\n    let x5 = #2 x4\n    halt x5\n  else\n"
     ++ (codes "    L0[int][](x0, pack [int, D0] as some b. b)\n\nD0: <7, L0>\nD1: <>\n\n"
     ++ codes "main:\n  let x0 = D0\n  let x1 = 2 * 3\n  halt x1\n"))

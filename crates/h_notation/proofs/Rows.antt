@@ -31,7 +31,7 @@ blocks = record { owes = 1; args = MoreCTys (TCTuple NoCTys) (MoreCTys (TCVar 0)
 program_is : h_text false blocks main ≡
     codes "L0: code[a](x0: <>, x1: a).\n  let x2 = pack [<>, <L0[a], <>>] as closure[](a)\n"
     ++ (codes "  let [b, x3] = unpack x2\n  let x4 = #1 x3\n  x4[](x3, x1)\n\n"
-    ++ (codes "main:\n  let x0 = ref -2\n  let x1 = !x0\n  let x2 = x0 := 4\n  if0 x1 then\n    halt 0\n  else\n"
+    ++ (codes "main:\n  let x0 = ref ~2\n  let x1 = !x0\n  let x2 = x0 := 4\n  if0 x1 then\n    halt 0\n  else\n"
     ++ codes "    let x3 = x1 - 1\n    if0 x3 then\n      halt x3\n    else\n      L0[ref int](x0)\n"))
 unfolding digits
 program_is = refl
@@ -40,7 +40,7 @@ program_is = refl
 typed_is : h_text true blocks main ≡
     codes "L0: code[a](x0: <>, x1: a).\n  let x2: closure[](a) = pack [<>, <L0[a], <>>] as closure[](a)\n"
     ++ (codes "  let [b, x3: <code[](b, a), b>] = unpack x2\n  let x4: code[](b, a) = #1 x3\n  x4[](x3, x1)\n\n"
-    ++ (codes "main:\n  let x0: ref int = ref -2\n  let x1: int = !x0\n  let x2: <> = x0 := 4\n  if0 x1 then\n"
+    ++ (codes "main:\n  let x0: ref int = ref ~2\n  let x1: int = !x0\n  let x2: <> = x0 := 4\n  if0 x1 then\n"
     ++ (codes "    halt 0\n  else\n    let x3: int = x1 - 1\n    if0 x3 then\n      halt x3\n    else\n"
     ++ codes "      L0[ref int](x0)\n")))
 unfolding digits

@@ -72,7 +72,7 @@ forms =
     (CLet (CUnpack (CVar 0)) (CIf (CVar 8) branch (CHalt (CVar 5)))))))))))
 
 forms_text : c_text false forms ≡
-    codes "let x0 = 5\nlet x1 = ref x0\nlet x2 = !x1\nlet x3 = x2 * -3\nlet x4 = x1 := x3\nlet x5 = <x0, x1>\n"
+    codes "let x0 = 5\nlet x1 = ref x0\nlet x2 = !x1\nlet x3 = x2 * ~3\nlet x4 = x1 := x3\nlet x5 = <x0, x1>\n"
     ++ codes "let x6 = #2 x5\nlet x7 = pack [int, <x0>] as some a. <a>\nlet [a, x8] = unpack x7\nif0 x0 then\n"
     ++ codes "  code x0[a, b](x1: a, x2: b) {\n    halt x2\n  }[a][int](x8, 7)\nelse\n  halt x3\n"
 unfolding digits
@@ -85,7 +85,7 @@ applied_to_none = refl
 
 -- with types: a cell that is set gives the empty tuple, and an unpacked value's type names its type name
 typed_text : c_text true forms ≡
-    codes "let x0: int = 5\nlet x1: ref int = ref x0\nlet x2: int = !x1\nlet x3: int = x2 * -3\n"
+    codes "let x0: int = 5\nlet x1: ref int = ref x0\nlet x2: int = !x1\nlet x3: int = x2 * ~3\n"
     ++ (codes "let x4: <> = x1 := x3\nlet x5: <int, ref int> = <x0, x1>\nlet x6: ref int = #2 x5\n"
     ++ (codes "let x7: some a. <a> = pack [int, <x0>] as some a. <a>\nlet [a, x8: <a>] = unpack x7\nif0 x0 then\n"
     ++ codes "  code x0[a, b](x1: a, x2: b) {\n    halt x2\n  }[a][int](x8, 7)\nelse\n  halt x3\n"))

@@ -31,7 +31,7 @@ program = KLet (KCell (KInt (pos 5))) (of_two (KLet (KSet (KVar 1) (KVar 1)) (KL
 every_form : k_text false program ≡
     codes "let x0 = ref 5\n"
     ++ codes "let x1 = code x1[a](x2: a, x3: code[](int)) {\n"
-    ++ codes "  x3[](-3)\n"
+    ++ codes "  x3[](~3)\n"
     ++ codes "}\n"
     ++ codes "let x2 = x0 := x0\n"
     ++ codes "let x3 = !x0\n"
@@ -52,7 +52,7 @@ every_form = refl
 typed_is : k_text true program ≡
     codes "let x0: ref int = ref 5\n"
     ++ codes "let x1: code[a](a, code[](int)) = code x1[a](x2: a, x3: code[](int)) {\n"
-    ++ codes "  x3[](-3)\n"
+    ++ codes "  x3[](~3)\n"
     ++ codes "}\n"
     ++ codes "let x2: <> = x0 := x0\n"
     ++ codes "let x3: int = !x0\n"

@@ -37,7 +37,7 @@ three : type_names 24 3 ≡ codes "[y, z, a1]"
 unfolding digits
 three = refl
 
-negative : number (negsuc 11) ≡ codes "-12"
+negative : number (negsuc 11) ≡ codes "~12"
 unfolding digits
 negative = refl
 

@@ -1,7 +1,7 @@
 -- What the notations of the inner forms share, as bytes.
-use Rattle.std.specs.Prelude.{ℕ, zero, suc, ◌+◌, ◌*◌, ◌/◌, ◌%◌, min, ℤ, List, [], ◌∷◌, ◌++◌, replicate, codes}
+use Rattle.std.specs.Prelude.{ℕ, zero, suc, ◌+◌, ◌*◌, ◌/◌, ◌%◌, min, ℤ, pos, negsuc, List, [], ◌∷◌, ◌++◌, replicate}
+use Rattle.std.specs.Prelude.{codes}
 use Rattle.std.specs.Prelude.{decimal}
-use Rattle.std.specs.Fmt.{signed_decimal}
 use Rattle.idx_core.specs.declared.arith.Op.{Op}
 use Rattle.idx_core.specs.declared.arith.Op.TheVariants.{Add, Sub, Mul}
 pub use Rattle.idx_core.specs.Separator.{separator}
@@ -28,9 +28,10 @@ names_in_row i n (suc k) = separator i ++ (type_name n ++ names_in_row (suc i) (
 abbrev pub type_names : ℕ → ℕ → List ℕ
 type_names n k = codes "[" ++ (names_in_row 0 n k ++ codes "]")
 
--- an integer in decimal, with `-` before a negative one
+-- an integer in decimal, a negative one with a tilde, as in a source
 abbrev pub number : ℤ → List ℕ
-number z = signed_decimal z
+number (pos n) = decimal n
+number (negsuc n) = 126 ∷ decimal (suc n)
 
 -- the margin of a line at the level n: two spaces a level, and no more than 40 levels' worth
 abbrev pub margin : ℕ → List ℕ

@@ -1,4 +1,4 @@
-use Rattle.std.proofs.Common.{◌≡◌, List, sym, ap, subst}
+use Rattle.std.proofs.Common.{◌≡◌, List, sym, ap, subst, ◌∙◌}
 use Rattle.idx_core.specs.declared.span.Span.{Span}
 use Rattle.t_terms.specs.Spanned.{SBlock, SProg, plain_program}
 use Rattle.t_terms.specs.Whole.{WellFormedProgram}
@@ -27,4 +27,4 @@ new-requires c =
     (cut_whole c.args.place (spanned_program p) p.whole.0)
 
 pub returns : goal.returns
-returns c = made c.args.program c.args.place c.in_ok-made.made.items c.in_ok-made.ensures
+returns c = c.new.ensures ∙ made c.args.program c.args.place c.in_ok-made.made.items c.in_ok-made.ensures

@@ -1,7 +1,8 @@
-use Rattle.std.proofs.Common.{arith}
+use Rattle.std.proofs.Common.{arith, sym, subst}
 use Rattle.std.proofs.lemmas.List.{length-map}
 use Rattle.std.proofs.lemmas.Result.{err_from_is_err_and}
 use Rattle.t_text.specs.declared.kept.Word.{Word}
+use Rattle.t_text.specs.Text.{ReadsAs}
 use Rattle.t_text.specs.Kept.{token_in, tokens_of}
 use Rattle.t_reader.proofs.Answered.{reads}
 use Rattle.t_reader.proofs.Shaped.{token_fault, shaped}
@@ -50,4 +51,5 @@ returns c =
       length-map t.words.items
           (λ (w : Word). token_in t.long.items w),
     )) in
-    reads c.args.text.now h.raw c.in_ok-parts.parts.blocks.items c.in_ok-parts.parts.heap.items s h.named h.is
+    subst (ReadsAs c.args.text.now) (sym c.new.ensures)
+    (reads c.args.text.now h.raw c.in_ok-parts.parts.blocks.items c.in_ok-parts.parts.heap.items s h.named h.is)

@@ -1,6 +1,7 @@
 use Rattle.std.proofs.Common.{◌≡◌, ◌<◌, ◌^◌, ℕ, List, ◌∷◌, map, length, sym, ap, ap₂, subst, ◌∙◌, rules, arith}
 use Rattle.std.proofs.Math.Logic.{∥∥₁_elim}
 use Rattle.t_terms.specs.Tree.{TBlock, TData, TProg}
+use Rattle.t_terms.specs.Spanned.{plain_program}
 use Rattle.t_terms.specs.Whole.{WellFormedProgram, program_prop}
 use Rattle.t_terms.specs.Read.{blocks_of, data_of, parts}
 use Rattle.t_terms.specs.ReadProgram.{program}
@@ -58,6 +59,7 @@ pub returns : goal.returns
 returns c =
     let P = program c.args.program.now in
     let m = c.within-split.result.low in
-    made m c.args.k P c.in_ok-blocks.blocks.items c.in_ok-heap.heap.items c.within-split.ensures
+    ap plain_program c.new.ensures
+    ∙ made m c.args.k P c.in_ok-blocks.blocks.items c.in_ok-heap.heap.items c.within-split.ensures
     (c.in_ok-blocks.ensures ∙ ap (λ (bs : List Block). entry m ∷ sp_blocks m P (blocks_of bs)) c.deref.ensures.value)
     (c.in_ok-heap.ensures ∙ ap (λ (xs : List Data). map (sp_data m) (data_of xs)) c.deref-2.ensures.value)

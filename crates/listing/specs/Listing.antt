@@ -17,9 +17,10 @@ use Rattle.t_trace.specs.Line.{text_at}
 
 -- ---- the rows of the text
 
--- a byte as it is shown: a line end, a tab, and any other sign below the printable ones as a space
+-- a byte as it is shown: a line end, a tab, and any other sign below the printable ones as a space, and one above as a
+-- question mark
 abbrev pub shown_byte : ℕ → ℕ
-shown_byte byte = if nat_lt byte 32 then 32 else byte
+shown_byte byte = if nat_lt byte 32 then 32 else if nat_lt byte 127 then byte else 63
 
 -- the bytes of a place in the text
 abbrev pub bytes_of : List ℕ → Span → List ℕ

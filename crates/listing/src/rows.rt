@@ -14,11 +14,15 @@ use t_types::TType;
 // How many bytes of a type are shown at most.
 const MOST_SHOWN: usize = 1000;
 
-// A line end, a tab, and any other sign below the printable ones as a space.
+// A line end, a tab, and any other sign below the printable ones as a space, and one above as a question mark.
 fn shown_byte(byte: u8) -> u8
     ensures { result ≡ shown_byte byte }
 {
-    if byte < b' ' { b' ' } else { byte }
+    match byte {
+        0..b' ' => b' ',
+        b' '..=b'~' => byte,
+        _ => b'?',
+    }
 }
 
 // The bytes of a place in the text.

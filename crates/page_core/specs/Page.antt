@@ -46,9 +46,10 @@ shown_before = 50
 abbrev pub first_shown : (before count : ℕ) → ℕ
 first_shown before count = min (before - shown_before) (count - shown_width)
 
--- a printable sign of ASCII as it is, a tab as a space, and any other byte as a question mark
+-- a printable sign of ASCII as it is, a tab and a carriage return as a space, and any other byte as a question mark
 abbrev pub shown_byte : ℕ → ℕ
-shown_byte byte = if byte == 9 then 32 else if nat_lt 31 byte && nat_lt byte 127 then byte else 63
+shown_byte byte =
+    if byte == 9 then 32 else if byte == 13 then 32 else if nat_lt 31 byte && nat_lt byte 127 then byte else 63
 
 -- what stands for bytes that are left out, if any are
 abbrev pub dots : Bool → List ℕ

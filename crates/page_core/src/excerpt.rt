@@ -32,12 +32,12 @@ fn write_times(page: &mut Vec<u8>, byte: u8, count: usize) -> Result<(), OutOfMe
     Ok(())
 }
 
-// A printable sign of ASCII as it is, a tab as a space, and any other byte as a question mark.
+// A printable sign of ASCII as it is, a tab and a carriage return as a space, and any other byte as a question mark.
 fn shown_byte(byte: u8) -> u8
     ensures { result ≡ shown_byte byte }
 {
     match byte {
-        b'\t' => b' ',
+        b'\t' | b'\r' => b' ',
         b' '..=b'~' => byte,
         _ => b'?',
     }

@@ -1,6 +1,6 @@
 -- That no sentence is longer than 100 bytes, and worked hints.
 use Rattle.std.proofs.Common.{◌≡◌, ℕ, List, [], ◌∷◌, length, refl, true, false, Bool}
-use Rattle.std.specs.Prelude.{nat_le, codes, ◌==◌, bytes_eq, if◌then◌else◌, min, drop}
+use Rattle.std.specs.Prelude.{nat_le, codes, ◌==◌, bytes_eq, if◌then◌else◌, ◌&&◌, min, drop}
 use Rattle.text_core.specs.Byte.{digit, letter, of_word}
 use Rattle.idx_core.specs.declared.span.Span.{Span}
 use Rattle.f_terms.specs.declared.fault.Code.{Code}
@@ -15,9 +15,10 @@ use Rattle.talc_faults.specs.declared.type_form.Form.TheVariants.{Untold, Intege
 use Rattle.talc_faults.specs.declared.type_form.Form.TheVariants.{Tuple}
 use Rattle.talc_faults.specs.declared.type_form.Form.TheVariants.{Package, Reference}
 use Rattle.talc_faults.specs.Sentences.{source_sentence, tal_sentence}
-use Rattle.talc_faults.specs.Words.{opens, makes, chooses, tests, defines, divides, is_type, calls}
+use Rattle.talc_faults.specs.Words.{names, opens, makes, chooses, tests, defines, divides, is_type, calls}
 use Rattle.talc_faults.specs.Around.{sign_of, bytes_at, word_before, byte_before, first_byte}
-use Rattle.talc_faults.specs.Hints.{byte_hint, sign_hint, token_hint, name_hint, type_hint, called_hint, applied_hint}
+use Rattle.talc_faults.specs.Hints.{byte_hint, sign_hint, begins_word, token_hint, name_hint, type_hint, called_hint}
+use Rattle.talc_faults.specs.Hints.{applied_hint}
 use Rattle.talc_faults.specs.Hints.{projected_hint, operand_hint, whole_hint, cell_hint, source_hint, source_hint_at}
 use Rattle.talc_faults.specs.Hints.{tal_byte_hint, is_label, tal_word_hint, tal_number_hint, tal_sign_hint}
 use Rattle.talc_faults.specs.Hints.{tal_token_hint}
@@ -95,7 +96,9 @@ byte_hint_is_short byte =
     either (byte == 125) _ _ refl (
     either (byte == 38) _ _ refl (
     either (byte == 124) _ _ refl (
-    refl))))))))))
+    either (byte == 206) _ _ refl (
+    either (byte == 239) _ _ refl (
+    refl))))))))))))
 
 sign_hint_is_short : (sign : ℕ) → IsShort (sign_hint sign)
 sign_hint_is_short sign =
@@ -105,16 +108,20 @@ sign_hint_is_short sign =
     either (sign == 58) _ _ refl (
     either (sign == 44) _ _ refl (
     either (sign == 45) _ _ refl (
-    refl))))))
+    either (sign == 41) _ _ refl (
+    either (sign == 62) _ _ refl (
+    either (sign == 91) _ _ refl (
+    refl)))))))))
 
 token_hint_is_short : (previous word : List ℕ) → IsShort (token_hint previous word)
 token_hint_is_short previous word =
     either (bytes_eq previous (codes "if0")) _ _ refl (
+    either (names previous && begins_word word) _ _ refl (
     either (opens word) _ _ refl (
     either (makes word) _ _ refl (
     either (bytes_eq word (codes "in")) _ _ refl (
     either (bytes_eq word (codes "->")) _ _ refl (
-    sign_hint_is_short (sign_of word))))))
+    sign_hint_is_short (sign_of word)))))))
 
 name_hint_is_short : (word : List ℕ) → IsShort (name_hint word)
 name_hint_is_short word =

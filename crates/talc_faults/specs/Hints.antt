@@ -1,6 +1,6 @@
 -- A sentence for a fault: that of the first row that applies to what stands at the place, or to the form of the type
 -- that is found; else that of the code. All of it is our own choice, and none is longer than 100 bytes.
-use Rattle.std.specs.Prelude.{ℕ, ◌==◌, Bool, not, ◌&&◌, min, List, [], ◌∷◌, drop, length, if◌then◌else◌, codes}
+use Rattle.std.specs.Prelude.{ℕ, ◌==◌, Bool, not, false, ◌&&◌, min, List, [], ◌∷◌, drop, length, if◌then◌else◌, codes}
 use Rattle.std.specs.Prelude.{bytes_eq}
 use Rattle.text_core.specs.Byte.{digit, letter, of_word}
 use Rattle.idx_core.specs.declared.span.Span.{Span}
@@ -11,12 +11,14 @@ use Rattle.t_terms.specs.declared.fault.TCode.TheVariants.{T01, T03}
 use Rattle.talc_faults.specs.declared.type_form.Form.{Form}
 use Rattle.talc_faults.specs.declared.type_form.Form.TheVariants.{Integer, Function, Polymorphic, Tuple, Reference}
 use Rattle.talc_faults.specs.Around.{bytes_at, sign_of, word_before, byte_before, first_byte}
-use Rattle.talc_faults.specs.Words.{opens, makes, chooses, tests, defines, divides, is_type, calls}
+use Rattle.talc_faults.specs.Words.{names, opens, makes, chooses, tests, defines, divides, is_type, calls}
 use Rattle.talc_faults.specs.Sentences.{source_sentence, tal_sentence}
 
 -- ---- of a source
 
--- a byte that begins no token (E01): `;`, `/`, `%`, `\`, `"`, `'`, `{`, `}`, `&`, `|`
+-- a byte that begins no token (E01): `;`, `/`, `%`, `\`, `"`, `'`, `{`, `}`, `&`, `|`, the first of a Greek small
+-- letter,
+-- as of a lambda, and of a byte order mark
 abbrev pub byte_hint : ℕ → List ℕ
 byte_hint byte =
     if byte == 59 then codes "there is no `;`: a step before another one is named, as in `let u = c := 1 in ..`" else
@@ -24,30 +26,46 @@ byte_hint byte =
     if byte == 37 then codes "there is no remainder: docs/HOWTO.md makes one by `+`, `-` and `*`" else
     if byte == 92 then codes "a function is `fix f(x:T1):T2. e`, with the types that it takes and gives" else
     if byte == 34 then codes "there are no texts: values are integers, functions, tuples, packages and cells" else
-    if byte == 39 then codes "there are no texts: values are integers, functions, tuples, packages and cells" else
+    if byte == 39 then codes "there are no texts, and a name has no `'`: letters, digits and `_` make a name" else
     if byte == 123 then
     codes "`{ }` is of assembly, which begins with `tal 1` or `tal 2`; here `( )` and `< >` group" else
     if byte == 125 then
     codes "`{ }` is of assembly, which begins with `tal 1` or `tal 2`; here `( )` and `< >` group" else
     if byte == 38 then codes "there are no truth values: `if0(e, a, b)` tests whether an integer is 0" else
     if byte == 124 then codes "there are no truth values: `if0(e, a, b)` tests whether an integer is 0" else
+    if byte == 206 then codes "a function is `fix f(x:T1):T2. e`, with the types that it takes and gives" else
+    if byte == 239 then codes
+    "the text begins with bytes that are not its own: save it as plain ASCII, with no byte order mark" else
     source_sentence E01
 
--- a token that no program has there (E03), by its sign: `=`, `(`, `.`, `:`, `,`, `-`
+-- a token that no program has there (E03), by its sign: `=`, `(`, `)`, `.`, `:`, `,`, `-`, `>`, `[`
 abbrev pub sign_hint : ℕ → List ℕ
 sign_hint sign =
-    if sign == 61 then codes "`=` stands in a `let` or an `open` alone: a is b where `if0(a - b, ..)` says so" else
+    if sign == 61 then codes
+    "`=` stands in a `let` or an `open`; a `fix` has a dot there; a is b where `if0(a - b, ..)` says so" else
     if sign == 40 then codes "a `let` takes no arguments: `let f = fix f(x:T1):T2. e in ..` names a function" else
     if sign == 46 then codes "a `fix` has its result's type before the dot, `fix f(x:T1):T2. e`; a field, `#1 e`" else
     if sign == 58 then codes "a `let` names no type, `let x = e in ..`; a `fix` names two, `fix f(x:T1):T2. e`" else
-    if sign == 44 then codes "the fields of a tuple stand in `< >`, as in `f <1, 2>`" else
+    if sign == 44 then codes
+    "fields stand in `< >`, as in `f <1, 2>`; an `if0` has three parts, and a `let` names one value" else
     if sign == 45 then codes "a negative number is written with `~`, as `~5`: a `-` stands between two numbers" else
+    if sign == 41 then codes
+    "an expression is missing before this `)`; and `a < b` is no test: docs/HOWTO.md makes `less`" else
+    if sign == 62 then codes "there is no order: docs/HOWTO.md makes `less`; here a `>` ends a tuple, `<1, 2>`" else
+    if sign == 91 then codes "`[ ]` has types, `e[int]`, or names: a tuple is `<1, 2>`, and its first field `#1 e`" else
     source_sentence E03
 
--- the same, by its word, and by the word before it
+-- a word, by its first byte
+abbrev pub begins_word : List ℕ → Bool
+begins_word [] = false
+begins_word (b ∷ s) = letter b
+
+-- the same, by its word, and by the word before it: a word behind what a name stands behind is one of the language
 abbrev pub token_hint : (previous word : List ℕ) → List ℕ
 token_hint previous word =
     if bytes_eq previous (codes "if0") then codes "a choice is `if0(e, a, b)`: a where e is 0, and else b"
+    else if names previous && begins_word word then
+    codes "a name stands here, and this word is one of the language's own: take another one"
     else if opens word then
     codes "an `in` is missing before it: `let x = e in ..` names x for what stands behind the `in`"
     else if makes word then codes "where a `fix` or a `gen` is an argument or an operand, it stands in `( )`"
@@ -166,8 +184,10 @@ tal_number_hint before =
 -- another sign: `,`, `>`
 abbrev pub tal_sign_hint : ℕ → List ℕ
 tal_sign_hint sign =
-    if sign == 44 then codes "a field of a tuple type has a flag, `<int^1>`; a word of data a type, `<5 : int>`" else
-    if sign == 62 then codes "a field of a tuple type has a flag, `<int^1>`; a word of data a type, `<5 : int>`" else
+    if sign == 44 then codes
+    "fields of types have flags, `<int^1>`, those of data types, `<5 : int>`; a store is `st r1[0], r2`" else
+    if sign == 62 then codes
+    "fields of types have flags, `<int^1>`, those of data types, `<5 : int>`; a store is `st r1[0], r2`" else
     tal_sentence T03
 
 -- a token, by the byte that it begins with, and the signs behind and before it; none, where the text ends

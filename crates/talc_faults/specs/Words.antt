@@ -1,6 +1,12 @@
 -- Words that are looked for in a text: reserved ones, and some that other languages have.
 use Rattle.std.specs.Prelude.{◌||◌, Bool, ℕ, List, codes, bytes_eq}
 
+-- behind which a name stands
+abbrev pub names : List ℕ → Bool
+names word =
+    bytes_eq word (codes "let") || bytes_eq word (codes "fix") || bytes_eq word (codes "gen")
+    || bytes_eq word (codes "all") || bytes_eq word (codes "some")
+
 -- what an `in` closes, and what makes a function
 abbrev pub opens : List ℕ → Bool
 opens word = bytes_eq word (codes "let") || bytes_eq word (codes "open")

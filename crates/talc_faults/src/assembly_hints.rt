@@ -70,8 +70,10 @@ fn sign_hint(sign: u8) -> &'static str
     ensures { result.now ≡ tal_sign_hint sign }
 {
     match sign {
-        b',' => "a field of a tuple type has a flag, `<int^1>`; a word of data a type, `<5 : int>`",
-        b'>' => "a field of a tuple type has a flag, `<int^1>`; a word of data a type, `<5 : int>`",
+        b',' =>
+            "fields of types have flags, `<int^1>`, those of data types, `<5 : int>`; a store is `st r1[0], r2`",
+        b'>' =>
+            "fields of types have flags, `<int^1>`, those of data types, `<5 : int>`; a store is `st r1[0], r2`",
         _ => tal_sentence(TCode::T03),
     }
 }

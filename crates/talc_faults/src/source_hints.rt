@@ -1,15 +1,16 @@
 // The sentence for a fault of a source text.
 ghost use Rattle.std.specs.Prelude.{◌≡◌};
-ghost use Rattle.talc_faults.specs.Hints.{byte_hint, sign_hint, token_hint, name_hint, type_hint, called_hint};
-ghost use Rattle.talc_faults.specs.Hints.{applied_hint, projected_hint, operand_hint, whole_hint, cell_hint};
-ghost use Rattle.talc_faults.specs.Hints.{source_hint as hint_of, source_hint_at};
+ghost use Rattle.talc_faults.specs.Hints.{byte_hint, sign_hint, begins_word, token_hint, name_hint, type_hint};
+ghost use Rattle.talc_faults.specs.Hints.{called_hint, applied_hint, projected_hint, operand_hint, whole_hint};
+ghost use Rattle.talc_faults.specs.Hints.{cell_hint, source_hint as hint_of, source_hint_at};
 
 use crate::around::{bytes_at, sign_of, word_before};
 use crate::sentences::source_sentence;
 use crate::type_form::Form;
-use crate::words::{chooses, defines, divides, is, is_type, makes, opens, tests};
+use crate::words::{chooses, defines, divides, is, is_type, makes, names, opens, tests};
 use f_terms::Code;
 use idx_core::Span;
+use text_core::is_letter;
 
 // A byte that begins no token.
 fn byte_hint(byte: u8) -> &'static str
@@ -21,13 +22,16 @@ fn byte_hint(byte: u8) -> &'static str
         b'%' => "there is no remainder: docs/HOWTO.md makes one by `+`, `-` and `*`",
         b'\\' => "a function is `fix f(x:T1):T2. e`, with the types that it takes and gives",
         b'"' => "there are no texts: values are integers, functions, tuples, packages and cells",
-        b'\'' => "there are no texts: values are integers, functions, tuples, packages and cells",
+        b'\'' => "there are no texts, and a name has no `'`: letters, digits and `_` make a name",
         b'{' =>
             "`{ }` is of assembly, which begins with `tal 1` or `tal 2`; here `( )` and `< >` group",
         b'}' =>
             "`{ }` is of assembly, which begins with `tal 1` or `tal 2`; here `( )` and `< >` group",
         b'&' => "there are no truth values: `if0(e, a, b)` tests whether an integer is 0",
         b'|' => "there are no truth values: `if0(e, a, b)` tests whether an integer is 0",
+        206 => "a function is `fix f(x:T1):T2. e`, with the types that it takes and gives",
+        239 =>
+            "the text begins with bytes that are not its own: save it as plain ASCII, with no byte order mark",
         _ => source_sentence(Code::E01),
     }
 }
@@ -37,14 +41,31 @@ fn sign_hint(sign: u8) -> &'static str
     ensures { result.now ≡ sign_hint sign }
 {
     match sign {
-        b'=' => "`=` stands in a `let` or an `open` alone: a is b where `if0(a - b, ..)` says so",
+        b'=' =>
+            "`=` stands in a `let` or an `open`; a `fix` has a dot there; a is b where `if0(a - b, ..)` says so",
         b'(' => "a `let` takes no arguments: `let f = fix f(x:T1):T2. e in ..` names a function",
         b'.' =>
             "a `fix` has its result's type before the dot, `fix f(x:T1):T2. e`; a field, `#1 e`",
         b':' => "a `let` names no type, `let x = e in ..`; a `fix` names two, `fix f(x:T1):T2. e`",
-        b',' => "the fields of a tuple stand in `< >`, as in `f <1, 2>`",
+        b',' =>
+            "fields stand in `< >`, as in `f <1, 2>`; an `if0` has three parts, and a `let` names one value",
         b'-' => "a negative number is written with `~`, as `~5`: a `-` stands between two numbers",
+        b')' =>
+            "an expression is missing before this `)`; and `a < b` is no test: docs/HOWTO.md makes `less`",
+        b'>' => "there is no order: docs/HOWTO.md makes `less`; here a `>` ends a tuple, `<1, 2>`",
+        b'[' =>
+            "`[ ]` has types, `e[int]`, or names: a tuple is `<1, 2>`, and its first field `#1 e`",
         _ => source_sentence(Code::E03),
+    }
+}
+
+// A word, by its first byte.
+fn begins_word(word: &[u8]) -> bool
+    ensures { result ≡ begins_word word.now }
+{
+    match word.first() {
+        Some(byte) => is_letter(*byte),
+        None => false,
     }
 }
 
@@ -54,6 +75,9 @@ fn token_hint(previous: &[u8], word: &[u8]) -> &'static str
 {
     if is(previous, b"if0".as_slice()) {
         return "a choice is `if0(e, a, b)`: a where e is 0, and else b";
+    }
+    if names(previous) && begins_word(word) {
+        return "a name stands here, and this word is one of the language's own: take another one";
     }
     if opens(word) {
         return "an `in` is missing before it: `let x = e in ..` names x for what stands behind the `in`";

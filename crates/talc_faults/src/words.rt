@@ -1,12 +1,26 @@
 // Words that are looked for in a text.
 ghost use Rattle.std.specs.Prelude.{◌≡◌, bytes_eq, codes, ◌||◌};
-ghost use Rattle.talc_faults.specs.Words.{opens, makes, chooses, tests, defines, divides, is_type, calls};
+ghost use Rattle.talc_faults.specs.Words.{names, opens, makes, chooses, tests, defines, divides, is_type, calls};
 
 // Whether it is this word.
 pub(crate) fn is(word: &[u8], other: &[u8]) -> bool
     ensures { result ≡ bytes_eq word.now other.now }
 {
     word == other
+}
+
+// Behind which a name stands.
+pub(crate) fn names(word: &[u8]) -> bool
+    ensures { result ≡ names word.now }
+{
+    match word {
+        b"let" => true,
+        b"fix" => true,
+        b"gen" => true,
+        b"all" => true,
+        b"some" => true,
+        _ => false,
+    }
 }
 
 // What an `in` closes.

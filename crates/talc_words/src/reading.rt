@@ -196,6 +196,28 @@ fn asked<'a>(matches: &ArgMatches<'a>) -> Option<Command<'a>>
     }
 }
 
+// The text of an error without `clap`'s tips, which guess at what was meant: no name is refused with a hint at a similar
+// one.
+fn without_tips(alloc: Global, text: &str) -> Result<String, AllocError> {
+    let mut made = String::new(alloc);
+    let mut behind_tip = false;
+    for line in text.lines() {
+        let is_tip = line.starts_with("  tip:");
+        if !is_tip && !(behind_tip && line.is_empty()) {
+            made.push_str(line)?;
+            made.push_str("\n")?;
+        }
+        behind_tip = is_tip;
+    }
+    Ok(made)
+}
+
+// The text of an error, as it is told.
+fn text_of(alloc: Global, error: &Error) -> Result<String, AllocError> {
+    let text = format!(in alloc; "{error}")?;
+    without_tips(alloc, text.as_str())
+}
+
 // The text of an error, unless the error is itself want of memory.
 fn not_taken(alloc: Global, error: &Error) -> NoCommand
     ensures { kind_of error.now ≡ OutOfMemory → result ≡ NoCommand.Memory }
@@ -203,7 +225,7 @@ fn not_taken(alloc: Global, error: &Error) -> NoCommand
     if error.kind() == ErrorKind::OutOfMemory {
         return NoCommand::Memory;
     }
-    match format!(in alloc; "{error}") {
+    match text_of(alloc, error) {
         Ok(text) => NoCommand::Usage(text),
         Err(_) => NoCommand::Memory,
     }

@@ -134,23 +134,25 @@ talc_answer talc_guest_load(talc_guest *guest, const uint8_t *text, size_t lengt
 talc_answer talc_guest_run(talc_guest *guest, uint64_t fuel);
 
 /* Takes memory in advance: for so many tuples, and for so many fields of all of them together. A run whose instructions
- * take no more than these does not end with TALC_MEMORY. TALC_DONE, TALC_EMPTY, or TALC_MEMORY, where the guest is as
- * before. */
+ * take no more than these does not end with TALC_MEMORY. TALC_DONE, TALC_EMPTY, or TALC_MEMORY, where the guest stands
+ * as before, and no less is spare. */
 talc_answer talc_guest_reserve(talc_guest *guest, uint64_t tuples, uint64_t fields);
 
 /* Drops the tuples that the guest cannot reach any more, so that a run uses their memory again. A run does so by itself
- * where there are many. TALC_DONE, TALC_EMPTY, or TALC_MEMORY, where the guest is as before. */
+ * where there are many. TALC_DONE, TALC_EMPTY, or TALC_MEMORY, exactly where more than 2^64 - 2^32 tuples were made:
+ * its tuples and registers are then as before. */
 talc_answer talc_guest_collect(talc_guest *guest);
 
 /* Sets what the guest may keep from now on: never more than so many tuples, nor more than so many fields of all of them
  * together, with the data of its program; or no more than it keeps now, where that is more. An instruction for which
  * more would be kept, after all is dropped that cannot be reached, ends its run with TALC_MEMORY, whatever memory there
- * is; under a larger cap the guest goes on. Without a cap it may keep 2^32 - 1 of each, and a load sets none. Takes no
- * memory. TALC_DONE or TALC_EMPTY. */
+ * is; under a larger cap the guest goes on. What was spare stays so, as far as the cap leaves room for it. Without a
+ * cap it may keep 2^32 - 1 of each, and a load sets none. Takes no memory. TALC_DONE or TALC_EMPTY. */
 talc_answer talc_guest_within(talc_guest *guest, uint64_t tuples, uint64_t fields);
 
 /* How many tuples the guest keeps, with the data of its program: 0 of an empty one. Some of them it may not reach any
- * more, but none such after TALC_MEMORY of a run, nor after talc_guest_collect. */
+ * more, but none such after TALC_DONE of talc_guest_collect, nor after TALC_MEMORY of a run, unless more than
+ * 2^64 - 2^32 tuples were made. */
 uint64_t talc_guest_kept(talc_guest *guest);
 
 /* The word of a register, or of a field of a tuple, where it has one. */

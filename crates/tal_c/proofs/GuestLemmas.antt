@@ -1,5 +1,5 @@
 -- What is known of a guest by the calls on it.
-use Rattle.std.proofs.Common.{◌≡◌, ℕ, ◌+◌, ◌≤◌, max, min, List, Some, None, Result, OnOk}
+use Rattle.std.proofs.Common.{◌≡◌, ◌↔◌, ℕ, ◌+◌, ◌≤◌, max, min, List, Some, None, Result, OnOk, OnErr, IsErr}
 use Rattle.std.proofs.Common.{sym, ap, ◌∙◌, subst, inl, inr}
 use Rattle.std.proofs.lemmas.Option.{none-some, same_Some}
 use Rattle.t_terms.specs.Tree.{TProg}
@@ -10,7 +10,9 @@ use Rattle.t_machine.specs.declared.machine.Ran.{Ran}
 use Rattle.idx_core.specs.declared.memory.OutOfMemory.{OutOfMemory}
 use Rattle.t_machine.specs.Runs.{Stands, RanFrom, steps_made}
 use Rattle.t_machine.specs.Room.{spare_tuples, spare_fields, Lowers, LowersAlong, WantsUncovered}
-use Rattle.t_machine.specs.Room.{kept_tuples, kept_fields, most_tuples, most_fields, KeepsWithin}
+use Rattle.t_machine.specs.Room.{kept_tuples, kept_fields, most_tuples, most_fields, KeepsWithin, StaysSpare}
+use Rattle.t_machine.specs.Numbers.{IsCountedOut}
+use Rattle.t_machine.specs.Collected.{Unmoved}
 use Rattle.t_machine.specs.Reachable.{KeepsReached, StopsReached}
 use Rattle.tal_c.specs.declared.answer.Answer.{Answer}
 use Rattle.tal_c.specs.declared.guest.Guest.{Guest}
@@ -146,19 +148,27 @@ module _ (old new : Guest) (before after : Machine) (taken : Result (Unit {0}) O
     }),
   )
 
-  pub guest_collect : OnOk taken (KeepsReached before after) → GuestCollect old new answer
-  guest_collect exactly = (
+  pub guest_collect : OnOk taken (KeepsReached before after) → (IsErr taken ↔ IsCountedOut before.heap) →
+      OnErr taken (Unmoved before.heap before.registers.items after.heap after.registers.items) →
+      GuestCollect old new answer
+  guest_collect exactly counted unmoved = (
     had_one old before had,
-    (λ x is_x. record {
-      after = after;
-      taken = taken;
-      has = has;
-      stays = stays old new before after had has stands;
-      kept = lowered x is_x;
-      within = stays_within old new before after x after had is_x has has within;
-      exactly = subst (λ (z : Machine). OnOk taken (KeepsReached z after)) (one old before x had is_x) exactly;
-      is = is;
-    }),
+    (λ x is_x.
+        let same = one old before x had is_x in
+        record {
+          after = after;
+          taken = taken;
+          has = has;
+          stays = stays old new before after had has stands;
+          kept = lowered x is_x;
+          within = stays_within old new before after x after had is_x has has within;
+          exactly = subst (λ (z : Machine). OnOk taken (KeepsReached z after)) same exactly;
+          counted = subst (λ (z : Machine). IsErr taken ↔ IsCountedOut z.heap) same counted;
+          unmoved = subst (λ
+              (z : Machine). OnErr taken (Unmoved z.heap z.registers.items after.heap after.registers.items)) same
+              unmoved;
+          is = is;
+        }),
   )
 
 -- from the machine before to the one with a cap
@@ -167,8 +177,8 @@ pub guest_within : (tuples fields : ℕ) (old new : Guest) (before after : Machi
     ((P : TProg) (m : ℕ) → Stands P m before → Stands P m after) →
     most_tuples after ≡ max (kept_tuples before) (min tuples 4294967295) →
     most_fields after ≡ max (kept_fields before) (min fields 4294967295) → KeepsWithin after →
-    GuestWithin tuples fields old new answer
-guest_within tuples fields old new before after answer had has is stands tuple_cap field_cap within = (
+    StaysSpare before after → GuestWithin tuples fields old new answer
+guest_within tuples fields old new before after answer had has is stands tuple_cap field_cap within spare = (
   had_one old before had,
   (λ x is_x.
       let same = one old before x had is_x in
@@ -179,6 +189,7 @@ guest_within tuples fields old new before after answer had has is stands tuple_c
         tuple_cap = tuple_cap ∙ ap (λ (z : Machine). max (kept_tuples z) (min tuples 4294967295)) same;
         field_cap = field_cap ∙ ap (λ (z : Machine). max (kept_fields z) (min fields 4294967295)) same;
         within = within;
+        spare = subst (λ (z : Machine). StaysSpare z after) same spare;
         is = is;
       }),
 )

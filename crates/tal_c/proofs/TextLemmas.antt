@@ -13,7 +13,7 @@ use Rattle.t_check.specs.Verdict.{Says}
 use Rattle.t_machine.specs.declared.machine.Machine.{Machine}
 use Rattle.t_machine.specs.declared.machine.Ran.{Ran}
 use Rattle.t_machine.specs.Room.{IsUncapped}
-use Rattle.t_machine.specs.Runs.{Stands, RanFrom, FirstRuns}
+use Rattle.t_machine.specs.Runs.{Stands, RanFrom}
 use Rattle.tal_c.specs.declared.answer.Answer.{Answer}
 use Rattle.tal_c.specs.Answers.{bare, done, of_fault, of_run}
 use Rattle.tal_c.specs.Texts.{IsAcceptedText, IsFaultOf, IsLoaded, CheckTold, FaultTold, TextRunTold}
@@ -51,13 +51,13 @@ pub fault_told : (text : List ℕ) (fault : TFault) (answer : Answer) → IsFaul
     answer ≡ of_fault fault → FaultTold text answer
 fault_told text fault answer says is = record { fault = fault; says = says; is = is }
 
-pub run_told : FirstRuns → (fuel : ℕ) (text : List ℕ) (machine : Machine) (ran : Ran) (answer : Answer) →
+pub run_told : (fuel : ℕ) (text : List ℕ) (machine : Machine) (ran : Ran) (answer : Answer) →
     (l : IsLoaded text machine) → RanFrom (plain_program l.program) 0 fuel ran → answer ≡ of_run fuel ran →
     TextRunTold fuel text answer
-run_told first fuel text machine ran answer l runs is = inl (record {
+run_told fuel text machine ran answer l runs is = inl (record {
   program = l.program;
   ran = ran;
   accepted = l.accepted;
-  run = first (plain_program l.program) fuel ran runs;
+  run = runs;
   is = is;
 })

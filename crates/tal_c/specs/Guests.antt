@@ -1,7 +1,9 @@
 -- What the calls on a guest do.
-use Rattle.std.specs.Prelude.{◌≡◌, ◌⊎◌, ◌+◌, ◌≤◌, ℕ, max, min, List, Option, Some, None, option_map, Result, OnOk}
+use Rattle.std.specs.Prelude.{◌≡◌, ◌⊎◌, ◌↔◌, ◌+◌, ◌≤◌, ℕ, max, min, List, Option, Some, None, option_map, Result}
+use Rattle.std.specs.Prelude.{OnOk, OnErr, IsErr}
 use Rattle.idx_core.specs.declared.memory.OutOfMemory.{OutOfMemory}
 use Rattle.t_terms.specs.declared.shown.Shown.{Shown}
+use Rattle.t_terms.specs.declared.shown.Shown.TheVariants.{Tuple}
 use Rattle.t_terms.specs.Tree.{TProg}
 use Rattle.t_terms.specs.Spanned.{SProg, plain_program}
 use Rattle.t_terms.specs.Whole.{WellFormedProgram}
@@ -11,7 +13,9 @@ use Rattle.t_machine.specs.declared.machine.Ran.{Ran}
 use Rattle.t_machine.specs.Runs.{Stands, RanFrom, steps_made, words_in, IsRegAfter, IsPlaceAfter, IsKept, IsFieldAfter}
 use Rattle.t_machine.specs.Words.{shown_word}
 use Rattle.t_machine.specs.Room.{spare_tuples, spare_fields, Lowers, LowersAlong, WantsUncovered, IsUncapped}
-use Rattle.t_machine.specs.Room.{kept_tuples, kept_fields, most_tuples, most_fields, SameMost, KeepsWithin}
+use Rattle.t_machine.specs.Room.{kept_tuples, kept_fields, most_tuples, most_fields, SameMost, KeepsWithin, StaysSpare}
+use Rattle.t_machine.specs.Numbers.{IsCountedOut}
+use Rattle.t_machine.specs.Collected.{Unmoved}
 use Rattle.t_machine.specs.Reachable.{KeepsReached, StopsReached}
 use Rattle.tal_c.specs.declared.answer.Answer.{Answer}
 use Rattle.tal_c.specs.declared.answer.HostWord.{HostWord}
@@ -98,7 +102,8 @@ GuestReserve tuples fields old new answer =
     NotRun old new answer × ((x : Machine) → Has old x → Reserves tuples fields x old new answer)
 
 -- Tuples were dropped: the guest stands where it stood, no less is spare, and where the answer is `done`, the tuples
--- that can be reached are kept, and no others.
+-- that can be reached are kept, and no others. It is `memory` exactly where more than 2^64 - 2^32 tuples were made: the
+-- tuples and the registers are then as before.
 pub record Collects (x : Machine) (old new : Guest) (answer : Answer) : Type 0 where
   pub after : Machine
   pub taken : Result (Unit {0}) OutOfMemory
@@ -107,13 +112,16 @@ pub record Collects (x : Machine) (old new : Guest) (answer : Answer) : Type 0 w
   pub kept : Lowers 0 0 x after
   pub within : StaysWithin x after
   pub exactly : OnOk taken (KeepsReached x after)
+  pub counted : IsErr taken ↔ IsCountedOut x.heap
+  pub unmoved : OnErr taken (Unmoved x.heap x.registers.items after.heap after.registers.items)
   pub is : answer ≡ of_taken taken
 
 abbrev pub GuestCollect : Guest → Guest → Answer → Type 0
 GuestCollect old new answer = NotRun old new answer × ((x : Machine) → Has old x → Collects x old new answer)
 
 -- What may be kept was set: the guest stands where it stood, and may keep so many tuples, and so many fields of all of
--- them together; or as many as it kept, where that is more. It keeps no more than that, with what is spare.
+-- them together; or as many as it kept, where that is more. It keeps no more than that, with what is spare. What was
+-- spare stays so, as far as it may keep so many more.
 pub record Caps (tuples fields : ℕ) (x : Machine) (old new : Guest) (answer : Answer) : Type 0 where
   pub after : Machine
   pub has : Has new after
@@ -121,6 +129,7 @@ pub record Caps (tuples fields : ℕ) (x : Machine) (old new : Guest) (answer : 
   pub tuple_cap : most_tuples after ≡ max (kept_tuples x) (min tuples 4294967295)
   pub field_cap : most_fields after ≡ max (kept_fields x) (min fields 4294967295)
   pub within : KeepsWithin after
+  pub spare : StaysSpare x after
   pub is : answer ≡ bare done
 
 abbrev pub GuestWithin : (tuples fields : ℕ) → Guest → Guest → Answer → Type 0
@@ -129,11 +138,12 @@ GuestWithin tuples fields old new answer =
 
 -- ---- what is shown of a guest, which stays as it is
 
--- the word of register r of the machine, which is that of the program's state
+-- the word of register r of the machine, which is that of the program's state; a tuple that it shows is kept
 pub record ShowsReg (r : ℕ) (x : Machine) (word : HostWord) : Type 0 where
   pub shown : Option Shown
   pub held : option_map shown_word shown ≡ words_in x r
   pub meaning : (P : TProg) (m : ℕ) → Stands P m x → IsRegAfter P m r shown
+  pub kept : (a : ℕ) → shown ≡ Some (Tuple a) → IsKept x a
   pub is : word ≡ word_of shown
 
 -- the word of register r of a guest
@@ -141,11 +151,13 @@ abbrev pub GuestReg : ℕ → Guest → Guest → HostWord → Type 0
 GuestReg r old new word =
     (new ≡ old) × (old ≡ empty → word ≡ no_word) × ((x : Machine) → Has old x → ShowsReg r x word)
 
--- the word of field i of the tuple of number a, which is that of the program's state; none where no such tuple is kept
+-- the word of field i of the tuple of number a, which is that of the program's state; none where no such tuple is kept.
+-- A tuple that it shows is kept.
 pub record ShowsField (a i : ℕ) (x : Machine) (word : HostWord) : Type 0 where
   pub shown : Option Shown
   pub meaning : (P : TProg) (m : ℕ) → Stands P m x → IsKept x a → IsFieldAfter P m a i shown
   pub dropped : (IsKept x a → ⊥) → shown ≡ None
+  pub kept : (b : ℕ) → shown ≡ Some (Tuple b) → IsKept x b
   pub is : word ≡ word_of shown
 
 -- the word of field i of the tuple of number a of a guest

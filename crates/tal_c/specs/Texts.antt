@@ -16,7 +16,7 @@ use Rattle.t_check.specs.declared.checked.Checked.{Checked}
 use Rattle.t_machine.specs.declared.machine.Machine.{Machine}
 use Rattle.t_machine.specs.declared.machine.Ran.{Ran}
 use Rattle.t_machine.specs.Room.{IsUncapped}
-use Rattle.t_machine.specs.Runs.{FirstRun, Stands}
+use Rattle.t_machine.specs.Runs.{RanFrom, Stands}
 use Rattle.tal_c.specs.declared.answer.Answer.{Answer}
 use Rattle.tal_c.specs.Answers.{bare, done, of_fault, of_run}
 
@@ -63,12 +63,12 @@ pub record AcceptedTold (text : List ℕ) (answer : Answer) : Type 0 where
   pub never_sticks : NeverSticks (plain_program program)
   pub is : answer ≡ bare done
 
--- the text stands for an accepted program, and its first run went so
+-- the text stands for an accepted program, and a run from its start went so
 pub record RunTold (fuel : ℕ) (text : List ℕ) (answer : Answer) : Type 0 where
   pub program : SProg
   pub ran : Ran
   pub accepted : IsAcceptedText text program
-  pub run : FirstRun (plain_program program) fuel ran
+  pub run : RanFrom (plain_program program) 0 fuel ran
   pub is : answer ≡ of_run fuel ran
 
 abbrev pub CheckTold : List ℕ → Answer → Type 0

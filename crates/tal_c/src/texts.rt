@@ -6,7 +6,7 @@ ghost use Rattle.tal_c.specs.Texts.{ChecksText, IsLoaded, IsFaultOf, CheckTold, 
 use crate::answer::{Answer, DONE, bare, of_fault, of_run};
 use std::alloc::Global;
 use t_check::{Checked, check_salted};
-use t_machine::{Machine, first_runs_tell, load};
+use t_machine::{Machine, load};
 use t_reader::{read_salted, salt_of};
 use t_rules::accepted_programs_are_never_stuck;
 use t_terms::TFault;
@@ -63,7 +63,6 @@ fn accept(checked: Checked) -> Answer
 pub extern "C" fn talc_run(alloc: Global, text: &[u8], fuel: u64) -> Answer
     ensures { TextRunTold fuel text.now result }
 {
-    first_runs_tell();
     match load_text(alloc, text) {
         Ok(mut machine) => of_run(fuel, machine.run(fuel)),
         Err(fault) => of_fault(fault),

@@ -6,4 +6,4 @@ pub returns-in-Some : goal.returns-in-Some
 returns-in-Some c =
     guest_within c.args.tuples c.args.fields c.args.guest.now (record { machine = Some c.within.new.self })
     c.in-Some.machine c.within.new.self c.bare.result c.in-Some.is refl c.bare.ensures c.within.ensures.stands
-    c.within.ensures.tuples c.within.ensures.fields c.within.ensures.within
+    c.within.ensures.tuples c.within.ensures.fields c.within.ensures.within c.within.ensures.spare

@@ -1,5 +1,5 @@
 -- What is generated for a typed program is so by the rules.
-use Rattle.std.proofs.Common.{◌≡◌, ◌<◌, ◌≤◌, ℕ, zero, suc, ◌+◌, ◌-◌, List, [], ◌∷◌, ◌++◌, length, Option, Some, None}
+use Rattle.std.proofs.Common.{◌≡◌, ◌<◌, ℕ, zero, suc, ◌+◌, ◌-◌, List, [], ◌∷◌, ◌++◌, length, Option, Some, None}
 use Rattle.std.proofs.Common.{refl, sym, ap, ◌∙◌, subst, arith, ⊎_elim, inr, slice_get, length-append, inl}
 use Rattle.std.specs.Prelude.{◌==◌, Bool, true, ◌&&◌, ◌||◌}
 use Rattle.std.proofs.lemmas.Bool.{eq-eqb, eqb-true, cond_both, cond-true, or_cases, or_left, or_right, and_from}
@@ -24,9 +24,8 @@ use Rattle.t_gen_rules.specs.Gen.{block, extras, rows, constant, data_of, genera
 use Rattle.t_gen_rules.specs.Gen.{generated_heap}
 use Rattle.t_gen_laws.specs.GenLaws.{length_extras}
 use Rattle.t_gen_laws.specs.Counting.{first_of}
-use Rattle.t_gen_laws.specs.Rules.{Held, holding, nothing, IsPlain, Reads, most, Spare, Distinct}
-use Rattle.t_gen_laws.specs.Rules.{Declares, Covers, Code, Fields, Tuples, GeneratedIsByRules, before}
-use Rattle.t_gen_laws.specs.Rules.{IsPartOf, operands}
+use Rattle.t_gen_laws.specs.Rules.{Held, holding, nothing, IsPlain, Reads, before, IsPartOf, Comes, Spare, Distinct}
+use Rattle.t_gen_laws.specs.Rules.{Covers, Declares, Writes, Code, Fields, Tuples, GeneratedIsByRules}
 use Rattle.t_gen_laws.proofs.Free.{top_place, top_least, top_fewer, free_apart, spare_apart}
 use Rattle.t_gen_laws.proofs.Covers.{Apart, apart_fewer, apart_args, look_header, header_only, in_scope}
 use Rattle.t_gen_laws.proofs.Laying.{laid_out}
@@ -35,6 +34,7 @@ use Rattle.t_gen_laws.proofs.Loads.{reads_same, whole_part}
 use Rattle.t_gen_laws.proofs.Loads.{unnest_is, move_is, settled_is, named_is, home_low, call_comes}
 use Rattle.t_gen_laws.proofs.Places.{HasAt, has_all, has_front, has_back, length_firsts, main_block, extras_at}
 use Rattle.t_gen_laws.proofs.OneMore.{apart_next}
+use Rattle.t_gen_laws.proofs.Words.{scope}
 
 -- the variables of typed values, declarations and terms are in scope
 module _ (p : AProg) (k : ℕ) (g : List ATy) (n : ℕ) where
@@ -127,14 +127,17 @@ module _ (m : List ℕ) (e : ATm) (rest : TSeq) where
   abbrev after : ℕ → Bool
   after n = used e (suc n)
 
+  -- what the registers hold before it
+  abbrev at_first : ADecl → Held
+  at_first x = holding 0 m (used (Let x e))
+
   -- its moves, its instruction, and what stays
-  record Made (x : ADecl) (c : Held) (r : ℕ) (is : TSeq) : Type 0 where
-    held : Held
+  record Made (x : ADecl) (r : ℕ) (is : TSeq) : Type 0 where
     next : TSeq
-    comes : (ms : List Rattle.t_gen_laws.specs.Rules.Move) × (is ≡ before ms next) × (length ms ≤ most x)
-        × Rattle.t_gen_laws.specs.Rules.Brings (operands x) c ms held
-    does : Declares held m after r x next rest
-    stay : (n : ℕ) → after n ≡ true → held (place m n) ≡ c (place m n)
+    comes : Comes m (Let x e) is next
+    does : Declares comes.held r x next rest
+    spare : Writes x → Spare m after r
+    stay : (n : ℕ) → after n ≡ true → comes.held (place m n) ≡ at_first x (place m n)
 
   free_spare : Spare m after (free m after e)
   free_spare n y lt z = free_apart m after e n y z
@@ -143,22 +146,30 @@ module _ (m : List ℕ) (e : ATm) (rest : TSeq) where
       d (place m n) ≡ c (place m n)
   free_stays c d o n y = o (place m n) (λ z. free_apart m after e n y z)
 
-  made_decl : (x : ADecl) (c : Held) → Known c m (over m (used (Let x e))) (used (Let x e)) →
-      Made x c (target m x e) (decl_code (over m (used (Let x e))) m (target m x e) x rest)
-  made_decl (Value v) c a =
+  made_decl : (x : ADecl) → Known (at_first x) m (over m (used (Let x e))) (used (Let x e)) →
+      Made x (target m x e) (decl_code (over m (used (Let x e))) m (target m x e) x rest)
+  made_decl (Value v) a =
+      let c = at_first (Value v) in
       let u = used (Let (Value v) e) in
       let d = over m u in
       let far : (n : ℕ) → after n ≡ true → place m n < d = λ n y. (a n (or_right (uses v n) (after n) y)).1 in
       let few = known_fewer c m d u (uses v) (λ n y. or_left (uses v n) (after n) y) a in
       let g = named_is (v ∷ []) v c m d d after e rest (λ x i. inl i) (omega arith) far few in
       record {
-        held = g.held;
         next = rest;
-        comes = (g.moves, g.same, g.few, g.brings);
+        comes = record {
+          moves = g.moves;
+          first = g.same;
+          few = omega (arith, g.few);
+          held = g.held;
+          brings = g.brings;
+        };
         does = (refl, g.here);
+        spare = absurd;
         stay = g.stays;
       }
-  made_decl (Proj i v) c a =
+  made_decl (Proj i v) a =
+      let c = at_first (Proj i v) in
       let u = used (Let (Proj i v) e) in
       let d = over m u in
       let r = free m after e in
@@ -166,13 +177,20 @@ module _ (m : List ℕ) (e : ATm) (rest : TSeq) where
       let q = home r (small r m v) in
       let g = settled_is (v ∷ []) v c m d r (Then (T.Ld r q (i - 1)) rest) (λ x i. inl i) few in
       record {
-        held = g.held;
         next = Then (T.Ld r q (i - 1)) rest;
-        comes = (g.moves, g.same, g.few, g.brings);
-        does = (q, refl, g.here, free_spare);
+        comes = record {
+          moves = g.moves;
+          first = g.same;
+          few = omega (arith, g.few);
+          held = g.held;
+          brings = g.brings;
+        };
+        does = (q, refl, g.here);
+        spare = λ z. free_spare;
         stay = free_stays c g.held (λ q ne. g.others q (λ z. absurd (ne z)));
       }
-  made_decl (Arith o v w) c a =
+  made_decl (Arith o v w) a =
+      let c = at_first (Arith o v w) in
       let u = used (Let (Arith o v w) e) in
       let d = over m u in
       let r = free m after e in
@@ -191,43 +209,53 @@ module _ (m : List ℕ) (e : ATm) (rest : TSeq) where
       let first = reads_same g.held k.held v (reg q) (λ j z.
       (let s = base_reg z in k.others j (λ t. absurd (omega (arith, s, t, low))))) g.here in
       record {
-        held = k.held;
         next = last;
-        comes = (
-          g.moves ++ k.moves,
-          g.same ∙ ap (before g.moves) k.same ∙ sym (before_on g.moves k.moves last),
-          (let z = length-append g.moves k.moves in omega (arith, z, g.few, k.few)),
-          brings_on ws g.moves k.moves c g.held k.held g.brings k.brings,
-        );
-        does = (q, y, refl, first, k.here, free_spare);
+        comes = record {
+          moves = g.moves ++ k.moves;
+          first = g.same ∙ ap (before g.moves) k.same ∙ sym (before_on g.moves k.moves last);
+          few = (let z = length-append g.moves k.moves in omega (arith, z, g.few, k.few));
+          held = k.held;
+          brings = brings_on ws g.moves k.moves c g.held k.held g.brings k.brings;
+        };
+        does = (q, y, refl, first, k.here);
+        spare = λ z. free_spare;
         stay = λ n z.
             (let lt = (a n (or_right (uses v n || uses w n) (after n) z)).1 in
             k.others (place m n) (λ t. absurd (omega (arith, t, lt)))
             ∙ g.others (place m n) (λ t. absurd (omega (arith, t, lt))));
       }
-  made_decl (Unpack v) c a =
+  made_decl (Unpack v) a =
+      let c = at_first (Unpack v) in
       let u = used (Let (Unpack v) e) in
       let d = over m u in
       let r = free m after e in
       let few = known_fewer c m d u (uses v) (λ n y. or_left (uses v n) (after n) y) a in
       let g = unnest_is (v ∷ []) v c m d r (Then (T.Unpack r (small r m v)) rest) (λ x i. inl i) few in
       record {
-        held = g.held;
         next = Then (T.Unpack r (small r m v)) rest;
-        comes = (g.moves, g.same, g.few, g.brings);
-        does = (small r m v, refl, g.here, free_spare);
+        comes = record {
+          moves = g.moves;
+          first = g.same;
+          few = omega (arith, g.few);
+          held = g.held;
+          brings = g.brings;
+        };
+        does = (small r m v, refl, g.here);
+        spare = λ z. free_spare;
         stay = free_stays c g.held (λ q ne. g.others q (λ z. absurd (ne z)));
       }
-  made_decl (Malloc ts) c a =
+  made_decl (Malloc ts) a =
+      let c = at_first (Malloc ts) in
       let r = free m after e in
       record {
-        held = c;
         next = Then (T.Malloc r (tys ts)) rest;
-        comes = ([], refl, omega arith, refl);
-        does = (refl, free_spare);
+        comes = record { moves = []; first = refl; few = omega arith; held = c; brings = refl };
+        does = refl;
+        spare = λ z. free_spare;
         stay = λ n y. refl;
       }
-  made_decl (Init v i w) c a =
+  made_decl (Init v i w) a =
+      let c = at_first (Init v i w) in
       let all = used (Let (Init v i w) e) in
       let d = over m all in
       let u : ℕ → Bool = λ n. uses w n || after n in
@@ -252,15 +280,16 @@ module _ (m : List ℕ) (e : ATm) (rest : TSeq) where
       let tuple = reads_same g.held k.held v (reg r) (λ j z.
       (let t = base_reg z in k.others j (λ y. absurd (own.2 (t ∙ y))))) g.here in
       record {
-        held = k.held;
         next = last;
-        comes = (
-          g.moves ++ k.moves,
-          g.same ∙ ap (before g.moves) k.same ∙ sym (before_on g.moves k.moves last),
-          (let z = length-append g.moves k.moves in omega (arith, z, g.few, k.few)),
-          brings_on ws g.moves k.moves c g.held k.held g.brings k.brings,
-        );
+        comes = record {
+          moves = g.moves ++ k.moves;
+          first = g.same ∙ ap (before g.moves) k.same ∙ sym (before_on g.moves k.moves last);
+          few = (let z = length-append g.moves k.moves in omega (arith, z, g.few, k.few));
+          held = k.held;
+          brings = brings_on ws g.moves k.moves c g.held k.held g.brings k.brings;
+        };
         does = (q, refl, tuple, k.here);
+        spare = absurd;
         stay = λ n z.
             (let t = far n (or_right (uses w n) (after n) z) in
             k.others (place m n) (λ y. absurd (omega (arith, t, y, own.0)))
@@ -270,23 +299,24 @@ module _ (m : List ℕ) (e : ATm) (rest : TSeq) where
 -- terms, where the third parts stand in P
 module _ (p : AProg) (P : List TBlock) where
   code_is : (e : ATm) (k : ℕ) (m : List ℕ) (g : List ATy) (at : ℕ) → Apart m g (used e) → TypedTerm p k g e →
-      HasAt P at (extras p k m g at e) → Code P p k m g at e (code k m at e)
+      HasAt P at (extras p k m g at e) → Code (scope P p k m g) at e (code k m at e)
   code_is (Let x e) k m g at a h has =
       let u = used (Let x e) in
       let r = target m x e in
       let rest = code (more_vars x k) (r ∷ m) at e in
-      let c = holding 0 m u in
       let known = starts m g u a (λ n y. term_in p k g n (Let x e) h y) in
-      let d = made_decl m e rest x c known in
+      let d = made_decl m e rest x known in
       let next = apart_next p k g m x e a h.0 in (
-        r,
-        d.held,
-        d.next,
-        rest,
-        d.comes,
-        d.does,
-        (λ n y lt. d.stay n y ∙ (known n (or_right (uses_decl x n) (used e (suc n)) y)).0),
-        next.own,
+        record {
+          register = r;
+          next = d.next;
+          comes = d.comes;
+          rest = rest;
+          declares = d.does;
+          kept = λ n y lt. d.stay n y ∙ (known n (or_right (uses_decl x n) (used e (suc n)) y)).0;
+          spare = d.spare;
+          apart = next.own;
+        },
         code_is e (more_vars x k) (r ∷ m) (declared p g x) at next h.1 has,
       )
   code_is (Call v ts vs) k m g at a h has =
@@ -298,7 +328,12 @@ module _ (p : AProg) (P : List TBlock) where
       let more = top_fewer 0 (length vs) m u u (λ n y. y) (omega arith) in
       let d = call_comes (Apply v ts ∷ vs) v ts vs 1 b m c (λ x i. of_call x i) (omega arith) (omega (arith, least))
       (known_above c m (over m u) b u (omega (arith, more)) known) in
-      (d.held, d.code, (d.moves, d.same, d.few, d.brings), d.goes, d.order)
+      record {
+        target = d.code;
+        comes = record { moves = d.moves; first = d.same; few = d.few; held = d.held; brings = d.brings };
+        called = d.goes;
+        arguments = d.order;
+      }
     where
       -- a part of the code is one of it with its types
       of_call : (x : AVal) → IsPartOf x (v ∷ vs) → IsPartOf x (Apply v ts ∷ vs)
@@ -325,18 +360,25 @@ module _ (p : AProg) (P : List TBlock) where
       let ea = extras p k m g (suc at) a in
       let eb = extras p k m g (suc at + thirds a) b in
       let z : suc at + thirds a ≡ suc at + length ea = omega (arith, len) in (
-        q,
-        s.held,
-        second,
-        third,
-        (s.moves, s.same, s.few, s.brings),
-        s.here,
-        (λ n y lt.
-            let w = known n (or_right (uses v n) (used a n || used b n) y) in
-            s.others (place m n) (λ t. absurd (omega (arith, t, w.1))) ∙ w.0),
-        has.0,
-        refl,
-        covers m g (used b) ap_b,
+        record {
+          tested = q;
+          second = second;
+          comes = record {
+            moves = s.moves;
+            first = s.same;
+            few = omega (arith, s.few);
+            held = s.held;
+            brings = s.brings;
+          };
+          tests = s.here;
+          kept = λ n y lt.
+              (let w = known n (or_right (uses v n) (used a n || used b n) y) in
+              s.others (place m n) (λ t. absurd (omega (arith, t, w.1))) ∙ w.0);
+          third = third;
+          found = has.0;
+          owes = refl;
+          covers = covers m g (used b) ap_b;
+        },
         code_is a k m g (suc at) ap_a h.1 (has_front P (suc at) ea eb has.1),
         code_is b k m g (suc at + thirds a) ap_b h.2 (has_back P (suc at) (suc at + thirds a) ea eb z has.1),
       )
@@ -347,16 +389,17 @@ module _ (p : AProg) (P : List TBlock) where
       let known = starts m g u a (λ n y. term_in p k g n (Halt v) h y) in
       let x = small d m v in
       let r = unnest_is (v ∷ []) v c m d d (Rattle.t_gen_rules.specs.Gen.move 1 x (Ends T.Halt)) (λ y i. inl i) known in
-      let q = (move_is (v ∷ []) 1 x v r.held (Ends T.Halt) (inl (whole_part v)) r.here).0 in (
-        q.held,
-        (
-          r.moves ++ q.moves,
-          r.same ∙ ap (before r.moves) q.same ∙ sym (before_on r.moves q.moves (Ends T.Halt)),
-          (let z = length-append r.moves q.moves in omega (arith, z, r.few, q.few)),
-          brings_on (v ∷ []) r.moves q.moves c r.held q.held r.brings q.brings,
-        ),
-        q.here,
-      )
+      let q = (move_is (v ∷ []) 1 x v r.held (Ends T.Halt) (inl (whole_part v)) r.here).0 in
+      record {
+        comes = record {
+          moves = r.moves ++ q.moves;
+          first = r.same ∙ ap (before r.moves) q.same ∙ sym (before_on r.moves q.moves (Ends T.Halt));
+          few = (let z = length-append r.moves q.moves in omega (arith, z, r.few, q.few));
+          held = q.held;
+          brings = brings_on (v ∷ []) r.moves q.moves c r.held q.held r.brings q.brings;
+        };
+        answer = q.here;
+      }
 
 -- data fields have no variables
 none_in : (p : AProg) (v : AVal) (t : ATy) → Has p 0 [] v t → (n : ℕ) → uses v n ≡ true → ⊥
@@ -422,27 +465,23 @@ generated_is p main h =
     let thirds_there = has_back P at at0 es ss (omega (arith, l2)) all in
     let layout = laid_out p main in
     record {
-      main_block = (
-        block 0 NoRegs [] at main,
-        refl,
-        record {
-          owes = refl;
-          file = refl;
-          code = code_is p P main 0 [] [] at (record { same = refl; own = λ i j x y li lj e. absurd (omega arith) })
-              h.main_ok (has_front P at es ss all);
-        },
-      );
-      blocks = λ l b e. (
-        main_block b (first_of p.blocks at0 l),
-        layout.blocks l b e,
-        record {
-          owes = refl;
-          file = refl;
-          code = code_is p P b.body b.owes (rows (arity b.args)) (types_of b.args []) (first_of p.blocks at0 l)
-              (apart_args b.args (used b.body)) (block_ok p p.blocks l b h.blocks e)
-              (extras_at P p p.blocks at0 l b thirds_there e);
-        },
-      );
+      main_block = record {
+        block = block 0 NoRegs [] at main;
+        found = refl;
+        owes = refl;
+        file = refl;
+        code = code_is p P main 0 [] [] at (record { same = refl; own = λ i j x y li lj e. absurd (omega arith) })
+            h.main_ok (has_front P at es ss all);
+      };
+      blocks = λ l b e. record {
+        block = main_block b (first_of p.blocks at0 l);
+        found = layout.blocks l b e;
+        owes = refl;
+        file = refl;
+        code = code_is p P b.body b.owes (rows (arity b.args)) (types_of b.args []) (first_of p.blocks at0 l)
+            (apart_args b.args (used b.body)) (block_ok p p.blocks l b h.blocks e)
+            (extras_at P p p.blocks at0 l b thirds_there e);
+      };
       count = layout.count;
       tuples = tuples_are p p.tuples h.tuples;
     }

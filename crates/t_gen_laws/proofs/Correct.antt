@@ -135,7 +135,7 @@ module _ (p : AProg) (main : ATm) (P : TProg) (by_rules : Generates p main P) (k
   at = suc (length p.blocks)
 
   abbrev first : TBlock
-  first = by_rules.main_block.0
+  first = by_rules.main_block.block
 
   -- the main term's block, and those of its third parts
   abbrev budget : ℕ
@@ -157,7 +157,7 @@ module _ (p : AProg) (main : ATm) (P : TProg) (by_rules : Generates p main P) (k
       (sym (heap_word p.tuples P.heap by_rules.tuples))
       (term_runs p P.blocks (at + thirds main) k budget laid c
       (calls_run p P.blocks (at + thirds main) k budget laid c) main first.code [] 0 at [] [] (start_heap p.tuples) []
-      no_ewords (0 ∷ []) by_rules.main_block.2.code refl (λ n w y x. absurd (no_variable n w x)) base)
+      no_ewords (0 ∷ []) by_rules.main_block.code refl (λ n w y x. absurd (no_variable n w x)) base)
 
   back_from : (m n : ℕ) (i : ℤ) (t : LState) → n ≤ m → after B n begins ≡ Some t → HaltsAt t i → (r : Result) →
       ((log : List ℕ) → r ≡ Wrong log → ⊥) → Follows B k limit begins m r → (log : List ℕ) × (r ≡ Halted i log)
@@ -301,10 +301,10 @@ module _ (runs : RunsErase) (halts : HaltsErased) (steps : StepsFirst) (times : 
     (main : ATm) (P : TProg) (by_rules : Generates p main P) (never : NeverWrong p main) (whole : WellFormedProgram P)
     (acc : Accepted P) where
   abbrev first_block : TBlock
-  first_block = by_rules.main_block.0
+  first_block = by_rules.main_block.block
 
   at_first : slice_get P.blocks 0 ≡ Some first_block
-  at_first = by_rules.main_block.1
+  at_first = by_rules.main_block.found
 
   abbrev n : ℕ
   n = suc (length p.blocks)

@@ -18,7 +18,7 @@ use Rattle.t_rules.specs.Machine.{Next}
 use Rattle.t_rules.specs.Erase.{EWord, EInt, EAddress, EEmpty, EHeap, ERegs, EAt, EStep, EGoes, ESeq, erase_seq}
 use Rattle.t_rules.specs.Erase.{erase_value, base_word, on_full}
 use Rattle.t_gen_rules.specs.Gen.{tys, reg, place, applied_to, used}
-use Rattle.t_gen_laws.specs.Rules.{Held, InRegister, Reads, Move, before, Brings, Stay, Spare, Declares}
+use Rattle.t_gen_laws.specs.Rules.{Held, InRegister, Reads, Move, before, Brings, Stay, Spare, Declares, Writes}
 use Rattle.t_gen_laws.proofs.Leads.{LState, On, lstep, logged, Leads, leads_none, leads_on, leads_step}
 use Rattle.t_gen_laws.proofs.Words.{word, slot, tuple, heap, tuple_empties, get_same, get_other, Agree, Fits}
 use Rattle.t_gen_laws.proofs.Words.{agree_next}
@@ -189,14 +189,15 @@ module _ (B : List ESeq) (log : List ℕ) where
               (λ n y lt. get_other ρ r (place m n) (word w) (λ z. absurd (spare n y lt z)));
         }
 
-    pub decl_runs : (x : ADecl) → Declares c m u r x is rest → OK B log m r e ρ h env is rest (decl x env h)
-    decl_runs (Value v) (same, here) = ok_given m r e ρ env h is rest (value env v) _ (λ w x. record {
+    pub decl_runs : (x : ADecl) → (Writes x → Spare m u r) → Declares c r x is rest →
+        OK B log m r e ρ h env is rest (decl x env h)
+    decl_runs (Value v) spare (same, here) = ok_given m r e ρ env h is rest (value env v) _ (λ w x. record {
       regs = ρ;
       leads = subst (λ z. Leads B (at (heap h) ρ is log) (at (heap h) ρ z log)) same (leads_none B _);
       agree = agree_next ρ ρ c m env (used e) r w long fits stay (reads_this ρ c env fits v (reg r) w here x)
           (λ n y lt. refl);
     })
-    decl_runs (Proj i v) (q, is_it, here, spare) =
+    decl_runs (Proj i v) spare (q, is_it, here) =
         ok_address m r e ρ env h is rest (value env v) _ (λ a x. ok_field m r e ρ env h is rest i _ (λ j z.
         ok_given m r e ρ env h is rest (slice_get h a) _ (λ t y. ok_given m r e ρ env h is rest (slice_get t j) _
         (λ f o.
@@ -205,19 +206,19 @@ module _ (B : List ESeq) (log : List ℕ) where
         let n : j ≡ i - 1 = omega (arith, z) in
         let there = subst (λ k. slice_get (tuple t) k ≡ Some (word w)) n (s.1 ∙ ap (λ o. Some (slot o)) p) in
         let tuple_here = reads_this ρ c env fits v (reg q) (ZTuple a) here x in
-        writes (T.Ld r q (i - 1)) w h is_it spare (ld_step (heap h) ρ rest r q (i - 1) a (tuple t) w tuple_here s.0
-        there))))))
-    decl_runs (Arith o v v2) (q, y2, is_it, here, here2, spare) =
+        writes (T.Ld r q (i - 1)) w h is_it (spare tt)
+        (ld_step (heap h) ρ rest r q (i - 1) a (tuple t) w tuple_here s.0 there))))))
+    decl_runs (Arith o v v2) spare (q, y2, is_it, here, here2) =
         ok_number m r e ρ env h is rest (value env v) _ (λ a x. ok_number m r e ρ env h is rest (value env v2) _ (λ b y.
         let first = reads_this ρ c env fits v (reg q) (ZInt a) here x in
         let second = reads_this ρ c env fits v2 y2 (ZInt b) here2 y in
-        writes (T.Arith o r q y2) (ZInt (compute o a b)) h is_it spare
+        writes (T.Arith o r q y2) (ZInt (compute o a b)) h is_it (spare tt)
         (arith_step (heap h) ρ rest o r q y2 a b first second)))
-    decl_runs (Unpack v) (y, is_it, here, spare) =
+    decl_runs (Unpack v) spare (y, is_it, here) =
         ok_given m r e ρ env h is rest (value env v) _ (λ w x.
-        writes (T.Unpack r y) w h is_it spare
+        writes (T.Unpack r y) w h is_it (spare tt)
         (unpack_step (heap h) ρ rest r y (word w) (reads_this ρ c env fits v y w here x)))
-    decl_runs (Malloc ts) (is_it, spare) =
+    decl_runs (Malloc ts) spare is_it =
         let h2 = h ++ empties ts ∷ [] in
         let grown : heap h ++ replicate (length (tys ts)) EEmpty ∷ [] ≡ heap h2 =
         ap (λ t. heap h ++ t ∷ []) (sym (tuple_empties ts)) ∙ sym (map-append tuple h (empties ts ∷ [])) in
@@ -226,8 +227,8 @@ module _ (B : List ESeq) (log : List ℕ) where
         (at (heap h2) (with_reg ρ r (EAddress (length h))) rest log) =
         ap (λ x. Some (at x (with_reg ρ r (EAddress (length (heap h)))) rest log)) grown
         ∙ ap (λ x. Some (at (heap h2) (with_reg ρ r x) rest log)) place in
-        writes (T.Malloc r (tys ts)) (ZTuple (length h)) h2 is_it spare s
-    decl_runs (Init v i v2) (q, is_it, here, here2) =
+        writes (T.Malloc r (tys ts)) (ZTuple (length h)) h2 is_it (spare tt) s
+    decl_runs (Init v i v2) spare (q, is_it, here, here2) =
         ok_address m r e ρ env h is rest (value env v) _ (λ a x. ok_field m r e ρ env h is rest i _ (λ j z.
         ok_given m r e ρ env h is rest (value env v2) _ (λ w y. ok_given m r e ρ env h is rest (slice_get h a) _ (λ t p.
         ok_given m r e ρ env h is rest (slice_get t j) _ (λ f o.

@@ -13,8 +13,8 @@ use Rattle.t_rules.specs.Erase.{erase_value}
 use Rattle.t_gen_rules.specs.Gen.{tys, reg, applied_to, place, inside, small, boxed, unnest, stands, move, home, settle}
 use Rattle.t_gen_rules.specs.Gen.{uses, uses_any, used, free, owner, reads, later, owns, saved, above_saved, instead}
 use Rattle.t_gen_rules.specs.Gen.{places_saved, call_code}
-use Rattle.t_gen_laws.specs.Rules.{Held, InRegister, IsPlain, Reads, Move, before, Brings, packages, most_all, InOrder}
-use Rattle.t_gen_laws.specs.Rules.{IsPart, IsPartOf}
+use Rattle.t_gen_laws.specs.Rules.{Held, InRegister, IsPlain, Reads, Move, before, IsPart, IsPartOf, Brings, packages}
+use Rattle.t_gen_laws.specs.Rules.{all_packages, InOrder}
 use Rattle.t_gen_laws.proofs.Free.{free_apart}
 use Rattle.t_gen_laws.proofs.Words.{get_same, get_other}
 use Rattle.t_gen_laws.proofs.Decls.{applied_base}
@@ -396,6 +396,10 @@ instead_not b j q lj lq =
     clash : true ≡ false → ⊥
     clash y = cc
 
+-- as many moves as a call may need
+abbrev pub most : List AVal → AVal → ℕ
+most vs f = (length vs + length vs) + (packages f + all_packages vs)
+
 -- what a call comes to: the moves before its jump, and the code
 pub record Calls (ws : List AVal) (c : Held) (is : TSeq) (j : ℕ) (vs : List AVal) (f : AVal) (ts : ATys)
     (n : ℕ) : Type 0 where
@@ -425,13 +429,13 @@ module _ (ws : List AVal) (f : AVal) (ts : ATys) where
   abbrev Rest-comes : List AVal → ℕ → Type 0
   Rest-comes vs j =
       (b : ℕ) (m : List ℕ) (c : Held) → j + length vs ≤ b → Known c m b (wants f vs) →
-      Calls ws c (call_code j b m vs f (tys ts)) j vs f ts (most_all vs + packages f)
+      Calls ws c (call_code j b m vs f (tys ts)) j vs f ts (most vs f)
 
   module _ (v : AVal) (vs : List AVal) (j : ℕ) (parts : EachOf (f ∷ v ∷ vs) ws) (rec : Rest-comes vs (suc j)) where
     argument_comes : (b : ℕ) (m : List ℕ) (c : Held) → j + length (v ∷ vs) ≤ b → Known c m b (wants f (v ∷ vs)) →
         ((n : ℕ) → wants f vs n ≡ true → place m n ≡ j → stands j (small b m v) ≡ true) →
         Calls ws c (unnest b m v (move j (small b m v) (call_code (suc j) b m vs f (tys ts)))) j (v ∷ vs) f ts
-        (suc (packages v) + (most_all vs + packages f))
+        (suc (packages v) + most vs f)
     argument_comes b m c le k read =
         let rest = call_code (suc j) b m vs f (tys ts) in
         let x = small b m v in
@@ -471,7 +475,7 @@ module _ (ws : List AVal) (f : AVal) (ts : ATys) where
         Calls ws c (saved lost b j (unnest (above_saved lost b) (places_saved lost b j m) v
         (move j (small (above_saved lost b) (places_saved lost b j m) v)
         (call_code (suc j) (above_saved lost b) (places_saved lost b j m) vs f (tys ts))))) j (v ∷ vs) f ts
-        (most_all (v ∷ vs) + packages f)
+        (most (v ∷ vs) f)
     saved_comes b m c l le a false e = more_moves (argument_comes b m c le a
         (λ n q p. ⊎_elim (λ z. stood z) (λ z. absurd (later_none vs f j m n z q p))
         (and_cases (not (owns j m v)) (later j m vs f) e)))
@@ -481,9 +485,9 @@ module _ (ws : List AVal) (f : AVal) (ts : ATys) where
 
         more_moves :
             Calls ws c (unnest b m v (move j (small b m v) (call_code (suc j) b m vs f (tys ts)))) j (v ∷ vs) f ts
-            (suc (packages v) + (most_all vs + packages f)) →
+            (suc (packages v) + most vs f) →
             Calls ws c (unnest b m v (move j (small b m v) (call_code (suc j) b m vs f (tys ts)))) j (v ∷ vs) f ts
-            (most_all (v ∷ vs) + packages f)
+            (most (v ∷ vs) f)
         more_moves g = record {
           moves = g.moves;
           code = g.code;
@@ -530,7 +534,7 @@ module _ (ws : List AVal) (f : AVal) (ts : ATys) where
 
   pub call_comes : (vs : List AVal) (j b : ℕ) (m : List ℕ) (c : Held) → EachOf (f ∷ vs) ws → 1 ≤ j →
       j + length vs ≤ b → Known c m b (wants f vs) →
-      Calls ws c (call_code j b m vs f (tys ts)) j vs f ts (most_all vs + packages f)
+      Calls ws c (call_code j b m vs f (tys ts)) j vs f ts (most vs f)
   call_comes [] j b m c parts l le a =
       let x = applied_to (small b m f) (tys ts) in
       let code = known_fewer c m b (wants f []) (uses f) (of_code f []) a in

@@ -1,5 +1,5 @@
 -- Code that is so by the rules with other registers than code generation takes, and code that is not.
-use Rattle.std.proofs.Common.{◌≡◌, ◌<◌, ℕ, zero, suc, List, [], ◌∷◌, refl, arith, inl, inr}
+use Rattle.std.proofs.Common.{◌≡◌, ◌<◌, ℕ, zero, suc, List, [], ◌∷◌, length, refl, ap, arith, inl, inr}
 use Rattle.std.proofs.lemmas.Bool.{eqb-true}
 use Rattle.std.specs.Prelude.{pos, Some, true}
 use Rattle.idx_core.specs.declared.arith.Op.TheVariants.{Add, Mul}
@@ -7,18 +7,21 @@ use Rattle.a_terms.specs.Tree.{AVal, Var, Num, Arith, ATm, Let, Halt}
 use Rattle.t_terms.specs.Tree as T
 use Rattle.t_terms.specs.Tree.{TSeq, Then, Ends}
 use Rattle.t_terms.specs.Registers.{with_reg}
-use Rattle.t_gen_rules.specs.Gen.{reg, used}
+use Rattle.t_gen_rules.specs.Gen.{reg, place, used}
 use Rattle.t_gen_laws.specs.Worked.{alone}
-use Rattle.t_gen_laws.specs.Rules.{Held, nothing, holding, Move, Brings, Declares, InOrder, Code, IsPartOf}
-use Rattle.t_gen_laws.specs.Rules.{operands}
+use Rattle.t_gen_laws.specs.Rules.{Held, nothing, holding, Move, IsPartOf, Brings, operands, InOrder, Scope, LetCode}
+use Rattle.t_gen_laws.specs.Rules.{Code}
+use Rattle.t_gen_laws.proofs.Words.{scope}
 
 abbrev number : ℕ → T.TValue
 number n = T.Plain (T.Int (pos n)) []
 
 -- x = 1 + 2; y = x * x; halt y
+abbrev square : ATm
+square = Let (Arith Mul (Var 0) (Var 0)) (Halt (Var 0))
+
 abbrev squared : ATm
-squared =
-    Let (Arith Add (Num (pos 1)) (Num (pos 2))) (Let (Arith Mul (Var 0) (Var 0)) (Halt (Var 0)))
+squared = Let (Arith Add (Num (pos 1)) (Num (pos 2))) square
 
 -- mov r3, 1; add r7, r3, 2; mul r5, r7, r7; mov r1, r5; halt
 abbrev chosen : TSeq
@@ -37,35 +40,50 @@ not_two i a = omega (arith, a)
 only_last : (n : ℕ) → used (Halt (Var 0)) (suc n) ≡ true → ⊥
 only_last n e = let z = eqb-true 0 (suc n) e in omega (arith, z)
 
-chosen_by_rules : Code [] alone 0 [] [] 1 squared chosen
+chosen_by_rules : Code (scope [] alone 0 [] []) 1 squared chosen
 chosen_by_rules = (
-  7,
-  with_reg nothing 3 (Num (pos 1)),
-  _,
-  _,
-  (record { to = 3; value = number 1 } ∷ [], refl, omega arith, (Num (pos 1), inl refl, inr refl, refl)),
-  (3, number 2, refl, inl (3, refl, refl), inr refl, λ n y l z. not_two n l),
-  (λ n y l. absurd (not_two n l)),
-  (λ i j x y a b e. one_only i j a b),
+  record {
+    register = 7;
+    next = _;
+    comes = record {
+      moves = record { to = 3; value = number 1 } ∷ [];
+      first = refl;
+      few = omega arith;
+      held = with_reg nothing 3 (Num (pos 1));
+      brings = (Num (pos 1), inl refl, inr refl, refl);
+    };
+    rest = _;
+    declares = (3, number 2, refl, inl (3, refl, refl), inr refl);
+    kept = λ n y l. absurd (not_two n l);
+    spare = λ w n y l z. not_two n l;
+    apart = λ i j x y a b e. one_only i j a b;
+  },
   (
-    5,
-    _,
-    _,
-    _,
-    ([], refl, omega arith, refl),
-    (7, reg 7, refl, (7, refl, refl), (7, refl, refl), λ n y l z. only_last n y),
-    (λ n y l. absurd (only_last n y)),
-    distinct,
-    (
-      _,
-      (record { to = 1; value = reg 5 } ∷ [], refl, omega arith, (Var 0, inl refl, (5, refl, refl), refl)),
-      (1, refl, refl),
-    ),
+    record {
+      register = 5;
+      next = _;
+      comes = record { moves = []; first = refl; few = omega arith; held = _; brings = refl };
+      rest = _;
+      declares = (7, reg 7, refl, (7, refl, refl), (7, refl, refl));
+      kept = λ n y l. absurd (only_last n y);
+      spare = λ w n y l z. only_last n y;
+      apart = distinct;
+    },
+    record {
+      comes = record {
+        moves = record { to = 1; value = reg 5 } ∷ [];
+        first = refl;
+        few = omega arith;
+        held = _;
+        brings = (Var 0, inl refl, (5, refl, refl), refl);
+      };
+      answer = (1, refl, refl);
+    },
   ),
 )
   where
     distinct : (i j : ℕ) → used (Halt (Var 0)) i ≡ true → used (Halt (Var 0)) j ≡ true → i < 2 → j < 2 →
-        Rattle.t_gen_rules.specs.Gen.place (5 ∷ 7 ∷ []) i ≡ Rattle.t_gen_rules.specs.Gen.place (5 ∷ 7 ∷ []) j → i ≡ j
+        place (5 ∷ 7 ∷ []) i ≡ place (5 ∷ 7 ∷ []) j → i ≡ j
     distinct zero zero x y a b e = refl
     distinct (suc i) j x y a b e = absurd (only_last i x)
     distinct zero (suc j) x y a b e = absurd (only_last j y)
@@ -98,12 +116,15 @@ over_it_brings : (c : Held) × Brings (Var 0 ∷ []) both over_it c × (c 2 ≡ 
 over_it_brings = (_, (Var 0, inl refl, (2, refl, refl), (Var 0, inl refl, (1, refl, refl), refl)), refl)
 
 -- a sum that is written over a variable that is still used is none: x in register 1, y = x + 1 in register 1
-clobbers : (c : Held) (m : TSeq) → Declares c (1 ∷ []) (λ n. true) 1 (Arith Add (Var 0) (Num (pos 1))) m (Ends T.Halt) →
-    ⊥
-clobbers c m (q, y, is, first, second, spare) = spare 0 refl (omega arith) refl
+clobbers : (s : Scope) (e : ATm) (is : TSeq) (d : LetCode s (Arith Add (Var 0) (Num (pos 1))) e is) →
+    s.regs ≡ 1 ∷ [] → used e 1 ≡ true → d.register ≡ 1 → ⊥
+clobbers s e is d m y r =
+    let there : place s.regs 0 ≡ 1 = ap (λ l. place l 0) m in
+    let long : length s.regs ≡ 1 = ap length m in
+    d.spare tt 0 y (omega (arith, long)) (omega (arith, there, r))
 
 -- nor is a move of a value that nobody asks for before y = x * x
-idle : (v : AVal) → IsPartOf v (operands (Arith Mul (Var 0) (Var 0))) → v ≡ Var 0
+idle : (v : AVal) → IsPartOf v (operands square) → v ≡ Var 0
 idle v (inl is) = is
 idle v (inr (inl is)) = is
 idle v (inr (inr is)) = absurd is

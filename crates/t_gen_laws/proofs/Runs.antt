@@ -15,12 +15,12 @@ use Rattle.t_terms.specs.Tree as T
 use Rattle.t_terms.specs.Tree.{TValue, TSeq, Then, Ends, TBlock}
 use Rattle.t_rules.specs.Erase.{ERegs, ELabel, EAt, ESeq, EThen, EJmp, EHalt, base_word, erase_value, erase_seq}
 use Rattle.t_rules.specs.Erase.{erase_block}
-use Rattle.t_gen_rules.specs.Gen.{reg, place, uses, used, tvars, rows, ty_args}
+use Rattle.t_gen_rules.specs.Gen.{reg, place, used, tvars, rows}
 use Rattle.t_gen_laws.specs.Counting.{one, count, first_of, times_among, share_of, share, credit}
-use Rattle.t_gen_laws.specs.Rules.{Held, holding, Comes, InOrder, Code, IsBlock, operands}
+use Rattle.t_gen_laws.specs.Rules.{Held, holding, operands, Comes, InOrder, Code, IsBlock}
 use Rattle.t_gen_laws.proofs.Leads.{LState, On, lstep, after, Leads, Moves, leads_on, leads_step, moves_step}
 use Rattle.t_gen_laws.proofs.Lift.{HaltsAt}
-use Rattle.t_gen_laws.proofs.Words.{word, heap, Agree, Fits, agree_fewer, agree_stay, fits_start}
+use Rattle.t_gen_laws.proofs.Words.{scope, word, heap, Agree, Fits, agree_fewer, agree_stay, fits_start}
 use Rattle.t_gen_laws.proofs.Decls.{at, Moved, Does, OK, decl_runs, moves_run, reads_this}
 use Rattle.t_gen_laws.proofs.Covers.{length_rows}
 
@@ -199,9 +199,8 @@ erased_at P n b e = slice_get-map erase_block P n ∙ ap (option_map erase_block
 
 -- what is known of a program by the rules
 pub record Laid (p : AProg) (P : List TBlock) (at0 : ℕ) : Type 0 where
-  pub blocks : (l : ℕ) (b : ABlk) → slice_get p.blocks l ≡ Some b → (x : TBlock) × (slice_get P (suc l) ≡ Some x)
-      × IsBlock P p b.owes (ty_args b.args 1) (rows (arity b.args)) (types_of b.args []) (first_of p.blocks at0 l)
-      b.body x
+  pub blocks : (l : ℕ) (b : ABlk) → slice_get p.blocks l ≡ Some b →
+      IsBlock P p b (suc l) (first_of p.blocks at0 l)
 
 module _ (p : AProg) (P : List TBlock) (at0 k main : ℕ) (laid : Laid p P at0) where
   abbrev B : List ESeq
@@ -218,49 +217,54 @@ module _ (p : AProg) (P : List TBlock) (at0 k main : ℕ) (laid : Laid p P at0) 
       Follows B k limit (at (heap h) ρ (Ends (T.Jmp x)) tlog) c (calls p.blocks c l ws h log)
 
   -- the moves before an instruction
-  comes : (ws : List AVal) (m : List ℕ) (u : ℕ → Bool) (n : ℕ) (is next : TSeq) (d : Held) (h : AHeap) (tlog : List ℕ)
-      (env : List AWord) (ρ : ERegs) → length m ≡ length env → Agree ρ m env u → Comes ws m u n is next d →
-      Moved B (heap h) tlog env ρ d is next
-  comes ws m u n is next d h tlog env ρ long agree (ms, same, few, brings) =
-      let r = moves_run B (heap h) tlog env next ms ws (holding 0 m u) d ρ (fits_start ρ m env u long agree) brings in
+  moved : (m : List ℕ) (e : ATm) (is next : TSeq) (h : AHeap) (tlog : List ℕ) (env : List AWord) (ρ : ERegs) →
+      length m ≡ length env → Agree ρ m env (used e) → (c : Comes m e is next) →
+      Moved B (heap h) tlog env ρ c.held is next
+  moved m e is next h tlog env ρ long agree c =
+      let starts = fits_start ρ m env (used e) long agree in
+      let r = moves_run B (heap h) tlog env next c.moves (operands e) (holding 0 m (used e)) c.held ρ starts c.brings in
       record {
         regs = r.regs;
-        leads = subst (λ z. Leads B (at (heap h) ρ z tlog) (at (heap h) r.regs next tlog)) (sym same) r.leads;
+        leads = subst (λ z. Leads B (at (heap h) ρ z tlog) (at (heap h) r.regs next tlog)) (sym c.first) r.leads;
         fits = r.fits;
       }
 
   module _ (c : ℕ) (ih : Next-runs c) where
     pub term_runs : (e : ATm) (is : TSeq) (env : List AWord) (tv n : ℕ) (m : List ℕ) (g : List ATy) (h : AHeap)
-        (log : List ℕ) (ρ : ERegs) (tlog : List ℕ) → Code P p tv m g n e is → length m ≡ length env →
+        (log : List ℕ) (ρ : ERegs) (tlog : List ℕ) → Code (scope P p tv m g) n e is → length m ≡ length env →
         Agree ρ m env (used e) → count k tlog + times_among k n (thirds e) ≤ limit log →
         Follows B k limit (at (heap h) ρ is tlog) c (term (calls p.blocks c) e env h log)
-    term_runs (Let x e) is env tv n m g h log ρ tlog (r, d, next, rest, moves, does, stay, own, more) long agree le =
+    term_runs (Let x e) is env tv n m g h log ρ tlog (d, more) long agree le =
         let s = at (heap h) ρ is tlog in
-        let a = comes (operands x) m (used (Let x e)) _ is next d h tlog env ρ long agree moves in
-        let ok = decl_runs B tlog m r e a.regs h env d next rest long a.fits stay x does in
-        on_made B k limit s c log tlog m r e a.regs env h next rest (decl x env h) _ ok (λ w h2 f.
-        follows_on B k limit s (at (heap h2) f.regs rest tlog) c _ (leads_on B _ _ _ a.leads f.leads)
-        (term_runs e rest (w ∷ env) (more_vars x tv) n (r ∷ m) (declared p g x) h2 log f.regs tlog more (ap suc long)
+        let r = d.register in
+        let a = moved m (Let x e) is d.next h tlog env ρ long agree d.comes in
+        let held = d.comes.held in
+        let ok = decl_runs B tlog m r e a.regs h env held d.next d.rest long a.fits d.kept x d.spare d.declares in
+        on_made B k limit s c log tlog m r e a.regs env h d.next d.rest (decl x env h) _ ok (λ w h2 f.
+        follows_on B k limit s (at (heap h2) f.regs d.rest tlog) c _ (leads_on B _ _ _ a.leads f.leads)
+        (term_runs e d.rest (w ∷ env) (more_vars x tv) n (r ∷ m) (declared p g x) h2 log f.regs tlog more (ap suc long)
         f.agree le))
-    term_runs (Call v ts vs) is env tv n m g h log ρ tlog (d, y, moves, code_reads, order) long agree le =
+    term_runs (Call v ts vs) is env tv n m g h log ρ tlog d long agree le =
         let s = at (heap h) ρ is tlog in
+        let y = d.target in
         on_call B k limit s c log (value env v) _ (λ l x. on_args B k limit s c log (values env vs) _ (λ ws z.
-        let a = comes (Apply v ts ∷ vs) m (used (Call v ts vs)) _ is (Ends (T.Jmp y)) d h tlog env ρ long agree moves in
-        let goes = reads_this a.regs d env a.fits (Apply v ts) y (ZLabel l) code_reads x in
-        let holds = order_holds a.regs d env a.fits vs ws 1 order z in
+        let a = moved m (Call v ts vs) is (Ends (T.Jmp y)) h tlog env ρ long agree d.comes in
+        let goes = reads_this a.regs d.comes.held env a.fits (Apply v ts) y (ZLabel l) d.called x in
+        let holds = order_holds a.regs d.comes.held env a.fits vs ws 1 d.arguments z in
         follows_on B k limit s (at (heap h) a.regs (Ends (T.Jmp y)) tlog) c _ a.leads
         (ih l ws h log a.regs y tlog goes holds (omega (arith, le)))))
-    term_runs (If0 v a b) is env tv n m g h log ρ tlog
-        (q, d, second, third, moves, tests, stay, found, owes, covers, code_a, code_b) long agree le =
+    term_runs (If0 v a b) is env tv n m g h log ρ tlog (d, code_a, code_b) long agree le =
         let s = at (heap h) ρ is tlog in
-        let jumps = T.Bnz q (T.Plain (T.Label n) (tvars tv)) in
-        let erased = erased_at P n third found in
+        let second = d.second in
+        let third = d.third in
+        let jumps = T.Bnz d.tested (T.Plain (T.Label n) (tvars tv)) in
+        let erased = erased_at P n third d.found in
         let sum = spare_add k (suc n) (thirds a) (thirds b) in
         on_branch B k limit s c log (value env v) (term (calls p.blocks c) a env h log)
         (term (calls p.blocks c) b env h log) (λ i x.
-        let t = comes (v ∷ []) m (used (If0 v a b)) _ is (Then jumps second) d h tlog env ρ long agree moves in
-        let here = reads_this t.regs d env t.fits v (reg q) (ZInt i) tests x in
-        let kept = agree_stay t.regs d m env (λ j. used a j || used b j) long t.fits stay in
+        let t = moved m (If0 v a b) is (Then jumps second) h tlog env ρ long agree d.comes in
+        let here = reads_this t.regs d.comes.held env t.fits v (reg d.tested) (ZInt i) d.tests x in
+        let kept = agree_stay t.regs d.comes.held m env (λ j. used a j || used b j) long t.fits d.kept in
         on_pick B k limit s c (is_zero i) _ _
         (λ z.
         let st : lstep B (at (heap h) t.regs (Then jumps second) tlog) ≡ Some (at (heap h) t.regs second tlog) =
@@ -282,16 +286,16 @@ module _ (p : AProg) (P : List TBlock) (at0 k main : ℕ) (laid : Laid p P at0) 
         follows_on B k limit s (at (heap h) t.regs third.code (n ∷ tlog)) c _
         (leads_on B _ _ _ t.leads (leads_step B _ _ st))
         (term_runs b third.code env tv (suc n + thirds a) m g h log t.regs (n ∷ tlog) code_b long kept_b one_is)))
-    term_runs (Halt v) is env tv n m g h log ρ tlog (d, moves, reads) long agree le =
+    term_runs (Halt v) is env tv n m g h log ρ tlog d long agree le =
         let s = at (heap h) ρ is tlog in
         on_halt B k limit s c log (value env v) (λ i x.
-        let a = comes (v ∷ []) m (uses v) _ is (Ends T.Halt) d h tlog env ρ long agree moves in
+        let a = moved m (Halt v) is (Ends T.Halt) h tlog env ρ long agree d.comes in
         let j = a.leads.by 0 in
         record {
           steps = j.0;
           state = at (heap h) a.regs (Ends T.Halt) tlog;
           runs = j.2;
-          answers = reads_this a.regs d env a.fits v (reg 1) (ZInt i) reads x;
+          answers = reads_this a.regs d.comes.held env a.fits v (reg 1) (ZInt i) d.answer x;
           counted = omega arith;
         })
 
@@ -311,8 +315,8 @@ module _ (p : AProg) (P : List TBlock) (at0 k main : ℕ) (laid : Laid p P at0) 
       on_enter B k limit s (suc c) log (length ws) (slice_get p.blocks l) _ (λ b there n.
       let first = first_of p.blocks at0 l in
       let is = laid.blocks l b there in
-      let block = is.0 in
-      let erased = erased_at P (suc l) block is.1 in
+      let block = is.block in
+      let erased = erased_at P (suc l) block is.found in
       let stepped : lstep B s ≡ Some (at (heap h) ρ block.code (suc l ∷ tlog)) = rw (lab, erased) refl in
       let env = push_all ws [] in
       let len : length env ≡ arity b.args = length_push_all ws [] ∙ omega (arith, n) in
@@ -323,5 +327,5 @@ module _ (p : AProg) (P : List TBlock) (at0 k main : ℕ) (laid : Laid p P at0) 
       let long = length_rows (arity b.args) ∙ sym len in
       let body = term_runs c (calls_run c) b.body block.code env b.owes first (rows (arity b.args))
       (types_of b.args []) h
-      (l ∷ log) ρ (suc l ∷ tlog) is.2.code long agree (omega (arith, sp, le)) in
+      (l ∷ log) ρ (suc l ∷ tlog) is.code long agree (omega (arith, sp, le)) in
       follows_move B k limit s (at (heap h) ρ block.code (suc l ∷ tlog)) c _ (moves_step B s _ stepped) body)

@@ -4,13 +4,18 @@ use Rattle.std.proofs.Common.{sym, ap, ◌∙◌, arith, cond, slice_get}
 use Rattle.std.proofs.lemmas.Bool.{eq-eqb, ne_eqb, eqb-true, cond_both, and_parts}
 use Rattle.std.proofs.lemmas.Option.{slice_get_within}
 use Rattle.std.specs.Prelude.{◌≢◌, ◌==◌, ◌&&◌, option_map, replicate, Bool, true}
-use Rattle.a_terms.specs.Tree.{ATys, NoATys, MoreATys, AVal, Var}
+use Rattle.a_terms.specs.Tree.{ATy, ATys, NoATys, MoreATys, AVal, Var, AProg}
 use Rattle.a_terms.specs.Meaning.{AWord, ZInt, ZTuple, ZLabel, AHeap, empties, value}
+use Rattle.t_terms.specs.Tree.{TBlock}
 use Rattle.t_terms.specs.Registers.{with_reg}
 use Rattle.t_rules.specs.Erase.{EWord, EInt, EAddress, ELabel, EEmpty, EHeap, ERegs}
 use Rattle.t_gen_rules.specs.Gen.{tys, place}
-use Rattle.t_gen_laws.specs.Rules.{Held, holding, Stay}
+use Rattle.t_gen_laws.specs.Rules.{Held, holding, Stay, Scope}
 use Rattle.t_rules.proofs.Settled.{there}
+
+-- where a term stands, part by part
+abbrev pub scope : List TBlock → AProg → ℕ → List ℕ → List ATy → Scope
+scope P p k m g = record { blocks = P; program = p; owes = k; regs = m; types = g }
 
 abbrev pub word : AWord → EWord
 word (ZInt i) = EInt i

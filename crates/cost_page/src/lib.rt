@@ -2,9 +2,11 @@
 //! places were executed most.
 #![tactic(auto)]
 
+mod laws;
 mod most;
 mod page;
 mod places;
 mod totals;
 
+pub use laws::{kinds_add_up, most_is_most};
 pub use page::{Made, page_of};

@@ -1,0 +1,12 @@
+// Laws of the page, as functions with an empty body that callers cite.
+ghost use Rattle.cost_page.specs.Laws.{KindsAddUp, MostIsMost};
+
+/// The steps of all kinds together are as many as how often all places were executed.
+pub fn kinds_add_up()
+    ensures { KindsAddUp }
+{}
+
+/// The places that the page shows are those that were executed most.
+pub fn most_is_most()
+    ensures { MostIsMost }
+{}

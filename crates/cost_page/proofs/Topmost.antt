@@ -1,6 +1,7 @@
 -- The places that the page shows are those executed most.
 use Rattle.std.proofs.Common.{◌≡◌, ◌∙◌, ℕ, zero, suc, ◌+◌, ◌≤◌, ◌⊎◌, Bool, true, false, List, [], ◌∷◌, ◌++◌, All}
-use Rattle.std.proofs.Common.{length, get_or, take, drop, insert, nat_lt, IsPermutation, refl, sym, ap, subst, arith, inl, inr}
+use Rattle.std.proofs.Common.{length, get_or, take, drop, insert, nat_lt, IsPermutation, refl, sym, ap, subst, arith}
+use Rattle.std.proofs.Common.{inl, inr}
 use Rattle.std.proofs.Common.{append_assoc}
 use Rattle.std.specs.Prelude.{if◌then◌else◌}
 use Rattle.std.proofs.lemmas.Bool.{cases_eq}
@@ -8,7 +9,8 @@ use Rattle.std.proofs.lemmas.Bool.Decides.{nat_tests}
 use Rattle.std.proofs.lemmas.List.{length-take, length-drop, append-nil, take-append-drop}
 use Rattle.std.proofs.lemmas.List.Elements.{All-nil, All-cons, All-head, All-tail, All-append, All-weaker, All-take}
 use Rattle.std.proofs.lemmas.List.Elements.{All-drop}
-use Rattle.std.proofs.lemmas.List.Sorted.{IsPermutation-trans, IsPermutation-refl, IsPermutation-sym, IsPermutation-cons}
+use Rattle.std.proofs.lemmas.List.Sorted.{IsPermutation-trans, IsPermutation-refl, IsPermutation-sym}
+use Rattle.std.proofs.lemmas.List.Sorted.{IsPermutation-cons}
 use Rattle.std.proofs.lemmas.List.Sorted.{IsPermutation-to_front, IsPermutation-middle, IsPermutation-insert}
 use Rattle.std.proofs.lemmas.List.Sorted.{IsPermutation-append_left, All-permutation, length_permutation}
 use Rattle.cost_page.specs.Page.{rank, placed, most}
@@ -42,7 +44,8 @@ rest_below zero [] h = λ k d lt. All-nil _
 rest_below zero (p ∷ ps) h = λ k d lt. All-nil _
 rest_below (suc n) [] h = λ k d lt. All-nil _
 rest_below (suc n) (p ∷ ps) h =
-    λ k d lt. All-cons (AtLeast (get_or (drop n ps) k d).count) p (take n ps) (All-drop (AtMost p.count) n ps h.0 k d lt) (rest_below n ps h.1 k d lt)
+    λ k d lt. All-cons (AtLeast (get_or (drop n ps) k d).count) p (take n ps)
+    (All-drop (AtMost p.count) n ps h.0 k d lt) (rest_below n ps h.1 k d lt)
 
 module _ (p : Place) where
   abbrev inserted : List Place → List Place

@@ -10,3 +10,5 @@ mod totals;
 
 pub use laws::{kinds_add_up, most_is_most};
 pub use page::{Made, page_of};
+pub use places::{Kind, Place};
+pub use totals::Measure;

@@ -19,16 +19,16 @@ use Rattle.cost_page.specs.declared.places.Place.{Place}
 use Rattle.cost_page.proofs.Walks.{placed_none, placed_some}
 
 -- executed at most n times, and at least n times
-abbrev AtMost : ℕ → Place → Type 0
+abbrev pub AtMost : ℕ → Place → Type 0
 AtMost n p = p.count ≤ n
 
-abbrev AtLeast : ℕ → Place → Type 0
+abbrev pub AtLeast : ℕ → Place → Type 0
 AtLeast n p = n ≤ p.count
 
-less : (n m : ℕ) → nat_lt n m ≡ true → n ≤ m
+pub less : (n m : ℕ) → nat_lt n m ≡ true → n ≤ m
 less n m e = grind (arith, nat_tests)
 
-no_less : (n m : ℕ) → nat_lt n m ≡ false → m ≤ n
+pub no_less : (n m : ℕ) → nat_lt n m ≡ false → m ≤ n
 no_less n m e = grind (arith, nat_tests)
 
 descending_take : (n : ℕ) (ps : List Place) → Descending ps → Descending (take n ps)
@@ -38,7 +38,7 @@ descending_take (suc n) [] h = tt
 descending_take (suc n) (p ∷ ps) h = (All-take (AtMost p.count) n ps h.0, descending_take n ps h.1)
 
 -- behind the first n none was executed more often than these
-rest_below : (n : ℕ) (ps : List Place) → Descending ps →
+pub rest_below : (n : ℕ) (ps : List Place) → Descending ps →
     All (λ (q : Place). All (AtLeast q.count) (take n ps)) (drop n ps)
 rest_below zero [] h = λ k d lt. All-nil _
 rest_below zero (p ∷ ps) h = λ k d lt. All-nil _
@@ -48,14 +48,14 @@ rest_below (suc n) (p ∷ ps) h =
     (All-drop (AtMost p.count) n ps h.0 k d lt) (rest_below n ps h.1 k d lt)
 
 module _ (p : Place) where
-  abbrev inserted : List Place → List Place
+  abbrev pub inserted : List Place → List Place
   inserted qs = insert qs (rank p qs) p
 
   all_inserted : (P : Place → Type 0) (qs : List Place) → P p → All P qs → All P (inserted qs)
   all_inserted P qs here all =
       All-permutation P (p ∷ qs) (inserted qs) (IsPermutation-insert qs (rank p qs) p) (All-cons P p qs here all)
 
-  descending_inserted : (qs : List Place) → Descending qs → Descending (inserted qs)
+  pub descending_inserted : (qs : List Place) → Descending qs → Descending (inserted qs)
   descending_inserted [] h = (All-nil _, tt)
   descending_inserted (q ∷ qs) h = by (nat_lt q.count p.count) refl (descending_inserted qs h.1)
     where
@@ -73,7 +73,7 @@ module _ (p : Place) where
           (all_inserted (AtMost q.count) qs (no_less q.count p.count e) h.0, rest)
 
   -- what is no more than each of n places is no more than each of the first n, with one place more
-  still_below : (m n : ℕ) (qs : List Place) → length qs ≡ n → All (AtLeast m) qs →
+  pub still_below : (m n : ℕ) (qs : List Place) → length qs ≡ n → All (AtLeast m) qs →
       All (AtLeast m) (take n (inserted qs))
   still_below m zero [] size h = All-nil _
   still_below m (suc n) [] size h = absurd (omega (arith, size))
@@ -93,7 +93,7 @@ module _ (p : Place) where
           subst (λ i. All (AtLeast m) (take (suc n) (insert (q ∷ qs) i p))) one
           (All-cons (AtLeast m) q (take n (inserted qs)) (All-head (AtLeast m) q qs h) rest)
 
-  size_inserted : (qs : List Place) → length (inserted qs) ≡ length qs + 1
+  pub size_inserted : (qs : List Place) → length (inserted qs) ≡ length qs + 1
   size_inserted qs =
       let long = length_permutation (p ∷ qs) (inserted qs) (IsPermutation-insert qs (rank p qs) p) in
       omega (arith, long)
@@ -167,12 +167,15 @@ walk seen top (p ∷ ps) h =
     subst (λ qs. IsMost qs (most (placed top p) ps)) (append_assoc seen (p ∷ []) ps)
     (walk (seen ++ p ∷ []) (placed top p) ps (step p seen top h))
 
-pub most_is_most : MostIsMost
-most_is_most ps = walk [] [] ps (record {
+pub none_most : IsMost [] []
+none_most = record {
   few = omega arith;
   executed = All-nil _;
   descending = tt;
   others = [];
   all = IsPermutation-refl [];
   less = All-nil _;
-})
+}
+
+pub most_is_most : MostIsMost
+most_is_most ps = walk [] [] ps none_most

@@ -1,5 +1,6 @@
 -- Laws of the numbers on the page, before 64 bits cap them, and of the places that it shows.
-use Rattle.std.specs.Prelude.{◌≡◌, ◌≤◌, ◌⊎◌, List, [], ◌∷◌, ◌++◌, length, All, sum_by, IsPermutation}
+use Rattle.std.specs.Prelude.{◌≡◌, ℕ, ◌≤◌, ◌==◌, ◌⊎◌, List, [], ◌∷◌, ◌++◌, length, filter, All, sum_by}
+use Rattle.std.specs.Prelude.{IsPermutation}
 use Rattle.cost_page.specs.Page.{weight, kinds, most}
 use Rattle.cost_page.specs.declared.places.Kind.{Kind}
 use Rattle.cost_page.specs.declared.places.Kind.TheVariants.{Halt}
@@ -37,3 +38,10 @@ pub record IsMost (ps top : List Place) : Type 0 where
 -- the places that the page shows are those executed most
 abbrev pub MostIsMost : Type 0
 MostIsMost = (ps : List Place) → IsMost ps (most [] ps)
+
+-- of places that were executed equally often, those that come first in the program are shown, in their order
+abbrev pub FirstOfEquals : Type 0
+FirstOfEquals =
+    (ps : List Place) (n : ℕ) → 1 ≤ n →
+    (others : List Place)
+    × (filter (λ (p : Place). p.count == n) (most [] ps) ++ others ≡ filter (λ (p : Place). p.count == n) ps)

@@ -1,2 +1,5 @@
 pub mod Rows
 pub mod Walks
+pub mod KindSums
+pub mod Topmost
+pub mod Equals

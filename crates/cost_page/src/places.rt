@@ -9,30 +9,46 @@ use t_terms::{Block, End, Instr};
 
 /// What stands at a place: an instruction of this kind, or the end of a block.
 #[derive(Clone, Copy, Drop)]
-pub(crate) enum Kind {
+pub enum Kind {
+    /// `add`.
     Add,
+    /// `sub`.
     Sub,
+    /// `mul`.
     Mul,
+    /// `bnz`.
     Bnz,
+    /// `ld`.
     Ld,
+    /// `malloc`.
     Malloc,
+    /// `mov`.
     Mov,
+    /// `st`.
     St,
+    /// `unpack`.
     Unpack,
+    /// `jmp`.
     Jmp,
+    /// `halt`.
     Halt,
 }
 
-/// A place of a program: where the label of its block stands in the text, which of the block's places it is, what
-/// stands there and where, how many fields a tuple has that is made there, and how often it was executed.
+/// A place of a program, with what is counted of it.
 #[derive(Clone, Copy, Drop)]
-pub(crate) struct Place {
-    pub(crate) label: Span,
-    pub(crate) index: u64,
-    pub(crate) kind: Kind,
-    pub(crate) fields: u64,
-    pub(crate) start: u64,
-    pub(crate) count: u64,
+pub struct Place {
+    /// Where the label of its block stands in the text.
+    pub label: Span,
+    /// Which of the block's places it is, from 0.
+    pub index: u64,
+    /// What stands there.
+    pub kind: Kind,
+    /// How many fields the tuple has that is made there.
+    pub fields: u64,
+    /// Where it begins in the text.
+    pub start: u64,
+    /// How often it was executed.
+    pub count: u64,
 }
 
 fn kind_of(i: &Instr) -> Kind

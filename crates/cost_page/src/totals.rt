@@ -4,12 +4,14 @@ ghost use Rattle.cost_page.specs.Page.{capped, weight, total};
 
 use crate::places::{Kind, Place, number};
 
-/// What is summed: how often places of a kind were executed; how often the first place of a block was; how many fields
-/// the tuples have that were made.
+/// What is summed.
 #[derive(Clone, Copy, Drop)]
-pub(crate) enum Measure {
+pub enum Measure {
+    /// How often places of a kind were executed.
     Of(Kind),
+    /// How often first places of blocks were executed.
     Entries,
+    /// How many fields the tuples have that were made.
     Fields,
 }
 

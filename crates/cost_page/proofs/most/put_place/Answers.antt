@@ -1,5 +1,4 @@
 use Rattle.std.proofs.Common.{◌∙◌, ap}
-use Rattle.std.specs.List.{insert}
 use Rattle.cost_page.specs.Page.{rank}
 use Rattle.cost_page.proofs.Walks.{placed_none, placed_some}
 use Rattle.cost_page.proofs.most.put_place.Goals as goal

@@ -3,6 +3,8 @@ mod BindingLemmas
 mod BothWays
 mod CompileLemmas
 mod CostLemmas
+mod CostSums
+mod CostTimed
 pub mod CompositionLemmas
 mod Decided
 mod DoesLemmas

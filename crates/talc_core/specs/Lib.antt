@@ -7,6 +7,7 @@ pub mod Command
 pub mod Written
 pub mod Compiled
 pub mod CostLaws
+pub mod CostNumbers
 pub mod Costed
 pub mod Costing
 pub mod Translated

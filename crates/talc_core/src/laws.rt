@@ -13,6 +13,8 @@ ghost use Rattle.talc_core.specs.Composition.{OneBoundedText, OneCompiledText, O
 ghost use Rattle.talc_core.specs.Composition.{OneForm, ShownAssemblyIsCompiled, ShownSourceIsTheSame};
 ghost use Rattle.talc_core.specs.Composition.{ShownSourceIsTaken, ShownSourceShowsTheSame, ShownSourceIsKept};
 ghost use Rattle.talc_core.specs.CostLaws.{OneCost, CostEndsAsRun};
+ghost use Rattle.talc_core.specs.CostNumbers.{PageIsOfExecuted, CountsAreTimes, KindsAreSteps, RowsAddUp};
+ghost use Rattle.talc_core.specs.CostNumbers.{MallocsAreTuples, FieldsAreMade, EnteredIsEntries};
 ghost use Rattle.talc_core.specs.Exact.{HeadlineIsExact};
 ghost use Rattle.talc_core.specs.Explained.{CheckedIsExplained, OneExplanation, TakenIsExplained};
 ghost use Rattle.talc_core.specs.Listed.{OneFaultListed, OneListing};
@@ -21,6 +23,7 @@ ghost use Rattle.talc_core.specs.TextLaws.{MismatchLaws, TextLaws};
 ghost use Rattle.talc_core.specs.Traced.{LinesShowKinds, OneLine};
 ghost use Rattle.talc_core.specs.TraceLaws.{OneTrace, TraceEndsAsRun};
 
+use cost_page::kinds_add_up;
 use f_grammar::{closed_terms, one_term, term_or_fault};
 use f_terms::{
     evaluation_leaves_at_most_its_turns, no_fault_beside_a_pass, one_answer, one_type,
@@ -29,8 +32,8 @@ use f_terms::{
 use t_machine::seldom_runs_are_covered;
 use t_rules::{
     accepted_or_fault, accepted_programs_are_never_stuck, accepted_programs_go_on,
-    erased_words_are_of_their_kind, no_fault_where_accepted, places_are_known, runs_are_unique,
-    runs_count_alike,
+    erased_code_stands_at_its_place, erased_words_are_of_their_kind, no_fault_where_accepted,
+    places_are_known, runs_are_unique, runs_count_alike,
 };
 use t_text::{at_most_one_program, program_or_fault};
 
@@ -321,6 +324,53 @@ pub fn one_cost()
 pub fn cost_ends_as_run()
     ensures { CostEndsAsRun }
 {}
+
+/// The page of `cost` is told by its number of steps, the index at which they end, and the places of the program, each
+/// with its count.
+pub fn page_is_of_executed()
+    ensures { PageIsOfExecuted }
+{}
+
+/// The count of each place that `cost` reads is how many steps of its run start there.
+pub fn counts_are_times()
+    ensures { CountsAreTimes }
+{}
+
+/// The number of a kind in `cost`, before 64 bits cap it, is how many steps start at an instruction of that kind.
+pub fn kinds_are_steps()
+    ensures { KindsAreSteps }
+{
+    erased_code_stands_at_its_place();
+}
+
+/// The numbers of all kinds in `cost` come to the number of its steps.
+pub fn rows_add_up()
+    ensures { RowsAddUp }
+{
+    erased_code_stands_at_its_place();
+    kinds_add_up();
+}
+
+/// The number of tuples in `cost`, before 64 bits cap it, is how many its run allocates.
+pub fn mallocs_are_tuples()
+    ensures { MallocsAreTuples }
+{
+    erased_code_stands_at_its_place();
+}
+
+/// So is the number of fields.
+pub fn fields_are_made()
+    ensures { FieldsAreMade }
+{
+    erased_code_stands_at_its_place();
+}
+
+/// The number of blocks entered in `cost` is how many blocks its run enters, the first one at the start too.
+pub fn entered_is_entries()
+    ensures { EnteredIsEntries }
+{
+    erased_code_stands_at_its_place();
+}
 
 /// Of each text that `check` takes `explain` shows that there is no fault: its first token is the word `tal`.
 pub fn taken_is_explained()

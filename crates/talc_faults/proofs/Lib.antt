@@ -2,4 +2,5 @@ mod HintRows
 mod ValueLemmas
 mod BelowLemmas
 mod PathLemmas
+mod Room
 mod Rows

@@ -1,9 +1,10 @@
 // The line on the first place at which a type that is found in an assembly text does not fit the one that was wanted.
-ghost use Rattle.std.specs.Prelude.{◌≡◌, ◌++◌, codes, IfOk, OnOk};
+ghost use Rattle.std.specs.Prelude.{◌≡◌, ◌≤◌, ◌++◌, Some, codes, length, IfOk, OnOk};
 ghost use Rattle.t_types.specs.Read.{tree};
 ghost use Rattle.t_trace.specs.Line.{text_at, flag_text};
 ghost use Rattle.t_known.specs.ReadMismatch.{mismatch as mismatch_tree, mismatch_or_none};
 ghost use Rattle.type_path.specs.Paths.{path_of};
+ghost use Rattle.talc_faults.specs.Line.{assembly_line};
 ghost use Rattle.talc_faults.specs.Apart.{assembly_part_at, assembly_below};
 ghost use Rattle.talc_faults.specs.Apart.{mismatch_below, assembly_lines};
 
@@ -15,18 +16,6 @@ use t_known::Mismatch;
 use t_trace::write_type;
 use t_types::TType;
 use type_path::{Part, Step, assembly_bound, assembly_misfit, assembly_part};
-
-// A type inside so many names that are in scope, and so many that are bound around it. Each of the latter stands in the
-// line above, which the text has already: there is room for as many bytes.
-fn write_inner(text: &mut Vec<u8>, ty: &TType, names: u64, depth: u64) -> Result<(), OutOfMemory>
-    ensures { OnOk result (text.new.items
-        ≡ text.old.items ++ text_at names depth (tree ty.now)) }
-{
-    if depth > text.len() as u64 {
-        return Err(OutOfMemory);
-    }
-    write_type(text, ty, names, depth)
-}
 
 // A flag of a field.
 fn write_flag(text: &mut Vec<u8>, flag: bool) -> Result<(), OutOfMemory>
@@ -40,14 +29,16 @@ fn write_flag(text: &mut Vec<u8>, flag: bool) -> Result<(), OutOfMemory>
     Ok(())
 }
 
-// What a type has at a path, or that it has nothing there.
+// What a type has at a path, or that it has nothing there. The whole type stands in the text already, with each name
+// that is bound around the part: they are no more than the text has bytes.
 fn write_part(text: &mut Vec<u8>, ty: &TType, path: &[Step], names: u64) -> Result<(), OutOfMemory>
+    requires { length (text_at names 0 (tree ty.now)) ≤ length text.old.items }
     ensures { OnOk result (text.new.items
         ≡ text.old.items ++ assembly_part_at names (tree ty.now) (path_of path.now)) }
 {
     let depth = assembly_bound(ty, path)?;
     match assembly_part(ty, path) {
-        Some(Part::Ty(part)) => write_inner(text, part, names, depth),
+        Some(Part::Ty(part)) => write_type(text, part, names, depth),
         Some(Part::Flag(flag)) => write_flag(text, flag),
         None => {
             text.extend_from_slice(b"nothing")?;
@@ -63,6 +54,7 @@ fn write_wanted_part(
     path: &[Step],
     names: u64,
 ) -> Result<(), OutOfMemory>
+    requires { length (text_at names 0 (tree ty.now)) ≤ length text.old.items }
     ensures { OnOk result (text.new.items ≡ text.old.items
         ++ (codes ": " ++ (codes "wanted " ++ assembly_part_at names (tree ty.now) (path_of path.now)))) }
 {
@@ -79,6 +71,8 @@ fn write_below(
     found: &TType,
     names: u64,
 ) -> Result<(), OutOfMemory>
+    requires wanted { length (text_at names 0 (tree wanted.now)) ≤ length lines.old.items }
+    requires found { length (text_at names 0 (tree found.now)) ≤ length lines.old.items }
     ensures { OnOk result (lines.new.items
         ≡ lines.old.items ++ assembly_below names (tree wanted.now) (tree found.now)) }
 {
@@ -102,6 +96,7 @@ fn write_mismatch_below(
     lines: &mut Vec<u8>,
     mismatch: &Mismatch,
 ) -> Result<(), OutOfMemory>
+    requires { lines.old.items ≡ assembly_line (Some (mismatch_tree mismatch.now)) }
     ensures { OnOk result (lines.new.items
         ≡ lines.old.items ++ mismatch_below (mismatch_tree mismatch.now)) }
 {

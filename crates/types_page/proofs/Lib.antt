@@ -1,6 +1,7 @@
 mod Binding
 mod Fields
 mod Lines
+mod Ready
 mod Rows
 mod Stepping
 pub mod Marks

@@ -1,8 +1,10 @@
 -- The walk over a term that finds what its forms bind: what is there, what is still to be done, and what that does.
 use Rattle.std.specs.Prelude.{◌≡◌, ◌≤◌, ◌<◌, ℕ, ◌+◌, ◌-◌, List, [], ◌∷◌, ◌++◌, map, slice_set}
-use Rattle.f_terms.specs.Ty.{Ty, TInt, TArrow, TAll, TTuple, TRef, Tys, NoTys, MoreTys, shift, put}
+use Rattle.f_terms.specs.Ty.{Ty, TInt, TArrow, TAll, TTuple, TRef, Tys, NoTys, MoreTys, shift, put, Below, PutFits}
 use Rattle.f_terms.specs.Tm.{Tm, SVar, SNum, SFix, SApp, SGen, SInst, STuple, SProj, SArith, SIf0, SLet, SPack}
-use Rattle.f_terms.specs.Tm.{SOpen, SRef, SDeref, SAssign, Tms, NoTms, MoreTms, plain, tms}
+use Rattle.f_terms.specs.Tm.{SOpen, SRef, SDeref, SAssign, Tms, NoTms, MoreTms, plain, plain_all, tms}
+use Rattle.f_terms.specs.Limits.{Within, nodes, nodes_all}
+use Rattle.f_terms.specs.Faults.{Passes, PassAll}
 use Rattle.f_terms.specs.Typing.{ty_at, field_ty, raised, in_fix, in_open}
 use Rattle.f_terms.specs.Noted.{or_int, result_of, body_of, fields_of, opened_of, held_of, outside, type_of}
 use Rattle.f_terms.specs.Read.{tree}
@@ -75,10 +77,10 @@ abbrev pub context : ℕ → List Named → Tys
 context n [] = NoTys
 context n (b ∷ bs) = MoreTys (shift (n - b.at) 0 b.ty) (context n bs)
 
--- no more type names were around them
-abbrev pub Low : ℕ → List Named → Type 0
-Low n [] = Unit {0}
-Low n (b ∷ bs) = (b.at ≤ n) × Low n bs
+-- each was bound under no more type names than are around, where its type is in scope, and the type keeps the limits
+abbrev pub IsScope : ℕ → List Named → Type 0
+IsScope n [] = Unit {0}
+IsScope n (b ∷ bs) = (b.at ≤ n) × Below b.at b.ty × Within b.ty × IsScope n bs
 
 -- what was found; the value names in scope, the innermost first; the types of the parts that wait for their form, the
 -- last first; how many type names are around
@@ -91,8 +93,8 @@ pub record Now : Type 0 where
 abbrev pub names_of : Now → Tys
 names_of x = context x.around x.scope
 
-abbrev pub IsLow : Now → Type 0
-IsLow x = Low x.around x.scope
+abbrev pub HasScope : Now → Type 0
+HasScope x = IsScope x.around x.scope
 
 -- other types
 abbrev pub typed : Now → List Ty → Now
@@ -193,10 +195,32 @@ abbrev pub all_done : List Todo → Now → Now
 all_done [] x = x
 all_done (t ∷ ts) x = all_done ts (done t x)
 
--- after each of them no value name is of more type names than are around
-abbrev pub StayLow : List Todo → Now → Type 0
-StayLow [] x = Unit {0}
-StayLow (t ∷ ts) x = IsLow (done t x) × StayLow ts (done t x)
+-- a term, or several, pass every check where they stand, and there is room for the numbers of their type names
+abbrev pub Checked : Tm → Now → Type 0
+Checked e x = (t : Ty) × Passes e x.around (names_of x) t × (x.around + nodes (plain e) ≤ 4294967296)
+
+abbrev pub AllChecked : Tms → Now → Type 0
+AllChecked es x = (ts : Tys) × PassAll es x.around (names_of x) ts
+    × (x.around + nodes_all (plain_all es) ≤ 4294967296)
+
+-- the sums of the put that a form's type takes are numbers of 64 bits
+abbrev pub HasRoom : Tm → Now → Type 0
+HasRoom (SInst s e t) x = PutFits 0 t 0 (body_of (first x.types))
+HasRoom (SOpen s a b) x = PutFits 0 TInt 0 (first x.types)
+HasRoom other x = Unit {0}
+
+-- so it can be done: a name more can be counted where a form binds one
+abbrev pub Ready : Todo → Now → Type 0
+Ready (Visit e) x = Checked e x
+Ready (VisitAll es) x = AllChecked es x
+Ready (Bind e k) x = x.around ≤ 4294967296
+Ready (Join e) x = HasRoom e x
+Ready Add x = Unit {0}
+
+-- each of them can be done in its turn, and after it the value names are as they have to be
+abbrev pub AreReady : List Todo → Now → Type 0
+AreReady [] x = Unit {0}
+AreReady (t ∷ ts) x = Ready t x × HasScope (done t x) × AreReady ts (done t x)
 
 -- ---- the first step of a form
 
@@ -288,8 +312,8 @@ steps (Join e ∷ ts) = 1 + steps ts
 -- what is there and what is to be done come to the same as before, and less is to be done
 pub record Steps (old : List Todo) (was : Now) (new : List Todo) (now : Now) : Type 0 where
   pub same : all_done new now ≡ all_done old was
-  pub low : IsLow now
-  pub stay : StayLow new now
+  pub scope : HasScope now
+  pub ready : AreReady new now
   pub less : steps new < steps old
 
 -- ---- how the code keeps it

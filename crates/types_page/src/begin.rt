@@ -1,7 +1,7 @@
 // The first step of a form.
-ghost use Rattle.std.specs.Prelude.{◌≡◌, OnOk, length};
+ghost use Rattle.std.specs.Prelude.{◌≡◌, ◌≤◌, OnOk, length};
 ghost use Rattle.f_terms.specs.Read.{tree};
-ghost use Rattle.types_page.specs.Walk.{begun, begun_fix, left, now, part_tree, todos};
+ghost use Rattle.types_page.specs.Walk.{Checked, HasScope, begun, begun_fix, left, now, part_tree, todos};
 
 use crate::bound::Bound;
 use crate::part::Part;
@@ -12,7 +12,7 @@ use crate::task::Task;
 use crate::tasks::{push, push_binding, push_one, push_two};
 use crate::types::{arrow, unit};
 use f_terms::{FShape, FType, copy};
-use idx_core::{OutOfMemory, sum};
+use idx_core::OutOfMemory;
 use std::alloc::Global;
 
 // A function is found, and its names are in scope: its own and, inside of it, its argument's.
@@ -23,6 +23,7 @@ fn begin_fix<'a>(
     arg: &'a FType,
     res: &'a FType,
 ) -> Result<(), OutOfMemory>
+    requires { state.old.around ≤ 4294967296 }
     ensures { OnOk result (now state.new ≡ begun_fix at (tree arg.now) (tree res.now) (now state.old)) }
 {
     let around = state.around;
@@ -33,6 +34,8 @@ fn begin_fix<'a>(
 
 // What a form does at once.
 fn begin<'a>(alloc: Global, state: &mut State<'a>, part: Part<'a>) -> Result<(), OutOfMemory>
+    requires scope { HasScope (now state.old) }
+    requires checked { Checked (part_tree part) (now state.old) }
     ensures { OnOk result (now state.new ≡ begun (part_tree part.entry) (now state.old)) }
 {
     let node = node(part);
@@ -47,7 +50,7 @@ fn begin<'a>(alloc: Global, state: &mut State<'a>, part: Part<'a>) -> Result<(),
         FShape::Fix { arg, res, .. } => begin_fix(alloc, state, at, arg, res),
         FShape::Gen(_) => {
             push_found(&mut state.found, at, around, Bound::TypeName)?;
-            state.around = sum(around, 1)?;
+            state.around = around + 1;
             Ok(())
         }
         FShape::Tuple(_) => push_type(&mut state.types, unit(alloc)),
@@ -86,6 +89,8 @@ pub(crate) fn visit<'a>(
     tasks: &mut Vec<Task<'a>>,
     part: Part<'a>,
 ) -> Result<(), OutOfMemory>
+    requires scope { HasScope (now state.old) }
+    requires checked { Checked (part_tree part) (now state.old) }
     ensures { OnOk result ((now state.new ≡ begun (part_tree part.entry) (now state.old))
         × (todos tasks.new.items
         ≡ left (part_tree part.entry) (length (now state.old).found) (todos tasks.old.items))) }

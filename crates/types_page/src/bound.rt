@@ -1,4 +1,5 @@
 // What the forms of a term bind.
+ghost use Rattle.std.specs.Prelude.{◌≤◌};
 
 use f_terms::FType;
 
@@ -17,4 +18,5 @@ pub(crate) struct Found<'a> {
     pub(crate) at: u64,
     pub(crate) names: u64,
     pub(crate) bound: Bound<'a>,
+    ghost few: { names ≤ 4294967296 },
 }

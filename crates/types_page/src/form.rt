@@ -1,5 +1,5 @@
 // The text of what a form binds.
-ghost use Rattle.std.specs.Prelude.{◌≡◌, ◌++◌, OnOk};
+ghost use Rattle.std.specs.Prelude.{◌≡◌, ◌≤◌, ◌++◌, OnOk};
 ghost use Rattle.f_terms.specs.Text.{text_at};
 ghost use Rattle.f_terms.specs.Read.{tree};
 ghost use Rattle.types_page.specs.Page.{kind_text, type_name_text, value_text, word};
@@ -11,7 +11,7 @@ use crate::words::write_word;
 use f_lexer::Token;
 use f_terms::FType;
 use f_writer::type_at;
-use idx_core::{OutOfMemory, sum};
+use idx_core::OutOfMemory;
 use page_core::write_natural;
 use std::alloc::Global;
 
@@ -89,6 +89,7 @@ fn write_opened(
     form: Form,
     ty: &FType,
 ) -> Result<(), OutOfMemory>
+    requires { form.names ≤ 4294967296 }
     ensures { OnOk result (page.new.items ≡ page.old.items ++ kind_text form.entry.text.now form.entry.tokens.now
         form.entry.names (Opened (tree ty.now))) }
 {
@@ -100,7 +101,7 @@ fn write_opened(
     let inner = Form {
         text,
         tokens,
-        names: sum(names, 1)?,
+        names: names + 1,
     };
     page.extend_from_slice(b"open [")?;
     write_type_name(page, form, 2)?;
@@ -117,6 +118,7 @@ pub(crate) fn write_bound(
     form: Form,
     bound: &Bound,
 ) -> Result<(), OutOfMemory>
+    requires { form.names ≤ 4294967296 }
     ensures { OnOk result (page.new.items ≡ page.old.items
         ++ kind_text form.entry.text.now form.entry.tokens.now form.entry.names (kind bound.now)) }
 {

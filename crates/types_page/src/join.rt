@@ -1,20 +1,20 @@
 // All parts of a form are done.
 ghost use Rattle.std.specs.Prelude.{◌≡◌, ◌∷◌, OnOk};
-ghost use Rattle.f_terms.specs.Ty.{TAll, TTuple, TRef, put};
+ghost use Rattle.f_terms.specs.Ty.{TInt, TAll, TTuple, TRef, PutFits, put};
 ghost use Rattle.f_terms.specs.Typing.{field_ty};
 ghost use Rattle.f_terms.specs.Noted.{or_int, result_of, body_of, fields_of, held_of, outside};
 ghost use Rattle.f_terms.specs.Read.{tree};
-ghost use Rattle.types_page.specs.Walk.{added, back, first, join, now, part_tree, rest, with_field};
+ghost use Rattle.types_page.specs.Walk.{HasRoom, added, back, first, join, now, part_tree, rest, with_field};
 
 use crate::part::Part;
 use crate::parts::node;
 use crate::stacks::{pop_name, pop_type, push_type};
 use crate::state::State;
 use crate::types::{
-    all, arrow, body_of, cell, field_of, held_of, more_fields, outside, put_type, result_of, unit,
+    all, arrow, body_of, cell, field_of, held_of, more_fields, outside, result_of, unit,
 };
 use f_terms::{FShape, FType, copy};
-use idx_core::OutOfMemory;
+use idx_core::{OutOfMemory, Scoped};
 use std::alloc::Global;
 
 // A type stands for the last one.
@@ -52,11 +52,12 @@ fn join_if(types: &mut Vec<FType>) -> Result<(), OutOfMemory>
 }
 
 fn join_inst(alloc: Global, types: &mut Vec<FType>, what: &FType) -> Result<(), OutOfMemory>
+    requires { PutFits 0 (tree what.now) 0 (body_of (first (back tree types.old.items))) }
     ensures { OnOk result (back tree types.new.items
         ≡ put 0 (tree what.now) (body_of (first (back tree types.old.items))) ∷ rest (back tree types.old.items)) }
 {
     let body = body_of(pop_type(types));
-    push_type(types, put_type(alloc, &body, what)?)
+    push_type(types, body.put(alloc, 0, what)?)
 }
 
 fn join_proj(alloc: Global, types: &mut Vec<FType>, i: u64) -> Result<(), OutOfMemory>
@@ -76,6 +77,7 @@ fn join_gen(alloc: Global, types: &mut Vec<FType>) -> Result<(), OutOfMemory>
 }
 
 fn join_open(alloc: Global, types: &mut Vec<FType>) -> Result<(), OutOfMemory>
+    requires { PutFits 0 TInt 0 (first (back tree types.old.items)) }
     ensures { OnOk result (back tree types.new.items
         ≡ outside (first (back tree types.old.items)) ∷ rest (back tree types.old.items)) }
 {
@@ -123,6 +125,7 @@ pub(crate) fn join<'a>(
     state: &mut State<'a>,
     part: Part<'a>,
 ) -> Result<(), OutOfMemory>
+    requires { HasRoom (part_tree part) (now state.old) }
     ensures { OnOk result (now state.new ≡ join (part_tree part.entry) (now state.old)) }
 {
     match &node(part).shape {

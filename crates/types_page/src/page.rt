@@ -1,5 +1,5 @@
 // The page.
-ghost use Rattle.std.specs.Prelude.{◌≡◌, map, IfOk};
+ghost use Rattle.std.specs.Prelude.{◌≡◌, List, map, IfOk};
 ghost use Rattle.f_terms.specs.Read.{tree};
 ghost use Rattle.f_terms.specs.ReadTerm.{spanned};
 ghost use Rattle.f_lexer.specs.Source.{IsCut};
@@ -17,15 +17,16 @@ use f_writer::type_at;
 use idx_core::OutOfMemory;
 use std::alloc::Global;
 
-fn out_of_memory(_: FFault) -> OutOfMemory {
-    OutOfMemory
-}
-
-// The tokens of a text.
+// The tokens of a text that is cut into tokens.
 fn tokens_of(alloc: Global, text: &[u8]) -> Result<Vec<Token>, OutOfMemory>
+    requires { (w : List Token) × IsCut text.now w }
     ensures { IfOk result (λ list. IsCut text.now list.items) }
 {
-    tokens(alloc, text).map_err(out_of_memory)
+    match tokens(alloc, text) {
+        Ok(list) => Ok(list),
+        Err(FFault::Memory) => Err(OutOfMemory),
+        Err(FFault::Refused { .. }) => unreachable!(),
+    }
 }
 
 // The page of what was found in a text of these tokens, and of the type of the whole.
@@ -51,8 +52,9 @@ fn write_page(
 /// The page on the types of a source text that stands for a term (own choice): a line for each `let`, `fix`, `gen` and
 /// `open`, in the order of the text, with its line and column, from 1 on and in bytes, its names as the text has them,
 /// and their types; and behind these the type of the whole. A type name in scope is written as `t` and its number. An
-/// error is want of memory, where the text is cut into tokens.
+/// error is want of memory.
 pub fn page_of(alloc: Global, text: &[u8], typed: &Typed) -> Result<Vec<u8>, OutOfMemory>
+    requires { (w : List Token) × IsCut text.now w }
     ensures { IfOk result (λ page.
         IsPage text.now (spanned (typed_term typed.now)) (tree (typed_type typed.now)) page.items) }
 {

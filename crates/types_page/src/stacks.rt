@@ -1,15 +1,14 @@
 // The stacks of a state.
-ghost use Rattle.std.specs.Prelude.{◌≡◌, ◌++◌, ◌∷◌, [], map, slice_set, IfOk, OnOk};
+ghost use Rattle.std.specs.Prelude.{◌≡◌, ◌≤◌, ◌++◌, ◌∷◌, [], map, slice_set, IfOk, OnOk};
 ghost use Rattle.f_terms.specs.Typing.{ty_at};
 ghost use Rattle.f_terms.specs.Noted.{or_int};
 ghost use Rattle.f_terms.specs.Read.{tree};
-ghost use Rattle.types_page.specs.Walk.{back, context, binder_of, first, kind, named, rest};
+ghost use Rattle.types_page.specs.Walk.{IsScope, back, context, binder_of, first, kind, named, rest};
 
 use crate::bound::{Bound, Found};
 use crate::state::Name;
-use crate::types::shifted;
 use f_terms::FType;
-use idx_core::OutOfMemory;
+use idx_core::{OutOfMemory, Scoped};
 use std::alloc::Global;
 
 pub(crate) fn push_type(types: &mut Vec<FType>, ty: FType) -> Result<(), OutOfMemory>
@@ -51,6 +50,7 @@ pub(crate) fn push_found<'a>(
     names: u64,
     bound: Bound<'a>,
 ) -> Result<(), OutOfMemory>
+    requires { names ≤ 4294967296 }
     ensures { OnOk result (map binder_of list.new.items
         ≡ map binder_of list.old.items ++ record { at = at; names = names; kind = kind bound.entry } ∷ []) }
 {
@@ -75,6 +75,8 @@ pub(crate) fn type_of_name(
     name: u64,
     around: u64,
 ) -> Result<FType, OutOfMemory>
+    requires room { around ≤ 4294967296 }
+    requires scope { IsScope around (back named scope.now) }
     ensures { IfOk result (λ r. tree r ≡ or_int (ty_at (context around (back named scope.now)) name)) }
 {
     let count = scope.len() as u64;
@@ -84,5 +86,5 @@ pub(crate) fn type_of_name(
     let place = (count - 1 - name) as usize;
     let found = &scope[place];
     let by = around.saturating_sub(found.around);
-    shifted(alloc, &found.ty, by)
+    found.ty.shift(alloc, by, 0)
 }

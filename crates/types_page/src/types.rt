@@ -1,59 +1,21 @@
 // The types of forms, from those of their parts.
-ghost use Rattle.std.specs.Prelude.{◌≡◌, ◌≤◌, map, IfOk, OnOk};
-ghost use Rattle.f_terms.specs.Ty.{TArrow, TAll, TTuple, TRef, NoTys, tys, shift, put, Below};
-ghost use Rattle.f_terms.specs.Ty.{depth as deep};
+ghost use Rattle.std.specs.Prelude.{◌≡◌, map, IfOk};
+ghost use Rattle.f_terms.specs.Ty.{TInt, TArrow, TAll, TTuple, TRef, NoTys, tys, PutFits};
 ghost use Rattle.f_terms.specs.Typing.{field_ty};
 ghost use Rattle.f_terms.specs.Noted.{or_int, result_of, body_of, fields_of, opened_of, held_of, outside};
 ghost use Rattle.f_terms.specs.Read.{tree};
 ghost use Rattle.types_page.specs.Walk.{with_field};
 
-use f_terms::{FType, copy, depth};
+use f_terms::{FType, copy};
 use idx_core::{OutOfMemory, Scoped};
 use std::alloc::Global;
 
-// How deep the types of an accepted term are at most, and more than all of its type names.
-const DEPTH: u64 = 200;
-
-const NAMES: u64 = 4294967296;
-
-// The type is such as an accepted term has, or there is no memory for it.
-fn small(ty: &FType) -> Result<(), OutOfMemory>
-    ensures { OnOk result ((deep (tree ty.now) ≤ 200) × Below 4294967296 (tree ty.now)) }
-{
-    if depth(ty) > DEPTH {
-        return Err(OutOfMemory);
-    }
-    if ty.below(NAMES) {
-        return Ok(());
-    }
-    Err(OutOfMemory)
-}
-
-// The type under so many type names more.
-pub(crate) fn shifted(alloc: Global, ty: &FType, by: u64) -> Result<FType, OutOfMemory>
-    ensures { IfOk result (λ r. tree r ≡ shift by 0 (tree ty.now)) }
-{
-    if by > NAMES {
-        return Err(OutOfMemory);
-    }
-    small(ty)?;
-    ty.shift(alloc, by, 0)
-}
-
-// The type with another one in place of the innermost type name.
-pub(crate) fn put_type(alloc: Global, ty: &FType, what: &FType) -> Result<FType, OutOfMemory>
-    ensures { IfOk result (λ r. tree r ≡ put 0 (tree what.now) (tree ty.now)) }
-{
-    small(ty)?;
-    small(what)?;
-    ty.put(alloc, 0, what)
-}
-
 // The type outside of the innermost type name.
 pub(crate) fn outside(alloc: Global, ty: &FType) -> Result<FType, OutOfMemory>
+    requires { PutFits 0 TInt 0 (tree ty.now) }
     ensures { IfOk result (λ r. tree r ≡ outside (tree ty.now)) }
 {
-    put_type(alloc, ty, &FType::Int)
+    ty.put(alloc, 0, &FType::Int)
 }
 
 // The type of a function.

@@ -2,7 +2,8 @@
 ghost use Rattle.std.specs.Prelude.{◌≡◌, ◌∷◌, map, IfOk, OnOk};
 ghost use Rattle.f_terms.specs.Ty.{NoTys};
 ghost use Rattle.f_terms.specs.ReadTerm.{spanned};
-ghost use Rattle.types_page.specs.Walk.{IsLow, StayLow, Steps, binder_of, binders, left_fields, now, part_trees, start};
+ghost use Rattle.types_page.specs.Walk.{AreReady, Checked, HasScope, Steps, binder_of, binders, left_fields, now};
+ghost use Rattle.types_page.specs.Walk.{part_trees, start};
 ghost use Rattle.types_page.specs.Walk.{todo, todos};
 
 use crate::begin::visit;
@@ -51,8 +52,8 @@ fn do_task<'a>(
     tasks: &mut Vec<Task<'a>>,
     task: Task<'a>,
 ) -> Result<(), OutOfMemory>
-    requires low { IsLow (now state.old) }
-    requires stay { StayLow (todo task ∷ todos tasks.old.items) (now state.old) }
+    requires scope { HasScope (now state.old) }
+    requires ready { AreReady (todo task ∷ todos tasks.old.items) (now state.old) }
     ensures { OnOk result (Steps (todo task.entry ∷ todos tasks.old.items) (now state.old)
         (todos tasks.new.items) (now state.new)) }
 {
@@ -67,6 +68,7 @@ fn do_task<'a>(
 
 /// What the forms of a term bind, in the order of the text, with their types (own choice). Errors: want of memory.
 pub(crate) fn binders_of<'a>(alloc: Global, term: &'a FTerm) -> Result<Vec<Found<'a>>, OutOfMemory>
+    requires { Checked (spanned term.now) start }
     ensures { IfOk result (λ list. map binder_of list.items ≡ binders (spanned term.now) 0 NoTys) }
 {
     let mut state = first_state(alloc);

@@ -11,10 +11,10 @@ use Rattle.pipeline.specs.Meaning.{SameMeaning, RunsSeldom, HaltsSoon}
 use Rattle.talc_core.specs.FirstFault.{IsChecked}
 
 -- The source text is a text of a program. The target text reads as an assembly program within the limit on open
--- constructs, places aside. That one is well formed, its integers have 64 bits, and the typing rules accept it. It means
--- the same: it halts with an integer exactly where the source evaluates to it, in no fewer instructions than turns.
--- Where n turns are enough for the source, each place of it is executed at most n + 1 times, so that it halts within
--- n + 1 times the number of its instructions and jumps. How it comes of the source, and the bytes in which it is
+-- constructs, places aside. That one is well formed, its integers have 64 bits, and the typing rules accept it. It
+-- means the same: it halts with an integer exactly where the source evaluates to it, in no fewer instructions than
+-- turns. Where n turns are enough for the source, each place of it is executed at most n + 1 times, so that it halts
+-- within n + 1 times the number of its instructions and jumps. How it comes of the source, and the bytes in which it is
 -- written, are not said here. What stands between bars is promised as a fact alone: a proof of it holds a derivation or
 -- a number of steps, and none is handed out.
 pub record IsCompiled (source target : List ℕ) : Type 0 where

@@ -196,8 +196,8 @@ fn asked<'a>(matches: &ArgMatches<'a>) -> Option<Command<'a>>
     }
 }
 
-// The text of an error without `clap`'s tips, which guess at what was meant: no name is refused with a hint at a similar
-// one.
+// The text of an error without `clap`'s tips, which guess at what was meant: no name is refused with a hint at a
+// similar one.
 fn without_tips(alloc: Global, text: &str) -> Result<String, AllocError> {
     let mut made = String::new(alloc);
     let mut behind_tip = false;

@@ -18,7 +18,7 @@ ghost use Rattle.talc_core.specs.CostNumbers.{MallocsAreTuples, FieldsAreMade, E
 ghost use Rattle.talc_core.specs.Exact.{HeadlineIsExact};
 ghost use Rattle.talc_core.specs.Explained.{CheckedIsExplained, OneExplanation, TakenIsExplained};
 ghost use Rattle.talc_core.specs.Listed.{OneFaultListed, OneListing};
-ghost use Rattle.talc_core.specs.Binding.{OneTypesPage};
+ghost use Rattle.talc_core.specs.Binding.{OneTypesPage, TypesEndAsTypeof};
 ghost use Rattle.talc_core.specs.TextLaws.{MismatchLaws, TextLaws};
 ghost use Rattle.talc_core.specs.Traced.{LinesShowKinds, OneLine};
 ghost use Rattle.talc_core.specs.TraceLaws.{OneTrace, TraceEndsAsRun};
@@ -411,6 +411,11 @@ pub fn one_types_page()
     f_lexer::one_cut();
     types_page::one_binding();
 }
+
+/// The last line that `types` shows is the one that `typeof` shows of the text.
+pub fn types_end_as_typeof()
+    ensures { TypesEndAsTypeof }
+{}
 
 /// Of a text with a first fault `listing` shows one text, told by its name and the text.
 pub fn one_fault_listed()

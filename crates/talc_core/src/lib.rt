@@ -31,19 +31,11 @@ pub use laws::{
     entered_is_entries, fields_are_made, kinds_are_steps, lines_show_kinds, mallocs_are_tuples,
     no_fault_where_taken, one_bounded_text, one_compiled_text, one_cost, one_explanation,
     one_fault, one_fault_listed, one_form, one_line, one_listing, one_trace, one_types_page,
-<<<<<<< ours
     one_upgrade, one_written_text, page_is_of_executed, rows_add_up, shown_assembly_is_compiled,
     shown_source_is_kept, shown_source_is_taken, shown_source_is_the_same,
     shown_source_shows_the_same, taken_is_explained, taken_or_fault, trace_ends_as_run,
-    upgraded_is_kept, upgraded_is_taken, upgraded_is_the_same, upgraded_never_sticks,
-    upgraded_runs_the_same, upgraded_traces_the_same,
-=======
-    one_upgrade, one_written_text, shown_assembly_is_compiled, shown_source_is_kept,
-    shown_source_is_taken, shown_source_is_the_same, shown_source_shows_the_same,
-    taken_is_explained, taken_or_fault, trace_ends_as_run, types_end_as_typeof, upgraded_is_kept,
-    upgraded_is_taken, upgraded_is_the_same, upgraded_never_sticks, upgraded_runs_the_same,
-    upgraded_traces_the_same,
->>>>>>> theirs
+    types_end_as_typeof, upgraded_is_kept, upgraded_is_taken, upgraded_is_the_same,
+    upgraded_never_sticks, upgraded_runs_the_same, upgraded_traces_the_same,
 };
 pub use lines::fault_line;
 pub use refusal::Refusal;

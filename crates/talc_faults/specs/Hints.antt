@@ -50,7 +50,7 @@ sign_hint sign =
     "fields stand in `< >`, as in `f <1, 2>`; an `if0` has three parts, and a `let` names one value" else
     if sign == 45 then codes "a negative number is written with `~`, as `~5`: a `-` stands between two numbers" else
     if sign == 41 then codes
-    "an expression is missing before this `)`; and `a < b` is no test: docs/HOWTO.md makes `less`" else
+    "this `)` closes nothing, or an expression is missing before it; and `a < b` is no test" else
     if sign == 62 then codes "there is no order: docs/HOWTO.md makes `less`; here a `>` ends a tuple, `<1, 2>`" else
     if sign == 91 then codes "`[ ]` has types, `e[int]`, or names: a tuple is `<1, 2>`, and its first field `#1 e`" else
     source_sentence E03

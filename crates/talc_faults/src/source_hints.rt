@@ -51,7 +51,7 @@ fn sign_hint(sign: u8) -> &'static str
             "fields stand in `< >`, as in `f <1, 2>`; an `if0` has three parts, and a `let` names one value",
         b'-' => "a negative number is written with `~`, as `~5`: a `-` stands between two numbers",
         b')' =>
-            "an expression is missing before this `)`; and `a < b` is no test: docs/HOWTO.md makes `less`",
+            "this `)` closes nothing, or an expression is missing before it; and `a < b` is no test",
         b'>' => "there is no order: docs/HOWTO.md makes `less`; here a `>` ends a tuple, `<1, 2>`",
         b'[' =>
             "`[ ]` has types, `e[int]`, or names: a tuple is `<1, 2>`, and its first field `#1 e`",

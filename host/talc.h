@@ -5,8 +5,9 @@
  * Every call returns, reads only the bytes and the memory it is given, keeps nothing of its own between calls (no
  * global state, no locale, no signal, no thread), and writes nothing but its answer and the guest or the room that it
  * is given. So calls on different guests and rooms may be made at once from as many threads as one likes; a guest or a
- * room is used by one call at a time. Memory comes from the program's malloc, realloc and free, and all of it is given
- * back before a call returns, but for what a guest holds, which talc_guest_clear gives back.
+ * room is used by one call at a time. Memory comes from the program's malloc, realloc and free. All of it is given back
+ * before a call returns, but for what a guest holds, which talc_guest_clear gives back: that is tested by
+ * examples/hosts, and no contract says it.
  *
  * The caller owes: a text is not NULL, even where its length is 0, and does not change during the call; the same of a
  * room, which is no part of the text; a guest was given to talc_guest_init; and 4 MB of stack, as reading takes about

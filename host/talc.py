@@ -96,11 +96,19 @@ def _found(name):
     return name
 
 
+def _loaded(name, **how):
+    try:
+        return c.CDLL(_found(name), **how)
+    except OSError as error:
+        raise OSError(f"{error}: {name} is looked for in the folder that TALC_LIB names, beside {__file__}, and in "
+                      "../../lib from there; in a checkout of talc `host/libraries FOLDER` puts it into a folder") from None
+
+
 class Talc:
     """The calls of both libraries. Texts are bytes."""
 
     def __init__(self):
-        self._machine = c.CDLL(_found("libtal_c.so"), mode=c.RTLD_GLOBAL)
+        self._machine = _loaded("libtal_c.so", mode=c.RTLD_GLOBAL)
         self._compiler = None
         self._declare(self._machine, "talc_version", _U32)
         self._declare(self._machine, "talc_guest_size", _SIZE)
@@ -186,7 +194,7 @@ class Talc:
         return room.raw[:made.length], made.status
 
     def _open(self):
-        library = c.CDLL(_found("libtalc_c.so"))
+        library = _loaded("libtalc_c.so")
         self._declare(library, "talc_compiler_version", _U32)
         for name, *number in (("talc_compile", _U64), ("talc_typeof",), ("talc_eval", _U64), ("talc_show", _U32),
                               ("talc_explain",)):

@@ -1,8 +1,13 @@
-# For `source`, with $top the folder of the repository: whether prebuilt/ is of this checkout, and its program.
+# For `source`, with $top the folder of the repository: whether prebuilt/ is of this checkout, its program, and its
+# libraries for programs in C.
 #
 # prebuilt/sums, and out/sums beside a program that was built here, are lines as sha256sum checks them, one for each
 # file that the program is made of, between lines that begin with #: of the kit, of the machine that it is built for,
-# of what was made, and of the number of files.
+# of what was made, and of the number of files. prebuilt/library-sums is the same of the libraries, with a line of each.
+
+# The libraries as host/libraries makes them, and what of host/ they are made of, beside the crates.
+library_files='libtal_c.a libtal_c.so libtalc_c.a libtalc_c.so'
+library_parts='host/exports host/libraries host/talc_heap.c host/talc_heap.h'
 
 # What one of the lines with # says.
 said_in() {
@@ -25,9 +30,10 @@ fault_of_sums() {
         echo "$(realpath --relative-to="$top" "$sums") is cut"
         return
     fi
-    if ! wrong=$(cd "$top" && LC_ALL=C sha256sum --check --quiet --strict "$sums" 2>/dev/null); then
+    if ! wrong=$({ cd "$top" && LC_ALL=C sha256sum --check --quiet --strict; } <"$sums" 2>/dev/null); then
         wrong=${wrong%%$'\n'*}
-        echo "the sum of ${wrong%%: FAILED*} differs"
+        wrong=${wrong%%: FAILED*}
+        [ -n "$wrong" ] && echo "the sum of $wrong differs" || echo "its sums cannot be compared with the files here"
         return
     fi
     listed=$(sed -n 's/^[0-9a-f]\{64\}  //p' "$sums")
@@ -62,6 +68,35 @@ fault_of_prebuilt() {
     esac
 }
 
+# Says why the libraries of prebuilt/ are not to be used here; nothing where they may be.
+fault_of_libraries() {
+    local sums=$top/prebuilt/library-sums name
+    for name in library-sums $(printf '%s.gz ' $library_files); do
+        if [ ! -f "$top/prebuilt/$name" ]; then
+            echo "prebuilt/$name is not there"
+            return
+        fi
+    done
+    case "$(said_in "$sums" machine)" in
+        "$(this_machine), "*) fault_of_sums "$sums" ;;
+        *) echo "they are for $(said_in "$sums" machine), and this is $(this_machine)" ;;
+    esac
+}
+
+# Unpacks the libraries of prebuilt/ to a folder, and says what is wrong with them; nothing where they are those that
+# the sums name.
+unpacked_libraries() {
+    local name
+    for name in $library_files; do
+        if ! gzip -dc "$top/prebuilt/$name.gz" >"$1/$name" 2>/dev/null ||
+            [ "$(sum_of_file "$1/$name")" != "$(said_in "$top/prebuilt/library-sums" "made $name")" ]; then
+            rm -f "$1/$name"
+            echo "prebuilt/$name.gz is cut, or another library than prebuilt/library-sums names"
+            return
+        fi
+    done
+}
+
 # Unpacks the program of prebuilt/ to a file, and says what is wrong with it; nothing where it is the one that the sums
 # name, and starts here (with no words it ends with 2).
 unpacked() {
@@ -81,7 +116,7 @@ take_prebuilt() {
     [ -e "$top/prebuilt" ] || return 1
     fault=$(fault_of_prebuilt)
     if [ -z "$fault" ]; then
-        mkdir -p "${program%/*}" && made=$(mktemp "$program.XXXXXX") || return 1
+        made=$(mktemp "$program.XXXXXX") || return 1
         fault=$(unpacked "$made")
         if [ -z "$fault" ] && mv "$made" "$program"; then
             echo 'talc: taking the program of prebuilt/, which names the sum of each file here that it was built of;' \

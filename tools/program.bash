@@ -1,7 +1,8 @@
 # For `source`, with $top the folder of the repository: where the program stands, its building at need, and how it is
-# started.
+# started. In an archive of a release, whose pages and scripts are such a folder without crates/, it is bin/talc.
 
 program=$top/crates/talc/out/talc
+[ -d "$top/crates" ] || program=$top/../../../bin/talc
 
 # A file of code, or the list of crates, that is newer than the program; nothing where there is none.
 # A newer definition or proof does not count, since it changes nothing of what the program does, nor does a newer kit.
@@ -11,11 +12,24 @@ newer_code() {
 
 # Whether the program stands and is newer than code that it may be made of.
 is_built() {
-    [ -x "$program" ] && [ -z "$(newer_code)" ]
+    [ -x "$program" ] && { [ ! -d "$top/crates" ] || [ -z "$(newer_code)" ]; }
+}
+
+# Whether this user may write where the program stands; says so where not.
+has_place() {
+    mkdir -p "${program%/*}" 2>/dev/null && [ -w "${program%/*}" ] && return
+    echo "talc: ${program%/*} cannot be written to by you: of a checkout that others share its owner gives the first" \
+        'command, and the first after a change; `tools/install PREFIX` makes a copy that wants no folder' >&2
+    return 1
 }
 
 # Takes the program of prebuilt/, which says so, or else builds it; the build says so.
 get_built() {
+    if [ ! -d "$top/crates" ]; then
+        echo "talc: there is no program $program: the archive is not whole" >&2
+        return 1
+    fi
+    has_place || return
     rm -f "$program"
     source "$top/tools/prebuilt.bash"
     take_prebuilt || "$top/tools/build"

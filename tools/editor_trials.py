@@ -6,11 +6,15 @@ import subprocess
 import tempfile
 from pathlib import Path
 
+import lsp_names
+
 TOP = Path(__file__).resolve().parent.parent
 VIM = TOP / "editors" / "vim"
 VSCODE = TOP / "editors" / "vscode"
 DATA = TOP / "crates" / "rows" / "data"
 LEXERS = {"source": "f_lexer", "tal": "t_text"}
+# The words of the language server.
+SERVED = {"source": lsp_names.SOURCE_WORDS, "tal": lsp_names.TAL_WORDS}
 # What Vim is asked: the place and the first line of each fault that it finds.
 ASKED = "for i in getqflist() | echo i.lnum . ' ' . i.col . ' ' . split(i.text, '\\n')[0] | endfor"
 
@@ -26,7 +30,7 @@ def read(path):
 def tokens_of(lexer):
     """The reserved words and the signs of a lexer, read off its code."""
     code = read(TOP / "crates" / lexer / "src" / "scan.rt")
-    words = re.findall(r'== b"(\w+)"', code)
+    words = re.findall(r'(?:== |bytes, |^ +)b"(\w+)"', code, re.M)
     pairs = [a + b for a, b in re.findall(r"is_pair\(text, at, b'(.)', b'(.)'\)", code)]
     signs = re.findall(r"b'(\W)' => Some", code)
     return words, signs + pairs
@@ -42,7 +46,12 @@ def unlike_words(language):
     patterns = [(it["name"], re.compile(it["match"])) for it in grammar["patterns"]]
     if "/--.*$/" not in vim or not patterns[0][1].fullmatch("-- a comment"):
         yield f"editors: no comments in the files of talc_{language}"
+    if set(words) != SERVED[language]:
+        yield f"tools/lsp_names.py: talc_{language} has the words {' '.join(words)}"
+    emacs = read(TOP / "editors" / "emacs" / "talc.el")
     for word in words:
+        if f'"{word}"' not in emacs:
+            yield f"editors: talc.el has no word {word}"
         if word not in keywords:
             yield f"editors: talc_{language}.vim has no word {word}"
         if not any(kind.startswith(("keyword", "storage")) and it.fullmatch(word) for kind, it in patterns):

@@ -1,6 +1,8 @@
-// The tasks `talc: explain FILE`, whose output the problem matcher of package.json reads.
+// Starts the language server; and has tasks `talc: explain FILE`, whose output the problem matcher of package.json
+// reads.
 'use strict';
 const vscode = require('vscode');
+const client = require('./client.js');
 
 function taskFor(file, scope, definition) {
     const program = vscode.workspace.getConfiguration('talc').get('path', 'talc');
@@ -29,4 +31,10 @@ function resolveTask(task) {
 
 exports.activate = (context) => {
     context.subscriptions.push(vscode.tasks.registerTaskProvider('talc', { provideTasks, resolveTask }));
+    const settings = vscode.workspace.getConfiguration('talc');
+    const server = settings.get('server', 'talc-lsp');
+    if (server) {
+        const { globalValue, workspaceValue } = settings.inspect('path') ?? {};
+        client.start(context, server, { path: workspaceValue ?? globalValue });
+    }
 };

@@ -19,8 +19,9 @@ const MOST_LINKED = 200000;
 // that it is at.
 const FAULT = /^(?:.*?:?\d+:\d+: )?([A-Z]\d+) (?:.*\(bytes )?(\d+)\.\.(\d+)/;
 
-// For each language its text's name and the view in sight; the mode is the language in sight.
-const names = { source: '', tal: '' }, views = { source: 'cps', tal: 'machine' };
+// For each language its text's name, the example that it began as, and the view in sight; the mode is the language in
+// sight.
+const names = { source: '', tal: '' }, taken = { source: '', tal: '' }, views = { source: 'cps', tal: 'machine' };
 let mode = 'source', most = 0, examples = [], commands = new Set();
 // What is asked of the text in sight: how to give it up, and the forms that are fetched.
 let turn = { aborter: new AbortController() };
@@ -77,8 +78,8 @@ function commandOf(found) {
 }
 
 // Shows the first fault, if there is one, by the text of `explain`, without the name of its file; by that of `check` or
-// `typeof` where the text is of the other language. E15, that a term has another type than int, is a fault of the whole,
-// and is not marked.
+// `typeof` where the text is of the other language. E15, that a term has another type than int, is a fault of the
+// whole, and is not marked.
 function showFault(known, explained) {
     const found = explained.said === 'no fault' ? known : explained;
     const [, code, start, end] = FAULT.exec(found.said) ?? [];
@@ -91,6 +92,7 @@ function showFault(known, explained) {
     const isMarked = code && code !== 'E15';
     editor.mark('fault', ...(isMarked ? [start, end].map((it) => placeOf(editor.text, Number(it))) : []));
     document.body.classList.toggle('refused', isFault);
+    editor.field.setAttribute('aria-invalid', isFault);
     return isFault;
 }
 
@@ -207,6 +209,10 @@ function choose(name, focus) {
         (articles[it] ?? {}).hidden = it !== name && !(name === 'all' && FORMS.includes(it));
     }
     $('views').dataset.view = name;
+    // (not by scrollIntoView, which would move the page too)
+    const tab = TABS[name], bar = tab.parentElement;
+    bar.scrollLeft = Math.max(Math.min(bar.scrollLeft, tab.offsetLeft - bar.offsetLeft - 20),
+        tab.offsetLeft + tab.offsetWidth - bar.offsetLeft - bar.clientWidth + 20);
     if (focus) {
         TABS[name].focus();
     }
@@ -222,6 +228,9 @@ function turnTo(language, text, name) {
     document.body.dataset.mode = language;
     document.querySelector(`[name=mode][value=${language}]`).checked = true;
     names[language] = name ?? names[language];
+    if (text !== undefined) {
+        taken[language] = examples.find((it) => it.name === name && it.text === text)?.name ?? '';
+    }
     machine.at = 0;
     if (text !== undefined) {
         editors[language].set(text);
@@ -235,10 +244,16 @@ function turnTo(language, text, name) {
     return refresh();
 }
 
+// The name of a text: one that began as an example and is another by now is the visitor's own.
+function nameOf(language) {
+    const name = names[language], example = examples.find((it) => it.name === taken[language]);
+    return example && name === example.name && editors[language].text !== example.text ? `my-${name}` : name;
+}
+
 // The text's name, and what it shows where it is an example as it stands.
 function showName(text) {
     const example = examples.find((it) => it.name === names[mode] && it.text === text);
-    $('name').textContent = names[mode] || `program.${EXTENSIONS[mode]}`;
+    $('name').textContent = nameOf(mode) || `program.${EXTENSIONS[mode]}`;
     $('example').value = example?.name ?? '';
     $('about').textContent = example?.about ?? '';
 }
@@ -249,7 +264,7 @@ function showName(text) {
 async function keepLink(text, signal) {
     const packed = await through(text.slice(0, MOST_LINKED), new CompressionStream('deflate-raw')).arrayBuffer();
     const letters = Array.from(new Uint8Array(packed), (it) => String.fromCharCode(it));
-    const given = new URLSearchParams({ name: names[mode], text: btoa(letters.join('')) });
+    const given = new URLSearchParams({ name: nameOf(mode), text: btoa(letters.join('')) });
     if (!signal.aborted) {
         history.replaceState(null, '', text.length > MOST_LINKED ? '#' : `#${given}`);
     }
@@ -295,7 +310,7 @@ function build() {
     }
     for (const form of FORMS) {
         const part = (name) => articles[form].querySelector(name);
-        const named = () => `${names.source.replace(/\.\w+$/, '') || 'program'}.${EXTENSIONS[form] ?? `${form}.txt`}`;
+        const named = () => `${nameOf('source').replace(/\.\w+$/, '') || 'program'}.${EXTENSIONS[form] ?? `${form}.txt`}`;
         part('h2').textContent = TABS[form].firstChild.textContent;
         part('.about').textContent = TABS[form].title;
         part('.save').onclick = () => save(articles[form].text ?? '', named());

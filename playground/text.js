@@ -299,6 +299,7 @@ export class Editor extends Pane {
         this.field = document.createElement('textarea');
         Object.assign(this.field, { spellcheck: false, autocomplete: 'off', autocapitalize: 'off', wrap: 'off' });
         this.field.setAttribute('aria-label', label);
+        this.field.setAttribute('aria-describedby', 'explained');
         this.lines.append(this.field);
         this.code.setAttribute('aria-hidden', 'true');
         let timer;

@@ -1,7 +1,7 @@
-"""Checking of assembly programs: `talc check` beside wabt's wasm-validate and wat2wasm, as ratios in one run.
+"""Checking of assembly programs: `talc check` compared with wabt's wasm-validate and wat2wasm, as ratios in one run.
 
-All read a program of 1000000 instructions in 10000 blocks (functions), and `talc` one half as large. Each line has its
-goal; a row that misses says so.
+All of them read a program of 1000000 instructions in 10000 blocks (functions). `talc` also reads one half as large.
+Each line has its goal, and a row that misses it says so.
 """
 from measure import available, best, best_in_turn, folder, program, ratio
 

@@ -1,19 +1,25 @@
-"""Compiling: `talc compile` on sources of up to 100000 nodes, the limit, in eight shapes whose assembly text grows with
-the source, and of up to about 1000 nodes in two shapes whose text grows faster; of three of the first, with nine names
-in use around them that no eight registers hold, also `compile --registers 8`, on up to 20000 nodes.
+"""Compiling: `talc compile` on sources of two kinds. Eight shapes have up to 100000 nodes, the limit, and a text that
+grows with the source. Two shapes have up to about 1000 nodes, and a text that grows faster. Three of the first eight
+are also compiled with `compile --registers 8`, on up to 20000 nodes, with nine names in use around them, which eight
+registers do not hold.
 
-For each size: processor seconds less those of the text `7`, bytes of the text a node of the source, peak memory a byte
-of the text (wanted: at most 100), and the time as a multiple of that of the half (wanted: at most 2.2). In the last two
-shapes each closure has a copy of what it keeps; there the time a byte of the text stands against that of the half
-(wanted: at most 1.1). A text is compiled as often as it takes to come to 0.05 seconds. A row that misses says so. Where
-ocamlopt is installed, its time for a program of the same meaning and of some 1000 nodes stands beside that of talc,
-each less that of the smallest program.
+For each size it shows:
 
-Then, of small programs: the instructions that they execute, those a turn of their source and those in their text, how
-many of these are moves, and the greatest register; and the same with `--registers 8` and `--registers 16`, with bytes,
-instructions executed and time as multiples of those without (wanted of instructions: at most 5 and 3). Last, of the
-text of each example and of all together: how many of 100 instructions are moves (wanted of all: at most 25), and the
-greatest register (wanted: at most 16). What lies in larger terms is measured by `passes.py`.
+- processor seconds less those of the text `7`;
+- bytes of the text for a node of the source;
+- peak memory for a byte of the text (goal: at most 100);
+- the time as a multiple of that of half the size (goal: at most 2.2). In the last two shapes each closure has a copy of
+  what it keeps, so there the time for a byte of the text is compared with that of half the size (goal: at most 1.1).
+
+A text is compiled as often as it takes to come to 0.05 seconds. A row that misses its goal says so. Where ocamlopt is
+installed, its time for a program of the same meaning and of some 1000 nodes is shown too, each less that of the
+smallest program.
+
+Then come small programs: the instructions that they execute, those for a turn of their source and those in their text,
+how many of these are moves, and the greatest register. The same is shown with `--registers 8` and `--registers 16`,
+with bytes, instructions executed and time as multiples of those without (goals for instructions: at most 5 and 3). Last
+comes the text of each example and of all together: how many of 100 instructions are moves (goal for all: at most 25),
+and the greatest register (goal: at most 16). `passes.py` measures what larger terms take.
 """
 import re
 import shutil

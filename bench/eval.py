@@ -1,8 +1,9 @@
-"""Evaluation: `talc eval` beside lua5.4 on the same three programs, as ratios in one run.
+"""Evaluation: `talc eval` compared with lua5.4 on the same three programs, as ratios in one run.
 
-The first calls 100000 deep, twenty times, as deep as Lua goes; the second makes 10000000 turns in a loop; the third is
-the 32nd Fibonacci number by two calls in each. For each: turns a second, the memory for each turn beyond that of the
-text `7`, and the time as a multiple of Lua's (wanted: at most 1). A row that misses says so.
+The first program calls 100000 deep, twenty times, which is as deep as Lua goes. The second makes 10000000 turns in a
+loop. The third is the 32nd Fibonacci number, with two calls in each. For each it shows turns a second, the memory for
+each turn beyond that of the text `7`, and the time as a multiple of Lua's (goal: at most 1). A row that misses its goal
+says so.
 """
 from measure import Spent, available, best, folder, program, ratio
 

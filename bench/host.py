@@ -1,6 +1,8 @@
-"""A call by the C libraries and by the program, in microseconds of processor time: what a host saves that does not
-start a process for each text. Of each the best of several rounds or starts. The libraries are called by a small program
-in C that is made for it; the program is started by `posix_spawn`, and what its own process takes is counted.
+"""A call of the C libraries compared with a start of the program, in microseconds of processor time: what a host saves
+that does not start a process for each text.
+
+Each figure is the best of several rounds or starts. A small program in C, which is made for it, calls the libraries.
+The program is started by `posix_spawn`, and only what its own process takes is counted.
 """
 import os
 import subprocess

@@ -1,14 +1,16 @@
 """Texts that are made to be slow: `talc check` and `talc run --fuel 0`, which loads, on each at two sizes.
 
-The second size is ten times the first, and the first is large enough that each takes 0.05 seconds or more. What is
-wanted: each text is accepted, at most 13 times the time for ten times the text, and at most 200 bytes of memory a byte
-of text. Two texts ask for more than their length: they are held to the parts of types that they ask for, in place of
-their bytes. A row that misses one of these says so. The two texts are run in turn, and the time of a text is the least
-of its runs, less that of a text of one jump. A run is ended after 60 seconds of processor time or at 8 GB. The names of
-texts may be given, for these alone; without any, all are run.
+The second size is ten times the first, and the first is large enough that each takes 0.05 seconds or more. The goals:
+each text is accepted; ten times the text takes at most 13 times the time; and each byte of text takes at most 200 bytes
+of memory. Two texts ask for more than their length. They are compared with the parts of types that they ask for, and
+not with their bytes. A row that misses a goal says so.
 
-Of a text that misses the time alone, at a quarter of both sizes, the instructions are counted too, where valgrind is
-installed: at most 13 times as many are no slow text, but one whose tables no longer fit in the cache. The row says so.
+The two sizes are run in turn. The time of a text is the least of its runs, less that of a text of one jump. A run ends
+after 60 seconds of processor time or at 8 GB. Names of texts may be given, for these alone; without any, all are run.
+
+Where a text misses the time alone, its instructions are counted too, at a quarter of both sizes, if valgrind is
+installed. With at most 13 times as many it is not a slow text: its tables no longer fit into the cache. The row says
+so.
 """
 import math
 import re

@@ -1,5 +1,5 @@
-"""What the benchmarks share: the built program, a folder, timed runs, ratios with their goals, and other packages'
-commands. Runs are started by bench/launcher.c, which wants a C compiler."""
+"""What the benches share: the built program, a folder, timed runs, ratios with their goals, and commands of other
+packages. bench/launcher.c, which needs a C compiler, starts the runs."""
 import functools
 import os
 import re

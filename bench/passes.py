@@ -1,12 +1,17 @@
-"""The passes of the compiler one by one, by the forms that `talc show` makes: each form is the last one and one pass more.
+"""The passes of the compiler one by one, by the forms that `talc show` makes: each form is the last one and one pass
+more.
 
-For each shape of source and each form: processor seconds of all up to the form, its writing too, at a size and at twice
-the size, what it takes beyond the form before it, peak memory at both, and the ratio of the times (wanted: at most
-2.2), where both are 0.05 seconds or more. A row that misses it says so. Memory does not depend on what else the machine
-does, and its ratio tells as much. The largest sources have some 100000 nodes, the most that a text may have.
+For each shape of source and each form it shows:
 
-After the last form of a shape: how many instructions the assembly text has for a declaration of the allocated program,
-at both sizes. The ends of blocks are not counted.
+- processor seconds of all up to the form, its writing too, at a size and at twice the size;
+- what it takes beyond the form before it;
+- peak memory at both sizes, and the ratio of the times (goal: at most 2.2), where both are 0.05 seconds or more.
+
+A row that misses its goal says so. Memory does not depend on what else the machine does, so its ratio is as good a
+measure. The largest sources have some 100000 nodes, the most that a text may have.
+
+After the last form of a shape it shows how many instructions the assembly text has for a declaration of the allocated
+program, at both sizes. The ends of blocks are not counted.
 
 With a number as its one word it takes sources of that many nodes in place of 99000, for a first look.
 """

@@ -1,12 +1,12 @@
-"""Refused memory: over two dozen inputs, every allocation of a command is refused once, in a run of its own; of one
-that allocates more than two thousand times, as `gen` does, some two thousand, the last ones among them. Of programs
-that make millions of tuples, whose heap grows and is collected on the way, each allocation is refused once, and in
-another run it and all after it.
+"""Refused memory: each allocation of a command is refused once, in a run of its own, over two dozen inputs. Of a
+command that allocates more than two thousand times, as `gen` does, some two thousand are refused, the last ones among
+them. Some programs make millions of tuples, so that their heap grows and is collected on the way. Of these each
+allocation is refused once, and in another run it and all after it.
 
-What is wanted: all as with ample memory, or status 7 with nothing on the output, the line `out of memory` or nothing on
-the error output, and no file changed, but that `gen` may have written its source. It prints how many refusals it tried,
-and ends with 1 where one was answered otherwise. It needs a C compiler: the allocator is put before that of the C
-library, for the program alone.
+The goal: each run ends as with ample memory, or with status 7. Then nothing is on the output, and the line
+`out of memory` or nothing is on the error output. No file has changed, except that `gen` may have written its source.
+It prints how many refusals it tried, and ends with 1 where one was answered otherwise. It needs a C compiler: its
+allocator is put in front of that of the C library, for the program alone.
 """
 import os
 import subprocess

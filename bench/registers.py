@@ -1,11 +1,13 @@
-"""The bound on registers: `talc compile --registers K`, with 8 and with 16, beside `talc compile`, as ratios.
+"""The bound on registers: `talc compile --registers K`, with 8 and with 16, compared with `talc compile`, as ratios.
 
-For each example that is a program and for thirty `let`s: instructions made, bytes of the text, and instructions
-executed up to the end (wanted: at most 5 times with 8 registers, and 3 times with 16), without the option and as
-multiples of that with it. A text that is the same with the option as without says so; one with a register above the
-bound ends the script. Then the compiler's time, less that for the text `7`, on straight lines of sums, each twice as
-long as the one before it, with nine names in use from the first to the last, so that the option makes a frame for each
-sum: the time as a multiple of that of the half (wanted: at most 2.2). A row that misses says so.
+For each example that is a program and for thirty `let`s it shows instructions made, bytes of the text, and instructions
+executed up to the end, without the option and as multiples of that with it (goals for instructions executed: at most 5
+times with 8 registers, and 3 times with 16). A row says where the text is the same with the option. A text with a
+register above the bound ends the script.
+
+Then comes the compiler's time, less that for the text `7`, on straight lines of sums, each twice as long as the one
+before it. Nine names are in use from the first to the last, so that the option makes a frame for each sum. It shows the
+time as a multiple of that of half the length (goal: at most 2.2). A row that misses its goal says so.
 """
 import re
 import sys

@@ -1,11 +1,11 @@
-"""The machine: `talc run` beside wabt's wasm-interp, lua5.4 and ocamlrun on the same programs, as ratios in one run,
-and a compiled loop.
+"""The machine: `talc run` compared with wabt's wasm-interp, lua5.4 and ocamlrun on the same programs, as ratios in one
+run; and a compiled loop.
 
 One program makes 100000000 steps in a loop, one allocates 10000000 pairs and drops them at once, one keeps 10000000 in
-a list. What is wanted: at most a twentieth of wasm-interp's time in the first, and a tenth in the second; and less time
-than Lua and OCaml's bytecode in all three. The compiled loop makes 100000000 turns, each of which allocates two tuples
-and drops them, and is wanted to hold less than 64 MB. `talc cost`, which counts, is wanted to take at most 1.3 times as
-long as `talc run` on the first two. A row that misses says so; what is not installed is left out.
+a list. The goals: at most a twentieth of wasm-interp's time in the first, and a tenth in the second; and less time than
+Lua and OCaml's bytecode in all three. The compiled loop makes 100000000 turns, each of which allocates two tuples and
+drops them. It should hold less than 64 MB. `talc cost`, which counts, should take at most 1.3 times as long as
+`talc run` on the first two. A row that misses its goal says so. What is not installed is left out.
 """
 import shutil
 import subprocess

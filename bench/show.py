@@ -1,10 +1,15 @@
 """Showing: `talc show` on sources of up to 100000 nodes, the limit, in each of the six forms, `talc types` on them, and
 `talc listing` on what `compile` makes of them.
 
-For each shape and form, for the types and for the listing: processor seconds less those of the text `7`, bytes of the text shown a
-node of the source, the time as a multiple of that of the half (wanted: at most 2.2), and as a multiple of that of
-`compile` (wanted: at most 1.5 for the forms on the way to the assembly text), for the types of that of `typeof`, or for the
-listing of that of `check` (wanted: at most 5 for both). A text is shown as often as it takes to come to 0.05 seconds. A row that misses says so.
+For each shape and form, for the types and for the listing it shows:
+
+- processor seconds less those of the text `7`;
+- bytes of the text shown for a node of the source;
+- the time as a multiple of that of half the size (goal: at most 2.2);
+- for the forms on the way to the assembly text, the time as a multiple of that of `compile` (goal: at most 1.5); for
+  the types, of that of `typeof`, and for the listing, of that of `check` (goal for both: at most 5).
+
+A text is shown as often as it takes to come to 0.05 seconds. A row that misses its goal says so.
 """
 from measure import Spent, best, checked, folder, program, ratio
 from shapes import branches, called_lets, calls, cells, functions, lets, ones, opens

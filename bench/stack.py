@@ -1,8 +1,8 @@
 """The stack that a text needs: for each way to nest constructs as deep as a text may (2000 open at a token), the least
 stack with which `talc` still answers, in kilobytes, by command.
 
-A host that hands texts of strangers to a thread has to give it as much, and what the host itself uses besides. Nothing
-is wanted of these figures but that docs/EMBEDDING.md and docs/C_LIBRARY.md say them.
+A host that gives other people's texts to a thread has to give it as much, and what the host itself needs. These figures
+have no goal; docs/EMBEDDING.md and docs/C_LIBRARY.md show them.
 """
 import resource
 import subprocess

@@ -1,9 +1,9 @@
-"""Reading and writing of assembly texts: `talc` beside wabt's wat2wasm on a text of like size, in one run, where that
-is installed.
+"""Reading and writing of assembly texts: `talc` compared with wabt's wat2wasm on a text of similar size, in one run,
+where that is installed.
 
-`talc check` of a text whose last name is not bound does no more than read it, `talc upgrade` reads, checks and writes
-one, and takes more than `talc check` by the writing alone; wat2wasm reads a text and writes binary. What is wanted of
-reading and writing: at most 2.2 times the time for twice the text, and at most wat2wasm's time a byte. A row that misses
+`talc check` of a text whose last name is not bound only reads it. `talc upgrade` reads, checks and writes one, and
+takes more than `talc check` by the writing alone. wat2wasm reads a text and writes binary. The goals for reading and
+writing: at most 2.2 times the time for twice the text, and at most wat2wasm's time a byte. A row that misses its goal
 says so. With a number as its one word it takes texts of that many bytes in place of 10000000, for a first look.
 """
 import shutil

@@ -1,10 +1,10 @@
 """The machine step by step: `talc trace` on loops, on one long block and on a compiled program, each also at half the
 lines.
 
-For each: lines a second, bytes a line, peak memory a byte of the output, and the time as a multiple of that of the half
-(wanted: at most 2.2), all less those of `run` of the same text for as many instructions, which reads and checks it too.
-Then eleven lines after 100000000 instructions, beside `run` to there (wanted: at most 1.1 times its time). A row that
-misses says so.
+For each it shows lines a second, bytes a line, peak memory for a byte of the output, and the time as a multiple of that
+of half the lines (goal: at most 2.2). All are less those of `run` of the same text for as many instructions, which
+reads and checks it too. Then come eleven lines after 100000000 instructions, compared with `run` to there (goal: at
+most 1.1 times its time). A row that misses its goal says so.
 """
 from measure import Run, best, folder, program, ratio
 

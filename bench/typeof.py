@@ -1,8 +1,8 @@
 """Reading and checking of source texts: `talc typeof` on the largest legal texts, and on texts half as large.
 
-For each text: processor seconds less those of the text `7`, nanoseconds a byte, peak memory a byte beyond that of the
-text `7`, and the time as a multiple of that of the half (wanted: at most 2.2). A text is read as often as it takes to
-come to 0.05 seconds. A row that misses says so.
+For each text it shows processor seconds less those of the text `7`, nanoseconds a byte, peak memory for a byte beyond
+that of the text `7`, and the time as a multiple of that of the half (goal: at most 2.2). A text is read as often as it
+takes to come to 0.05 seconds. A row that misses its goal says so.
 """
 from measure import Spent, best, folder, program, ratio
 

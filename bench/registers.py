@@ -7,16 +7,22 @@ register above the bound ends the script.
 
 Then comes the compiler's time, less that for the text `7`, on straight lines of sums, each twice as long as the one
 before it. Nine names are in use from the first to the last, so that the option makes a frame for each sum. It shows the
-time as a multiple of that of half the length (goal: at most 2.2). A row that misses its goal says so.
+time as a multiple of that of half the length (goal: at most 2.2).
+
+The last rows are calls in a row, each with the values of all before it still in use, twice as many as in the row before.
+Their text is of the square of their number. Each row shows the bytes of the text within 8 registers and the compiler's
+time, both as multiples of those of half as many calls (goal: at most 4; a cube would be 8). A row that misses its goal
+says so.
 """
 import re
 import sys
 from measure import Run, Spent, best, examples, folder, program, ratio
 
 BOUNDS = [8, 16]
-MOST_STEPS, MOST_TIMES = {8: 5, 16: 3}, 2.2
+MOST_STEPS, MOST_TIMES, MOST_GROWTH = {8: 5, 16: 3}, 2.2, 4
 FUEL = 1 << 24
 LINES = [2500, 5000, 10000, 20000]
+CALLS = [40, 80, 160, 320]
 NAMES = [f"a{i}" for i in range(1, 10)]
 NINE = "".join(f"let {name} = #1 <1> in " for name in NAMES)
 
@@ -67,8 +73,26 @@ class Made:
         return self
 
 
+def calls(number):
+    """So many calls, whose values are all added up at the end."""
+    names = "".join(f"let x{i} = f {i} in " for i in range(1, number + 1))
+    return f"let f = fix f(n:int):int. n + 1 in {names}{' + '.join(f'x{i}' for i in range(1, number + 1))}"
+
+
 def times(part, whole):
     return f"{part / whole:.1f}" if whole else "-"
+
+
+def grown(last, framed, spent):
+    """The bytes and the time as multiples of those of half as many calls."""
+    if last is None:
+        return ""
+    more = framed.bytes / last[0]
+    return (
+        f", {more:.1f} times the bytes of the half (wanted: at most {MOST_GROWTH})"
+        + (": long" if more > MOST_GROWTH else "")
+        + f", its time as a multiple {ratio(spent, last[1], MOST_GROWTH)}"
+    )
 
 
 def main():
@@ -116,6 +140,16 @@ def main():
                 + (f", as a multiple of the half {ratio(spent, last, MOST_TIMES)}" if last else "")
             )
             last = spent
+        last = None
+        for number in CALLS:
+            text = calls(number)
+            framed = made(text, BOUNDS[0])
+            spent = Spent(written(text, BOUNDS[0]), base, wanted=(0, ""))
+            print(
+                f"{number} calls: within {BOUNDS[0]} {framed.bytes} bytes, {spent.seconds:.3f} s"
+                + grown(last, framed, spent)
+            )
+            last = framed.bytes, spent
 
 
 main()

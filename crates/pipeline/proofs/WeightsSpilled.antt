@@ -7,7 +7,7 @@ use Rattle.t_spill_rules.specs.Spill.{first_reg, second_reg, made_reg, frame_reg
 use Rattle.t_spill_rules.specs.Spill.{Home}
 use Rattle.t_spill_rules.specs.Spill.{Held, InFrame, InSlot, Layout, homed, layout, load, load_value}
 use Rattle.t_spill_rules.specs.Spill.{second_at}
-use Rattle.t_spill_rules.specs.Spill.{before, fill, build, into, Way, Stays, Fills, Gathers, way, after, slots}
+use Rattle.t_spill_rules.specs.Spill.{before, fill, build, into, Way, Stays, Holds, Fills, Gathers, way, after, slots}
 use Rattle.t_spill_rules.specs.Spill.{fill_slot}
 use Rattle.t_spill_rules.specs.Spill.{finish, does, target, defines, step, code, kept, sp_value, sp_blocks}
 use Rattle.t_spill_rules.specs.Spill.{target_file, type_of, lows, spilled}
@@ -51,6 +51,7 @@ module _ (w : Weights) (m : ℕ) where
   of_finish : (L : Layout) (rd : ℕ) (ts : List Ty) (to : TFile) (a : Way) (rest : TSeq) →
       seq_weight w (before (finish m L rd ts to a) rest) ≡ seq_weight w rest
   of_finish L rd ts to Stays rest = refl
+  of_finish L rd ts to Holds rest = refl
   of_finish L rd ts to Fills rest = of_slot L.used ts rest
   of_finish L rd ts to Gathers rest =
       let homes : ℕ → Home = homed L.homes rd (Held (into m rd)) in
@@ -82,17 +83,17 @@ module _ (w : Weights) (m : ℕ) where
       let high = high_part m (target P file i) in
       let ts = slots m P L.used file (Then i c) in
       let s = ap (seq_weight w) (step_is m P L file i c rest) in
-      let last = before (finish m L (defines i) ts (kept P file i c) (way m L.used i)) rest in
+      let last = before (finish m L (defines i) ts (kept P file i c) (way m L.used i c)) rest in
       let x = of_loading L.homes high i (before (does m L.homes i) last) in
       let y = of_does L.homes i last in
-      let z = of_finish L (defines i) ts (kept P file i c) (way m L.used i) rest in
+      let z = of_finish L (defines i) ts (kept P file i c) (way m L.used i c) rest in
       omega (arith, s, x, y, z)
 
   of_code : (c : TSeq) (P : TProg) (L : Layout) (file : TFile) → seq_weight w (code m P L file c) ≡ seq_weight w c
   of_code (Then i rest) P L file =
       let to = kept P file i rest in
-      let x = of_step i P L file rest (code m P (after m L i to) to rest) in
-      let y = of_code rest P (after m L i to) to in
+      let x = of_step i P L file rest (code m P (after m L i rest to) to rest) in
+      let y = of_code rest P (after m L i rest to) to in
       omega (arith, x, y)
   of_code (Ends (Jmp v)) P L file =
       let last : TSeq = Then (Mov (frame_reg m) (reg (made_reg m)))

@@ -130,12 +130,12 @@ module _ (P : TProg) (x : TFile) (i : TInstr) (c : TSeq) (hs : Homes) (ts : List
   behind done s = onto done (with_slots hs.split.low (types ts) (slots hs.split.low P (length ts) x (Then i c)) s)
 
   abbrev follows : TSeq
-  follows = code hs.split.low P (after hs.split.low lay i (kept P x i c)) (kept P x i c) c
+  follows = code hs.split.low P (after hs.split.low lay i c (kept P x i c)) (kept P x i c) c
 
   abbrev ends_with : List TInstr
   ends_with =
       finish hs.split.low lay (defines i) (slots hs.split.low P (length ts) x (Then i c)) (kept P x i c)
-      (way hs.split.low (length ts) i)
+      (way hs.split.low (length ts) i c)
 
   pub text_computed : (done tail tail2 : List (Instr × Span)) (high : TFile) →
       high ≡ high_part hs.split.low (target P x i) →

@@ -7,20 +7,23 @@ use Rattle.std.proofs.lemmas.Bool.{cases_lt, lt-ltb, le-ltb, ne_eqb}
 use Rattle.t_types.specs.Tree.{Ty, TFile, shift_file}
 use Rattle.t_types.specs.Fits.{lookup}
 use Rattle.t_terms.specs.Tree.{TInstr, Bnz, Unpack, TSeq, TProg, names_after}
-use Rattle.t_spill_rules.specs.Spill.{Held, Layout, Way, Stays, Fills, Gathers, homed, into, sp, or_int, ins, next}
+use Rattle.t_spill_rules.specs.Spill.{Held, Layout, Way, Stays, Holds, Fills, Gathers, homed, into, sp, or_int, ins}
+use Rattle.t_spill_rules.specs.Spill.{next}
 use Rattle.t_spill_rules.specs.Spill.{kept}
 use Rattle.t_spill_rules.specs.Spill.{keep, live, among, numbers, high_part, layout, gather, defines, way, way_of}
 use Rattle.t_spill_rules.specs.Spill.{after_way}
-use Rattle.t_spill_rules.specs.Spill.{slots_by, used_by, slots, before, finish, fill_slot, code, most_slots}
+use Rattle.t_spill_rules.specs.Spill.{slots_by, used_by, slots, before, finish, fill_slot, code, most_slots, stores}
 use Rattle.t_spill_laws.proofs.Files.{lookup_ins, look_same}
 use Rattle.t_spill_laws.proofs.Live.{kept_wants, kept_agrees, kept_sub, kept_ascends}
 use Rattle.t_spill_laws.proofs.Computed.{ascends_next}
-use Rattle.t_spill_code.specs.Homes.{home_in, has_in, layout_of, text}
+use Rattle.t_spill_code.specs.Homes.{home_in, has_in, Sets, layout_of, text}
+use Rattle.t_spill_code.specs.declared.homes.Homes.{Homes}
 use Rattle.t_spill.specs.Finishing.{used, Filled, Frames, Gathered}
 use Rattle.t_spill.specs.Known.{Knows, given}
 use Rattle.t_spill.specs.Moving.{Before, Between, Settles, low, finished}
 use Rattle.t_spill.specs.Picking.{Homed}
 use Rattle.t_spill.specs.Wants.{Tells}
+use Rattle.t_spill.specs.Ways.{way_by, way_when}
 use Rattle.t_spill.specs.declared.stepping.Walk.{Walk}
 use Rattle.t_spill.proofs.Picked.{high_listed}
 
@@ -29,53 +32,66 @@ abbrev kind : Way → ℕ
 kind Stays = 0
 kind Fills = 1
 kind Gathers = 2
+kind Holds = 3
 
-stays_low : (m u rd : ℕ) → way_of m u rd ≡ Stays → rd ≤ m
-stays_low m u rd e =
+-- told by whether the next instruction stores into its tuple
+way_is : (m u : ℕ) (i : TInstr) (c : TSeq) (b : Bool) → b ≡ stores (defines i) c → way m u i c ≡ way_when m u i b
+way_is m u (Bnz r v) c b e = refl
+way_is m u (Unpack rd v) c b e = refl
+way_is m u i c b e = ap (way_by m u (defines i)) (sym e)
+
+pub way_told : (m u v : ℕ) (i : TInstr) (c : TSeq) (b : Bool) (w : Way) → u ≡ v → b ≡ stores (defines i) c →
+    way_when m v i b ≡ w → way m u i c ≡ w
+way_told m u v i c b w same e is = way_is m u i c b e ∙ ap (λ n. way_when m n i b) same ∙ is
+
+stays_low : (m u rd : ℕ) (c : TSeq) → way_of m u rd c ≡ Stays → rd ≤ m
+stays_low m u rd c e =
     ⊎_elim
     (λ (lt : m < rd).
-    let one = sym (ap (λ b. kind (cond b (cond (nat_lt u most_slots) Fills Gathers) Stays)) (lt-ltb m rd lt))
-    ∙ ap kind e in
-    absurd (go (nat_lt u most_slots) one))
+    let one = sym (ap (λ b. kind (cond b (cond (nat_lt u most_slots) (cond (stores rd c) Holds Fills) Gathers) Stays))
+    (lt-ltb m rd lt)) ∙ ap kind e in
+    absurd (go (nat_lt u most_slots) (stores rd c) one))
     (λ (le : rd ≤ m). le)
     (cases_lt m rd)
   where
-    go : (b : Bool) → kind (cond b Fills Gathers) ≡ 0 → ⊥
-    go true h = absurd (omega (arith, h))
-    go false h = absurd (omega (arith, h))
+    go : (b d : Bool) → kind (cond b (cond d Holds Fills) Gathers) ≡ 0 → ⊥
+    go true true h = absurd (omega (arith, h))
+    go true false h = absurd (omega (arith, h))
+    go false d h = absurd (omega (arith, h))
 
-pub stays_defines : (m u : ℕ) (i : TInstr) → way m u i ≡ Stays → defines i ≤ m
-stays_defines m u (Bnz r v) e = omega arith
-stays_defines m u (Unpack rd v) e = let no : 2 ≡ 0 = ap kind e in absurd (omega (arith, no))
-stays_defines m u i e = stays_low m u (defines i) e
+pub stays_defines : (m u : ℕ) (i : TInstr) (c : TSeq) → way m u i c ≡ Stays → defines i ≤ m
+stays_defines m u (Bnz r v) c e = omega arith
+stays_defines m u (Unpack rd v) c e = let no : 2 ≡ 0 = ap kind e in absurd (omega (arith, no))
+stays_defines m u i c e = stays_low m u (defines i) c e
 
-fills_high : (m u rd : ℕ) → way_of m u rd ≡ Fills → m < rd
-fills_high m u rd e =
+-- one that does not stay is of a register above m
+leaves_high : (m u rd : ℕ) (c : TSeq) → (way_of m u rd c ≡ Stays → ⊥) → m < rd
+leaves_high m u rd c moves =
     ⊎_elim
     (λ (lt : m < rd). lt)
     (λ (le : rd ≤ m).
-    let no = sym (ap (λ b. kind (cond b (cond (nat_lt u most_slots) Fills Gathers) Stays)) (le-ltb m rd le))
-    ∙ ap kind e in
-    absurd (omega (arith, no)))
+    absurd (moves (ap (λ b. cond b (cond (nat_lt u most_slots) (cond (stores rd c) Holds Fills) Gathers) Stays)
+    (le-ltb m rd le))))
     (cases_lt m rd)
 
-pub fills_defines : (m u : ℕ) (i : TInstr) → way m u i ≡ Fills → m < defines i
-fills_defines m u (Bnz r v) e = let no : 0 ≡ 1 = ap kind e in absurd (omega (arith, no))
-fills_defines m u (Unpack rd v) e = let no : 2 ≡ 1 = ap kind e in absurd (omega (arith, no))
-fills_defines m u i e = fills_high m u (defines i) e
+pub fills_defines : (m u : ℕ) (i : TInstr) (c : TSeq) → way m u i c ≡ Fills → m < defines i
+fills_defines m u (Bnz r v) c e = let no : 0 ≡ 1 = ap kind e in absurd (omega (arith, no))
+fills_defines m u (Unpack rd v) c e = let no : 2 ≡ 1 = ap kind e in absurd (omega (arith, no))
+fills_defines m u i c e =
+    leaves_high m u (defines i) c (λ s. let no : 0 ≡ 1 = sym (ap kind s) ∙ ap kind e in absurd (omega (arith, no)))
 
 -- the type that a definition gives is that of its register afterwards
 ins_gives : (rd : ℕ) (t : Ty) (x : TFile) → or_int (lookup (ins rd t x) rd) ≡ t
 ins_gives rd t x = ap or_int (ap (λ g. g rd) (lookup_ins rd t x) ∙ look_same (lookup x) rd t)
 
-pub fills_type : (P : TProg) (x : TFile) (m u : ℕ) (i : TInstr) → way m u i ≡ Fills →
+pub fills_type : (P : TProg) (x : TFile) (m u : ℕ) (i : TInstr) (c : TSeq) → way m u i c ≡ Fills →
     or_int (lookup (next P x i) (defines i)) ≡ given P x i
-fills_type P x m u (Bnz r v) e = let no : 0 ≡ 1 = ap kind e in absurd (omega (arith, no))
-fills_type P x m u (Unpack rd v) e = ins_gives rd _ (shift_file 1 0 x)
-fills_type P x m u i e = ins_gives (defines i) _ x
+fills_type P x m u (Bnz r v) c e = let no : 0 ≡ 1 = ap kind e in absurd (omega (arith, no))
+fills_type P x m u (Unpack rd v) c e = ins_gives rd _ (shift_file 1 0 x)
+fills_type P x m u i c e = ins_gives (defines i) _ x
 
 -- where a frame is made, what is kept is what the rest wants
-pub gathers_kept : (P : TProg) (x : TFile) (m u : ℕ) (i : TInstr) (c : TSeq) → way m u i ≡ Gathers →
+pub gathers_kept : (P : TProg) (x : TFile) (m u : ℕ) (i : TInstr) (c : TSeq) → way m u i c ≡ Gathers →
     kept P x i c ≡ keep (live P (next P x i) c) (next P x i)
 gathers_kept P x m u (Bnz r v) c e = let no : 0 ≡ 2 = ap kind e in absurd (omega (arith, no))
 gathers_kept P x m u _ c e = refl
@@ -91,7 +107,7 @@ module _ (P : TProg) (x : TFile) (w : Walk) (i : TInstr) (c : TSeq) where
       (code (low w) P (after_way (low w) (layout_of w.code.homes w.code.body) (defines i) (kept P x i c) v)
       (kept P x i c) c))
 
-  finished_is : (v : Way) → way (low w) (used w.code) i ≡ v → finished P x w i c ≡ by_way v
+  finished_is : (v : Way) → way (low w) (used w.code) i c ≡ v → finished P x w i c ≡ by_way v
   finished_is v e = ap by_way e
 
 -- the walk behind the instruction, but for the homes of its registers
@@ -125,21 +141,43 @@ same_layout L M h u = ap₂ (λ f n. (let K : Layout = record { homes = f; used 
 
 -- it stays
 pub settle_stays : (P : TProg) (n : ℕ) (y x : TFile) (w : Walk) (i : TInstr) (c : TSeq) → Between P n y x w i c →
-    way (low w) (used w.code) i ≡ Stays → Settles P n y x w w i c
+    way (low w) (used w.code) i c ≡ Stays → Settles P n y x w w i c
 settle_stays P n y x w i c b e = (
   refl,
   before_next P n y x w w i c b refl refl
       (λ r t lt is k.
       let old = b.homed r t lt (still_wanted P x i c r t is) (was_known P x i c r t k) in
-      let le = stays_defines (low w) (used w.code) i e in
+      let le = stays_defines (low w) (used w.code) i c e in
       sym (ap (λ d. cond d true (has_in w.code.homes r))
       (ne_eqb (defines i) r (λ z. absurd (omega (arith, z, lt, le))))) ∙ old),
   sym (finished_is P x w i c Stays e),
 )
 
+-- it is held
+pub settle_holds : (P : TProg) (n : ℕ) (y x : TFile) (old : Walk) (hs : Homes) (i : TInstr) (c : TSeq) →
+    Between P n y x old i c → way (low old) (used old.code) i c ≡ Holds →
+    Sets old.code.homes hs (defines i) (Held (into (low old) (defines i))) →
+    Settles P n y x old (record old { code = record old.code { homes = hs } }) i c
+settle_holds P n y x old hs i c b e s =
+    let m = low old in
+    let body = old.code.body in (
+      s.0,
+      before_next P n y x old (record old { code = record old.code { homes = hs } }) i c b refl refl
+          (λ r u lt is z.
+          let lt2 : low old < r = subst (λ m. m < r) s.0 lt in
+          s.2 r lt2 ∙ b.homed r u lt2 (still_wanted P x i c r u is) (was_known P x i c r u z)),
+      ap (λ q. text q old.code.body (slots q P (used old.code) (kept P x i c) c)
+          (code q P (layout_of hs old.code.body) (kept P x i c) c)) s.0
+          ∙ ap (λ L. text m old.code.body (slots m P (used old.code) (kept P x i c) c) (code m P L (kept P x i c) c))
+          (same_layout (layout_of hs old.code.body)
+          (after_way m (layout_of old.code.homes old.code.body) (defines i) (kept P x i c) Holds) s.1 refl)
+          ∙ sym (finished_is P x old i c Holds e),
+    )
+
 -- it is put into a slot
 pub settle_fills : (P : TProg) (n : ℕ) (y x : TFile) (old new : Walk) (i : TInstr) (c : TSeq) (t : Ty) →
-    Between P n y x old i c → way (low old) (used old.code) i ≡ Fills → new.known ≡ old.known → new.ahead ≡ old.ahead →
+    Between P n y x old i c → way (low old) (used old.code) i c ≡ Fills → new.known ≡ old.known → new.ahead ≡
+    old.ahead →
     t ≡ sp (low old) (given P x i) → Filled old.code new.code (defines i) t → Settles P n y x old new i c
 settle_fills P n y x old new i c t b e k a same f =
     let m = low old in
@@ -156,7 +194,7 @@ settle_fills P n y x old new i c t b e k a same f =
           ∙ ap (λ z. text m old.code.body (z ∷ slots m P (used new.code) (kept P x i c) c)
           (before (fill_slot m (used old.code) (z ∷ slots m P (used new.code) (kept P x i c) c))
           (code m P (layout_of new.code.homes new.code.body) (kept P x i c) c)))
-          (same ∙ ap (sp m) (sym (fills_type P x m (used old.code) i e)))
+          (same ∙ ap (sp m) (sym (fills_type P x m (used old.code) i c e)))
           ∙ ap (λ z. text m old.code.body (T ∷ slots m P z (kept P x i c) c)
           (before (fill_slot m (used old.code) (T ∷ slots m P z (kept P x i c) c))
           (code m P (layout_of new.code.homes new.code.body) (kept P x i c) c))) f.1
@@ -174,7 +212,7 @@ pub frames : (P : TProg) (n : ℕ) (y x : TFile) (w : Walk) (i : TInstr) (c : TS
 frames P n y x w i c b = (ascends_next P x i b.rises, b.agrees, b.homed)
 
 pub settle_gathers : (P : TProg) (n : ℕ) (y x : TFile) (old new : Walk) (i : TInstr) (c : TSeq) →
-    Between P n y x old i c → way (low old) (used old.code) i ≡ Gathers → new.known ≡ old.known → new.ahead
+    Between P n y x old i c → way (low old) (used old.code) i c ≡ Gathers → new.known ≡ old.known → new.ahead
     ≡ old.ahead →
     Gathered old.code new.code (defines i) (live P (next P x i) c) (next P x i) → Settles P n y x old new i c
 settle_gathers P n y x old new i c b e k a g =

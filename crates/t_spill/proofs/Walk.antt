@@ -21,6 +21,12 @@ tail_suc [] e i d lt = absurd (omega arith)
 tail_suc (x ∷ xs) e zero d lt = refl
 tail_suc (x ∷ xs) e (suc i) d lt = tail_suc xs e i d (omega arith)
 
+pub tail_at : (xs : List (Instr × Span)) (e : End) (i : ℕ) (d : Instr × Span) → i < length xs → tail_of xs e i
+    ≡ Then (instr (get_or xs i d).0) (tail_of xs e (i + 1))
+tail_at xs e i d lt =
+    let one : suc i ≡ i + 1 = omega arith in
+    tail_suc xs e i d lt ∙ ap (λ n. Then (instr (get_or xs i d).0) (tail_of xs e n)) one
+
 pub tail_one : (xs : List (Instr × Span)) (e : End) (i : ℕ) (x : Instr × Span) → i < length xs → x ≡ get_or xs i x →
     tail_of xs e i ≡ Then (instr x.0) (tail_of xs e (i + 1))
 tail_one xs e i x lt is =

@@ -50,8 +50,8 @@ abbrev pub finished : TProg → TFile → Walk → TInstr → TSeq → TSeq
 finished P x w i c =
     text (low w) w.code.body (slots (low w) P (used w.code) x (Then i c))
     (before (finish (low w) (layout_of w.code.homes w.code.body) (defines i)
-    (slots (low w) P (used w.code) x (Then i c)) (kept P x i c) (way (low w) (used w.code) i))
-    (code (low w) P (after (low w) (layout_of w.code.homes w.code.body) i (kept P x i c)) (kept P x i c) c))
+    (slots (low w) P (used w.code) x (Then i c)) (kept P x i c) (way (low w) (used w.code) i c))
+    (code (low w) P (after (low w) (layout_of w.code.homes w.code.body) i c (kept P x i c)) (kept P x i c) c))
 
 -- from the first walk to the second the word of an instruction is computed
 abbrev pub Computes : TProg → ℕ → TFile → TFile → Walk → Walk → TInstr → TSeq → Type 0

@@ -5,7 +5,7 @@ ghost use Rattle.t_types.specs.Read.{file_tree};
 ghost use Rattle.t_terms.specs.Tree.{Ends};
 ghost use Rattle.t_terms.specs.Read.{end_of as end_tree, block as block_tree};
 ghost use Rattle.t_terms.specs.ReadProgram.{program as program_tree};
-ghost use Rattle.t_spill_rules.specs.Spill.{sp_block};
+ghost use Rattle.t_spill_rules.specs.Spill.{sp_block, stores};
 ghost use Rattle.t_spill_code.specs.Onto.{onto};
 ghost use Rattle.t_spill.specs.Moving.{Before, Starts, Reaches, whole};
 ghost use Rattle.t_spill.specs.Ready.{BlockReady};
@@ -18,6 +18,7 @@ use crate::stepping::{Walk, spill_instr};
 use crate::subject::subject_of_end;
 use crate::typing::target_of_end;
 use crate::wanting::wants_of;
+use crate::way::{defined, stores_into};
 use idx_core::{OutOfMemory, Span};
 use std::alloc::Global;
 use t_spill_code::{Body, Homes, NOWHERE, Split, emit_end, high_part, spilled_file};
@@ -43,6 +44,17 @@ fn start_of(
     Ok(Walk { known, ahead, code })
 }
 
+// Whether the instruction at a place of a body stores into the tuple of a register; there may be none.
+fn stores_at(body: &[(Instr, Span)], k: usize, rd: u64) -> bool
+    ensures { (end : End) → result ≡ stores rd (tail_of body.now end k) }
+{
+    if k < body.len() {
+        stores_into(&body[k].0, rd)
+    } else {
+        false
+    }
+}
+
 // The code of a body.
 fn spill_body(
     alloc: Global,
@@ -57,8 +69,10 @@ fn spill_body(
     ensures { OnOk result (Reaches (program_tree program.now) walk.old (tail_of body.now end.now 0) walk.new
         (Ends (end_tree end.now))) }
 {
-    for entry in body {
-        spill_instr(alloc, program, walk, &entry.0)?;
+    for k in 0..body.len() {
+        let i = &body[k].0;
+        let stored = stores_at(body, k + 1, defined(i));
+        spill_instr(alloc, program, walk, i, stored)?;
     }
     Ok(())
 }

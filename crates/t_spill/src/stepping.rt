@@ -5,7 +5,7 @@ ghost use Rattle.t_types.specs.Read.{tree, file, file_tree};
 ghost use Rattle.t_terms.specs.Tree.{TSeq, Then};
 ghost use Rattle.t_terms.specs.Read.{instr as instr_tree};
 ghost use Rattle.t_terms.specs.ReadProgram.{program as program_tree};
-ghost use Rattle.t_spill_rules.specs.Spill.{numbers, reads, sp};
+ghost use Rattle.t_spill_rules.specs.Spill.{numbers, reads, sp, defines, stores};
 ghost use Rattle.t_terms.specs.Values.{InstrValues};
 ghost use Rattle.t_spill_code.specs.Onto.{HasNext};
 ghost use Rattle.t_spill.specs.Known.{alone, subject as instr_subject, given as given_type};
@@ -86,27 +86,31 @@ fn slot_type(
     spilled_type(alloc, split, &ty)
 }
 
-// The word that an instruction computed stays, goes into a slot, or goes into a new frame.
+// The word that an instruction computed stays, is held, goes into a slot, or goes into a new frame.
 fn settle(
     alloc: Global,
     program: &TProgram,
     walk: &mut Walk,
     read: &RegFile,
     i: &Instr,
+    stored: bool,
 ) -> Result<(), OutOfMemory>
     requires { (n : ℕ) × (y : TFile) × (x : TFile) × (c : TSeq)
         × Between (program_tree program.now) n y x walk.old (instr_tree i.now) c
         × ReadyInstr (program_tree program.now) n y (instr_tree i.now)
-        × (file_tree read.now ≡ alone (instr_subject (instr_tree i.now)) y) }
+        × (file_tree read.now ≡ alone (instr_subject (instr_tree i.now)) y)
+        × (stored ≡ stores (defines (instr_tree i.now)) c) }
     ensures { OnOk result ((n : ℕ) (y : TFile) (x : TFile) (c : TSeq) →
         Between (program_tree program.now) n y x walk.old (instr_tree i.now) c →
         file_tree read.now ≡ alone (instr_subject (instr_tree i.now)) y →
+        stored ≡ stores (defines (instr_tree i.now)) c →
         Settles (program_tree program.now) n y x walk.old walk.new (instr_tree i.now) c) }
 {
     let split = walk.code.homes.split;
     let used = walk.code.body.slots.len();
-    match decide(split, used, i) {
+    match decide(split, used, i, stored) {
         Way::Stays => Ok(()),
+        Way::Holds => walk.code.homes.hold(defined(i)),
         Way::Fills => {
             let ty = slot_type(alloc, program, split, read, i)?;
             fill(&mut walk.code, defined(i), ty)
@@ -115,21 +119,25 @@ fn settle(
     }
 }
 
-/// The code of an instruction. An error is want of memory.
+/// The code of an instruction; `stored` says whether the next one stores into the tuple of its register. An error is
+/// want of memory.
 pub fn spill_instr(
     alloc: Global,
     program: &TProgram,
     walk: &mut Walk,
     i: &Instr,
+    stored: bool,
 ) -> Result<(), OutOfMemory>
     requires few { length (program_tree program.now).blocks < 2 ^ 64 }
     requires stands { (n : ℕ) × (y : TFile) × (x : TFile) × (c : TSeq)
-        × Before (program_tree program.now) n y x walk.old (Then (instr_tree i.now) c) }
+        × Before (program_tree program.now) n y x walk.old (Then (instr_tree i.now) c)
+        × (stored ≡ stores (defines (instr_tree i.now)) c) }
     ensures { OnOk result ((n : ℕ) (y : TFile) (x : TFile) (c : TSeq) →
         Before (program_tree program.now) n y x walk.old (Then (instr_tree i.now) c) →
+        stored ≡ stores (defines (instr_tree i.now)) c →
         Moves (program_tree program.now) n y x walk.old walk.new (instr_tree i.now) c) }
 {
     let read = walk.known.part(alloc, subject_of(i))?;
     compute(alloc, program, walk, &read, i)?;
-    settle(alloc, program, walk, &read, i)
+    settle(alloc, program, walk, &read, i, stored)
 }

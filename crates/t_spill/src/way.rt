@@ -1,8 +1,8 @@
 // What becomes of the word that an instruction computes.
 ghost use Rattle.std.specs.Prelude.{◌≡◌};
 ghost use Rattle.t_terms.specs.Read.{instr as instr_tree};
-ghost use Rattle.t_spill_rules.specs.Spill.{way as way_at, way_of as way_of_register, defines};
-ghost use Rattle.t_spill.specs.Ways.{way_tree};
+ghost use Rattle.t_spill_rules.specs.Spill.{defines, stores_by};
+ghost use Rattle.t_spill.specs.Ways.{way_tree, way_by, way_when};
 
 use t_spill_code::Split;
 use t_terms::Instr;
@@ -10,10 +10,11 @@ use t_terms::Instr;
 // Where so many slots are filled, a new frame is made.
 const MOST_SLOTS: usize = 1000;
 
-/// It stays in its register, it goes into the next slot, or into a new frame.
+/// It stays in its register, it is held where it was computed, it goes into the next slot, or into a new frame.
 #[derive(Clone, Copy)]
 pub enum Way {
     Stays,
+    Holds,
     Fills,
     Gathers,
 }
@@ -33,12 +34,27 @@ pub fn defined(i: &Instr) -> u64
     }
 }
 
-fn way_of(split: Split, used: usize, rd: u64) -> Way
-    ensures { way_tree result ≡ way_of_register split.low used rd }
+/// Whether an instruction stores into the tuple of a register.
+pub fn stores_into(i: &Instr, rd: u64) -> bool
+    ensures { result ≡ stores_by rd (instr_tree i.now) }
+{
+    match i {
+        Instr::Arith { .. } => false,
+        Instr::Bnz { .. } => false,
+        Instr::Ld { .. } => false,
+        Instr::Malloc { .. } => false,
+        Instr::Mov { .. } => false,
+        Instr::St { rd: r, .. } => *r == rd,
+        Instr::Unpack { .. } => false,
+    }
+}
+
+fn way_of(split: Split, used: usize, rd: u64, stored: bool) -> Way
+    ensures { way_tree result ≡ way_by split.low used rd stored }
 {
     if split.low < rd {
         if used < MOST_SLOTS {
-            Way::Fills
+            if stored { Way::Holds } else { Way::Fills }
         } else {
             Way::Gathers
         }
@@ -47,17 +63,18 @@ fn way_of(split: Split, used: usize, rd: u64) -> Way
     }
 }
 
-/// What becomes of the word of an instruction, where so many slots are filled.
-pub fn decide(split: Split, used: usize, i: &Instr) -> Way
-    ensures { way_tree result ≡ way_at split.low used (instr_tree i.now) }
+/// What becomes of the word of an instruction, where so many slots are filled; `stored` says whether the next one
+/// stores into its tuple.
+pub fn decide(split: Split, used: usize, i: &Instr, stored: bool) -> Way
+    ensures { way_tree result ≡ way_when split.low used (instr_tree i.now) stored }
 {
     match i {
-        Instr::Arith { rd, .. } => way_of(split, used, *rd),
+        Instr::Arith { rd, .. } => way_of(split, used, *rd, stored),
         Instr::Bnz { .. } => Way::Stays,
-        Instr::Ld { rd, .. } => way_of(split, used, *rd),
-        Instr::Malloc { rd, .. } => way_of(split, used, *rd),
-        Instr::Mov { rd, .. } => way_of(split, used, *rd),
-        Instr::St { rd, .. } => way_of(split, used, *rd),
+        Instr::Ld { rd, .. } => way_of(split, used, *rd, stored),
+        Instr::Malloc { rd, .. } => way_of(split, used, *rd, stored),
+        Instr::Mov { rd, .. } => way_of(split, used, *rd, stored),
+        Instr::St { rd, .. } => way_of(split, used, *rd, stored),
         Instr::Unpack { .. } => Way::Gathers,
     }
 }

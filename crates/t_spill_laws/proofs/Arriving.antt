@@ -21,7 +21,7 @@ use Rattle.t_spill_rules.specs.Spill.{second_reg, sp_base}
 use Rattle.t_spill_rules.specs.Spill.{Home, gathered, layout, second_at}
 use Rattle.t_spill_rules.specs.Spill.{code, sizes}
 use Rattle.t_spill_laws.proofs.Files.{Ascends, ascends_over}
-use Rattle.t_spill_laws.proofs.Homes.{UpTo, at_case}
+use Rattle.t_spill_laws.proofs.Homes.{UpTo, at_case, gathered_regular, regular_ready}
 use Rattle.t_spill_laws.proofs.Erased.{highs}
 use Rattle.t_spill_laws.proofs.Erased.{erased_inst, sizes_inst}
 use Rattle.t_spill_laws.proofs.Erased.{slots_left, inst_highs}
@@ -139,6 +139,8 @@ module _ (m : ℕ) (some : 1 ≤ m) (P : TProg) (closed : ClosedLabels P) (tuple
           asc = ascends_inst ts hw.0.owes hw.0.file (ascend l hw.0 hw.1);
           alike = subst (λ y. Alike m p y (layout m hw.0.file) n h r K σ) same
               (subst (λ k. Alike m p file k n h r K σ) lays (sim n));
+          ready = regular_ready m (layout m hw.0.file) (inst_seq ts hw.0.owes hw.0.code)
+              (gathered_regular m (highs m hw.0.file));
           is = ap (EAt K σ) (sym e2);
         };
         sized = (

@@ -29,7 +29,9 @@ use Rattle.t_spill_rules.specs.Spill.{value_reads}
 use Rattle.t_spill_rules.specs.Spill.{reads, end_reads, live, keep, kept, Home, Held, InFrame, InSlot, Layout, homed}
 use Rattle.t_spill_rules.specs.Spill.{gathered}
 use Rattle.t_spill_rules.specs.Spill.{before, at_home, load, load_value, second_at, fill, build, defines, into}
-use Rattle.t_spill_rules.specs.Spill.{Way, Stays, Fills, Gathers, way, after_way, after, slots_by, used_by}
+use Rattle.t_spill_rules.specs.Spill.{Way, Stays, Holds, Fills, Gathers, way, way_of, after_way, after, slots_by}
+use Rattle.t_spill_rules.specs.Spill.{used_by}
+use Rattle.t_spill_rules.specs.Spill.{stores, stores_by, most_slots}
 use Rattle.t_spill_rules.specs.Spill.{slots}
 use Rattle.t_spill_rules.specs.Spill.{fill_slot, finish, does, step, code, sizes}
 use Rattle.t_spill_laws.proofs.TypeLaws.{high_over}
@@ -69,6 +71,7 @@ eslot m (suc j) n k = EThen (ESt (slot_reg m) (suc j) (first_reg m)) k
 -- by the number of slots and the registers of the new frame
 abbrev pub efinish : ℕ → Layout → ℕ → ℕ → List ℕ → Way → ESeq → ESeq
 efinish m L rd n nx Stays k = k
+efinish m L rd n nx Holds k = k
 efinish m L rd n nx Fills k = eslot m L.used n k
 efinish m L rd n nx Gathers k = egather m (homed L.homes rd (Held (into m rd))) nx k
 
@@ -94,8 +97,9 @@ ehead m L tg (St rd i rs) k =
 ehead m L tg (Unpack rd v) k =
     ebase m L.homes (erase_value v) (EThen (EMov (into m rd) (sp_base (second_at m L.homes) (erase_value v))) k)
 
-abbrev pub ecode : ℕ → Layout → ℕ → List ℕ → List ℕ → TInstr → ESeq → ESeq
-ecode m L n nx tg i k = ehead m L tg i (efinish m L (defines i) n nx (way m L.used i) k)
+-- where the sequence c follows
+abbrev pub ecode : ℕ → Layout → ℕ → List ℕ → List ℕ → TInstr → TSeq → ESeq → ESeq
+ecode m L n nx tg i c k = ehead m L tg i (efinish m L (defines i) n nx (way m L.used i c) k)
 
 abbrev pub eend : ℕ → Layout → List ℕ → TEnd → ESeq
 eend m L tg (Jmp v) =
@@ -106,15 +110,17 @@ eend m L tg Halt = EHalt
 -- the number of slots
 abbrev pub count_by : Way → ℕ → ℕ
 count_by Stays n = n
+count_by Holds n = n
 count_by Fills n = suc n
 count_by Gathers n = 0
 
 abbrev pub slots_left : ℕ → ℕ → TSeq → ℕ
-slots_left m used (Then i c) = count_by (way m used i) (slots_left m (used_by (way m used i) used) c)
+slots_left m used (Then i c) = count_by (way m used i c) (slots_left m (used_by (way m used i c) used) c)
 slots_left m used (Ends e) = 0
 
 by_length : (w : Way) (t : Ty) (ts : List Ty) → length (slots_by w t ts) ≡ count_by w (length ts)
 by_length Stays t ts = refl
+by_length Holds t ts = refl
 by_length Fills t ts = refl
 by_length Gathers t ts = refl
 
@@ -122,8 +128,8 @@ pub slots_length : (m : ℕ) (P : TProg) (c : TSeq) (used : ℕ) (x : TFile) →
     length (slots m P used x c) ≡ slots_left m used c
 slots_length m P (Ends e) used x = refl
 slots_length m P (Then i c) used x =
-    by_length (way m used i) _ (slots m P (used_by (way m used i) used) (kept P x i c) c)
-    ∙ ap (count_by (way m used i)) (slots_length m P c (used_by (way m used i) used) (kept P x i c))
+    by_length (way m used i c) _ (slots m P (used_by (way m used i c) used) (kept P x i c) c)
+    ∙ ap (count_by (way m used i c)) (slots_length m P c (used_by (way m used i c) used) (kept P x i c))
 
 -- the registers of a frame
 abbrev pub highs : ℕ → TFile → List ℕ
@@ -173,6 +179,7 @@ erase_build m homes high rest =
 erase_finish : (m : ℕ) (L : Layout) (rd : ℕ) (ts : List Ty) (to : TFile) (w : Way) (rest : TSeq) →
     erase_seq (before (finish m L rd ts to w) rest) ≡ efinish m L rd (length ts) (highs m to) w (erase_seq rest)
 erase_finish m L rd ts to Stays rest = refl
+erase_finish m L rd ts to Holds rest = refl
 erase_finish m L rd ts to Fills rest = go L.used
   where
     go : (j : ℕ) → erase_seq (before (fill_slot m j ts) rest) ≡ eslot m j (length ts) (erase_seq rest)
@@ -216,21 +223,22 @@ erase_head m L high (Unpack rd v) rest =
 
 erase_step : (m : ℕ) (P : TProg) (L : Layout) (x : TFile) (i : TInstr) (c rest : TSeq) →
     erase_seq (before (step m P L x i c) rest)
-    ≡ ecode m L (slots_left m L.used (Then i c)) (highs m (kept P x i c)) (highs m (target P x i)) i (erase_seq rest)
+    ≡ ecode m L (slots_left m L.used (Then i c)) (highs m (kept P x i c)) (highs m (target P x i)) i c
+    (erase_seq rest)
 erase_step m P L x i c rest =
     ap erase_seq (step_is m P L x i c rest)
     ∙ erase_head m L (high_part m (target P x i)) i _
     ∙ ap (ehead m L (highs m (target P x i)) i)
-    (erase_finish m L (defines i) (slots m P L.used x (Then i c)) (kept P x i c) (way m L.used i) rest
-    ∙ ap (λ n. efinish m L (defines i) n (highs m (kept P x i c)) (way m L.used i) (erase_seq rest))
+    (erase_finish m L (defines i) (slots m P L.used x (Then i c)) (kept P x i c) (way m L.used i c) rest
+    ∙ ap (λ n. efinish m L (defines i) n (highs m (kept P x i c)) (way m L.used i c) (erase_seq rest))
     (slots_length m P (Then i c) L.used x))
 
 -- an instruction in front of its rest
 pub erase_then : (m : ℕ) (P : TProg) (L : Layout) (x : TFile) (i : TInstr) (c : TSeq) →
     erase_seq (code m P L x (Then i c))
-    ≡ ecode m L (slots_left m L.used (Then i c)) (highs m (kept P x i c)) (highs m (target P x i)) i
-    (erase_seq (code m P (after m L i (kept P x i c)) (kept P x i c) c))
-erase_then m P L x i c = erase_step m P L x i c (code m P (after m L i (kept P x i c)) (kept P x i c) c)
+    ≡ ecode m L (slots_left m L.used (Then i c)) (highs m (kept P x i c)) (highs m (target P x i)) i c
+    (erase_seq (code m P (after m L i c (kept P x i c)) (kept P x i c) c))
+erase_then m P L x i c = erase_step m P L x i c (code m P (after m L i c (kept P x i c)) (kept P x i c) c)
 
 pub erase_end_code : (m : ℕ) (P : TProg) (L : Layout) (x : TFile) (e : TEnd) →
     erase_seq (code m P L x (Ends e)) ≡ eend m L (highs m (end_target P x e)) e
@@ -253,14 +261,33 @@ size_before (i ∷ xs) rest = let e = size_before xs rest in omega (arith, e)
 
 pub then_size : (m : ℕ) (P : TProg) (L : Layout) (x : TFile) (i : TInstr) (c : TSeq) →
     esize (erase_seq (code m P L x (Then i c)))
-    ≡ length (step m P L x i c) + esize (erase_seq (code m P (after m L i (kept P x i c)) (kept P x i c) c))
+    ≡ length (step m P L x i c) + esize (erase_seq (code m P (after m L i c (kept P x i c)) (kept P x i c) c))
 then_size m P L x i c =
-    size_before (step m P L x i c) (code m P (after m L i (kept P x i c)) (kept P x i c) c)
+    size_before (step m P L x i c) (code m P (after m L i c (kept P x i c)) (kept P x i c) c)
 
 -- walks don't change what is erased
-way_over : (f : At Ty) (d m used : ℕ) (i : TInstr) → way m used (over_instr f d i) ≡ way m used i
-way_over f d m used (Arith op rd rs v) = refl
-way_over f d m used _ = refl
+stores_by_over : (f : At Ty) (d rd : ℕ) (i : TInstr) → stores_by rd (over_instr f d i) ≡ stores_by rd i
+stores_by_over f d rd (St r i rs) = refl
+stores_by_over f d rd _ = refl
+
+stores_over : (f : At Ty) (d rd : ℕ) (c : TSeq) → stores rd (over_seq f d c) ≡ stores rd c
+stores_over f d rd (Then i c) = stores_by_over f d rd i
+stores_over f d rd (Ends e) = refl
+
+way_of_over : (f : At Ty) (d m used rd : ℕ) (c : TSeq) → way_of m used rd (over_seq f d c) ≡ way_of m used rd c
+way_of_over f d m used rd c =
+    ap (λ b. cond (nat_lt m rd) (cond (nat_lt used most_slots) (cond b Holds Fills) Gathers) Stays)
+    (stores_over f d rd c)
+
+way_over : (f : At Ty) (d n m used : ℕ) (i : TInstr) (c : TSeq) →
+    way m used (over_instr f d i) (over_seq f n c) ≡ way m used i c
+way_over f d n m used (Bnz r v) c = refl
+way_over f d n m used (Unpack rd v) c = refl
+way_over f d n m used (Arith op rd rs v) c = way_of_over f n m used rd c
+way_over f d n m used (Ld rd rs i) c = way_of_over f n m used rd c
+way_over f d n m used (Malloc rd ts) c = way_of_over f n m used rd c
+way_over f d n m used (Mov rd v) c = way_of_over f n m used rd c
+way_over f d n m used (St rd i rs) c = way_of_over f n m used rd c
 
 defines_over : (f : At Ty) (d : ℕ) (i : TInstr) → defines (over_instr f d i) ≡ defines i
 defines_over f d (Arith op rd rs v) = refl
@@ -269,8 +296,9 @@ defines_over f d _ = refl
 pub left_over : (f : At Ty) (m : ℕ) (c : TSeq) (used d : ℕ) → slots_left m used (over_seq f d c) ≡ slots_left m used c
 left_over f m (Ends e) used d = refl
 left_over f m (Then i c) used d =
-    ap (λ w. count_by w (slots_left m (used_by w used) (over_seq f (names_after i d) c))) (way_over f d m used i)
-    ∙ ap (count_by (way m used i)) (left_over f m c (used_by (way m used i) used) (names_after i d))
+    ap (λ w. count_by w (slots_left m (used_by w used) (over_seq f (names_after i d) c)))
+    (way_over f d (names_after i d) m used i c)
+    ∙ ap (count_by (way m used i c)) (left_over f m c (used_by (way m used i c) used) (names_after i d))
 
 ehead_over : (f : At Ty) (d m : ℕ) (L : Layout) (tg : List ℕ) (i : TInstr) (k : ESeq) →
     ehead m L tg (over_instr f d i) k ≡ ehead m L tg i k
@@ -294,12 +322,12 @@ ehead_over f d m L tg (St rd i rs) k = refl
 ehead_over f d m L tg (Unpack rd v) k =
     ap (λ b. ebase m L.homes b (EThen (EMov (into m rd) (sp_base (second_at m L.homes) b)) k)) (erase_over f d v)
 
-pub ecode_over : (f : At Ty) (d m : ℕ) (L : Layout) (n : ℕ) (nx tg : List ℕ) (i : TInstr) (k : ESeq) →
-    ecode m L n nx tg (over_instr f d i) k ≡ ecode m L n nx tg i k
-ecode_over f d m L n nx tg i k =
+pub ecode_over : (f : At Ty) (d e m : ℕ) (L : Layout) (n : ℕ) (nx tg : List ℕ) (i : TInstr) (c : TSeq) (k : ESeq) →
+    ecode m L n nx tg (over_instr f d i) (over_seq f e c) k ≡ ecode m L n nx tg i c k
+ecode_over f d e m L n nx tg i c k =
     ap₂ (λ rd w. ehead m L tg (over_instr f d i) (efinish m L rd n nx w k)) (defines_over f d i)
-    (way_over f d m L.used i)
-    ∙ ehead_over f d m L tg i (efinish m L (defines i) n nx (way m L.used i) k)
+    (way_over f d e m L.used i c)
+    ∙ ehead_over f d m L tg i (efinish m L (defines i) n nx (way m L.used i c) k)
 
 eend_over : (f : At Ty) (d m : ℕ) (L : Layout) (tg : List ℕ) (e : TEnd) → eend m L tg (over_end f d e) ≡ eend m L tg e
 eend_over f d m L tg (Jmp v) =
@@ -312,14 +340,15 @@ eend_over f d m L tg Halt = refl
 way_numbers : (m : ℕ) (L : Layout) (rd : ℕ) (y x : TFile) (w : Way) → highs m y ≡ highs m x →
     after_way m L rd y w ≡ after_way m L rd x w
 way_numbers m L rd y x Stays e = refl
+way_numbers m L rd y x Holds e = refl
 way_numbers m L rd y x Fills e = refl
 way_numbers m L rd y x Gathers e = ap (gathered m) e
 
-pub after_over : (f : At Ty) (d m : ℕ) (L : Layout) (i : TInstr) (y x : TFile) → highs m y ≡ highs m x →
-    after m L (over_instr f d i) y ≡ after m L i x
-after_over f d m L i y x e =
-    ap₂ (λ rd w. after_way m L rd y w) (defines_over f d i) (way_over f d m L.used i)
-    ∙ way_numbers m L (defines i) y x (way m L.used i) e
+pub after_over : (f : At Ty) (d n m : ℕ) (L : Layout) (i : TInstr) (c : TSeq) (y x : TFile) → highs m y ≡ highs m x →
+    after m L (over_instr f d i) (over_seq f n c) y ≡ after m L i c x
+after_over f d n m L i c y x e =
+    ap₂ (λ rd w. after_way m L rd y w) (defines_over f d i) (way_over f d n m L.used i c)
+    ∙ way_numbers m L (defines i) y x (way m L.used i c) e
 
 pub numbers_over : (f : At Ty) (d : ℕ) (x : TFile) → numbers (over_file f d x) ≡ numbers x
 numbers_over f d NoRegs = refl
@@ -538,21 +567,23 @@ module _ (c : ℕ) (s : Ty) (P : TProg) (closed : ClosedLabels P) (tuples : Clos
       let j = over_instr (putted VarTy over c s) d i in
       let r2 = over_seq (putted VarTy over c s) (names_after i d) rest in
       erase_step m P L y j r2 t
-      ∙ ap₂ (λ n z. ecode m L n (highs m (kept P y j r2)) (highs m (target P y j)) j z)
+      ∙ ap₂ (λ n z. ecode m L n (highs m (kept P y j r2)) (highs m (target P y j)) j r2 z)
       (left_over f m (Then i rest) L.used d) e
-      ∙ ap₂ (λ nx tg. ecode m L (slots_left m L.used (Then i rest)) nx tg j (erase_seq u))
+      ∙ ap₂ (λ nx tg. ecode m L (slots_left m L.used (Then i rest)) nx tg j r2 (erase_seq u))
       (kept_highs m i d x rest le k) (high_same i m d x k.0 le k.1)
-      ∙ ecode_over f d m L (slots_left m L.used (Then i rest)) (highs m (kept P x i rest)) (highs m (target P x i)) i
-      (erase_seq u)
+      ∙ ecode_over f d (names_after i d) m L (slots_left m L.used (Then i rest)) (highs m (kept P x i rest))
+      (highs m (target P x i)) i rest (erase_seq u)
       ∙ sym (erase_step m P L x i rest u)
 
   after_put : (m : ℕ) (i : TInstr) (rest : TSeq) (L : Layout) (d : ℕ) (x : TFile) → c ≤ d →
       SeqAccepted P (d + 1) (lookup x) (Then i rest) →
-      after m L (over_instr (putted VarTy over c s) d i) (kept P (put_file_from c s d x)
-      (over_instr (putted VarTy over c s) d i) (over_seq (putted VarTy over c s) (names_after i d) rest))
-      ≡ after m L i (kept P x i rest)
+      after m L (over_instr (putted VarTy over c s) d i) (over_seq (putted VarTy over c s) (names_after i d) rest)
+      (kept P (put_file_from c s d x) (over_instr (putted VarTy over c s) d i) (over_seq (putted VarTy over c s)
+      (names_after i d) rest))
+      ≡ after m L i rest (kept P x i rest)
   after_put m i rest L d x le k =
-      after_over (putted VarTy over c s) d m L i _ (kept P x i rest) (kept_highs m i d x rest le k)
+      after_over (putted VarTy over c s) d (names_after i d) m L i rest _ (kept P x i rest)
+      (kept_highs m i d x rest le k)
 
   pub erased_put : (m : ℕ) (code0 : TSeq) (L : Layout) (d : ℕ) (x : TFile) → c ≤ d →
       SeqAccepted P (d + 1) (lookup x) code0 →
@@ -561,9 +592,9 @@ module _ (c : ℕ) (s : Ty) (P : TProg) (closed : ClosedLabels P) (tuples : Clos
   erased_put m (Then i rest) L d x le k =
       let r2 = over_seq (putted VarTy over c s) (names_after i d) rest in
       let to = kept P x i rest in
-      step_put m i rest L d x le k _ (code m P (after m L i to) to rest)
+      step_put m i rest L d x le k _ (code m P (after m L i rest to) to rest)
       (ap₂ (λ z l. erase_seq (code m P l z r2)) (kept_put i d x rest le k) (after_put m i rest L d x le k)
-      ∙ erased_put m rest (after m L i to) (names_after i d) to (larger i d le) (kept_rest i d x rest k))
+      ∙ erased_put m rest (after m L i rest to) (names_after i d) to (larger i d le) (kept_rest i d x rest k))
   erased_put m (Ends e) L d x le k =
       let f = putted VarTy over c s in
       let y = put_file_from c s d x in
@@ -586,7 +617,7 @@ module _ (c : ℕ) (s : Ty) (P : TProg) (closed : ClosedLabels P) (tuples : Clos
       let here : length (step m P L y j r2) ≡ length (step m P L x i rest) = omega (arith, same, a, b) in
       ap₂ (λ (n : ℕ) (ns : List ℕ). n ∷ ns) here
       (ap₂ (λ z l. sizes m P l z r2) (kept_put i d x rest le k) (after_put m i rest L d x le k)
-      ∙ sizes_put m rest (after m L i to) (names_after i d) to (larger i d le) (kept_rest i d x rest k))
+      ∙ sizes_put m rest (after m L i rest to) (names_after i d) to (larger i d le) (kept_rest i d x rest k))
   sizes_put m (Ends e) L d x le k = refl
 
 -- and where a block is entered with its types

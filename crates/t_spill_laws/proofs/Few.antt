@@ -16,14 +16,15 @@ use Rattle.t_spill_rules.specs.Spill.{target_file, next, numbers, kept, or_int, 
 use Rattle.t_spill_rules.specs.Spill.{homed}
 use Rattle.t_spill_rules.specs.Spill.{layout}
 use Rattle.t_spill_rules.specs.Spill.{at_home, load, load_value, second_at, fill, build, defines, into, Way, Stays}
-use Rattle.t_spill_rules.specs.Spill.{Fills}
+use Rattle.t_spill_rules.specs.Spill.{Holds, Fills}
 use Rattle.t_spill_rules.specs.Spill.{Gathers, way, after, slots_by, used_by, slots, fill_slot, finish}
 use Rattle.t_spill_rules.specs.Spill.{target, before, does, code}
 use Rattle.t_spill_rules.specs.Spill.{sp_blocks, sp_data, spilled_above}
 use Rattle.t_spill_rules.proofs.Parts.{joined, loading, step_is}
 use Rattle.t_spill_laws.specs.Bound.{InType, InFile, InFields, InTypes, InValue, InSeq, InBlocks, InData, InHeap}
 use Rattle.t_spill_laws.specs.Bound.{RegistersUpTo}
-use Rattle.t_spill_laws.proofs.Homes.{Regular, UpTo, sound_up, homed_up, into_most, gathered_regular, way_sound}
+use Rattle.t_spill_laws.proofs.Homes.{Loose, UpTo, regular_loose, loose_up, homed_loose, into_most}
+use Rattle.t_spill_laws.proofs.Homes.{gathered_regular, way_loose}
 use Rattle.t_spill_laws.proofs.Erased.{highs}
 
 module _ (k m : ℕ) (most : m + 6 ≤ k) where
@@ -130,30 +131,32 @@ module _ (k m : ℕ) (most : m + 6 ≤ k) where
   in_slot zero ts rest ht h = ((omega (arith, most), ht), ((omega (arith, most), omega (arith, most)), h))
   in_slot (suc j) ts rest ht h = ((omega (arith, most), omega (arith, most)), h)
 
-  in_finish : (L : Layout) (rd : ℕ) (ts : List Ty) (to : TFile) (w : Way) (rest : TSeq) → Regular m L → InTypes k ts →
+  in_finish : (L : Layout) (rd : ℕ) (ts : List Ty) (to : TFile) (w : Way) (rest : TSeq) → Loose m L → InTypes k ts →
       InSeq k rest → InSeq k (before (finish m L rd ts to w) rest)
   in_finish L rd ts to Stays rest reg ht h = h
+  in_finish L rd ts to Holds rest reg ht h = h
   in_finish L rd ts to Fills rest reg ht h = in_slot L.used ts rest ht h
   in_finish L rd ts to Gathers rest reg ht h =
       let homes = homed L.homes rd (Held (into m rd)) in
       joined (InSeq k) (build m homes (high_part m to)) _ rest
-      (in_build homes (high_part m to) _ (λ r. homed_up m L rd r reg)
+      (in_build homes (high_part m to) _ (λ r. homed_loose m L rd r reg)
       ((omega (arith, most), (omega (arith, most), tt)), h))
 
   by_in : (w : Way) (t : Ty) (ts : List Ty) → InType k t → InTypes k ts → InTypes k (slots_by w t ts)
   by_in Stays t ts h l = l
+  by_in Holds t ts h l = l
   by_in Fills t ts h l = (h, l)
   by_in Gathers t ts h l = tt
 
   in_slots : (P : TProg) (c : TSeq) (used : ℕ) (x : TFile) → InTypes k (slots m P used x c)
   in_slots P (Then i c) used x =
-      by_in (way m used i) _ _ (in_type (or_int (lookup (next P x i) (defines i))))
-      (in_slots P c (used_by (way m used i) used) (kept P x i c))
+      by_in (way m used i c) _ _ (in_type (or_int (lookup (next P x i) (defines i))))
+      (in_slots P c (used_by (way m used i c) used) (kept P x i c))
   in_slots P (Ends e) used x = tt
 
-  module _ (L : Layout) (reg : Regular m L) where
+  module _ (L : Layout) (reg : Loose m L) where
     up : (r : ℕ) → UpTo (m + 3) (L.homes r)
-    up r = sound_up m L.used r (m + 3) (L.homes r) (omega arith) (reg r)
+    up r = loose_up m L r reg
 
     first : (r : ℕ) → at_home (first_reg m) (L.homes r) ≤ k
     first r = at_most (first_reg m) (L.homes r) (omega arith) (up r)
@@ -194,13 +197,13 @@ module _ (k m : ℕ) (most : m + 6 ≤ k) where
     in_does (St rd i rs) rest h = ((here rd, second rs), h)
     in_does (Unpack rd v) rest h = ((here rd, value v), h)
 
-  in_code : (P : TProg) (c : TSeq) (L : Layout) (x : TFile) → Regular m L → InSeq k (code m P L x c)
+  in_code : (P : TProg) (c : TSeq) (L : Layout) (x : TFile) → Loose m L → InSeq k (code m P L x c)
   in_code P (Then i c) L x reg =
       subst (InSeq k) (sym (step_is m P L x i c _))
       (in_loading L reg (high_part m (target P x i)) i _ (in_does L reg i _
-      (in_finish L (defines i) (slots m P L.used x (Then i c)) (kept P x i c) (way m L.used i) _ reg
+      (in_finish L (defines i) (slots m P L.used x (Then i c)) (kept P x i c) (way m L.used i c) _ reg
       (in_slots P (Then i c) L.used x)
-      (in_code P c (after m L i (kept P x i c)) (kept P x i c) (way_sound m L i (kept P x i c) reg)))))
+      (in_code P c (after m L i c (kept P x i c)) (kept P x i c) (way_loose m L i c (kept P x i c) reg)))))
   in_code P (Ends (Jmp v)) L x reg =
       in_build L.homes (high_part m (target_file (type_of P x v))) _ (up L reg) (in_load_value L.homes v _
       ((omega (arith, most), (omega (arith, most), tt)), value L reg v))
@@ -210,7 +213,8 @@ module _ (k m : ℕ) (most : m + 6 ≤ k) where
   in_blocks P [] = tt
   in_blocks P (b ∷ bs) = (
     in_split (sp_regs m b.file) (in_regs b.file),
-    in_code P b.code (layout m b.file) b.file (gathered_regular m (highs m b.file)),
+    in_code P b.code (layout m b.file) b.file
+        (regular_loose m (layout m b.file) (gathered_regular m (highs m b.file))),
     in_blocks P bs,
   )
 

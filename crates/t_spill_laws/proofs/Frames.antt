@@ -8,18 +8,19 @@ use Rattle.std.proofs.lemmas.Option.{slice_get_within, same_Some}
 use Rattle.std.proofs.lemmas.List.{length-replicate}
 use Rattle.t_types.specs.Tree.{Ty, TFile, NoRegs, MoreRegs}
 use Rattle.t_types.specs.Fits.{FitsFile, RegTypes, lookup}
-use Rattle.t_terms.specs.Tree.{Reg}
+use Rattle.t_terms.specs.Tree.{Reg, TSeq}
 use Rattle.t_terms.specs.Registers.{with_reg}
 use Rattle.t_rules.specs.Machine.{Word, Heap, RegWords, Next}
 use Rattle.t_rules.specs.Erase.{EWord, EAddress, EEmpty, ESeq, EThen, EMov, ESt, EHeap, ERegs, EState, EAt}
 use Rattle.t_rules.specs.Erase.{EGoes}
 use Rattle.t_spill_rules.specs.Spill.{frame_reg, slot_reg, first_reg, made_reg, high_part, numbers, position, Home}
-use Rattle.t_spill_rules.specs.Spill.{Held, InFrame, InSlot, Layout, homed, layout, into, Way, Stays, Fills, Gathers}
+use Rattle.t_spill_rules.specs.Spill.{Held, InFrame, InSlot, Layout, homed, layout, into, Way, Stays, Holds, Fills}
+use Rattle.t_spill_rules.specs.Spill.{Gathers}
 use Rattle.t_spill_rules.specs.Spill.{after_way}
 use Rattle.t_spill_laws.proofs.Files.{look_same, look_other, high_look, fits_high}
-use Rattle.t_spill_laws.proofs.Homes.{regular_up, Sound, Regular, UpTo, sound_held, into_high, into_low}
-use Rattle.t_spill_laws.proofs.Homes.{into_far}
-use Rattle.t_spill_laws.proofs.Homes.{into_other, homed_both, homed_up, WayFits, gathered_regular, after_regular}
+use Rattle.t_spill_laws.proofs.Homes.{regular_up, sound_up, Sound, Regular, UpTo, Kept, Others, into_high, into_low}
+use Rattle.t_spill_laws.proofs.Homes.{into_far, nearly_held}
+use Rattle.t_spill_laws.proofs.Homes.{into_other, homed_both, homed_up, WayFits}
 use Rattle.t_spill_laws.proofs.Erased.{egather, eslot, efinish, count_by, highs}
 use Rattle.t_spill_laws.proofs.Walks.{Walks, walks_on, walks_none, walks_step, moves_walk, moves_walks, Full, get_end}
 use Rattle.t_spill_laws.proofs.Walks.{set_end, st_step, mov_step, HomeAt, home_regs, home_heap, Sources, builds}
@@ -95,7 +96,6 @@ module _ (m : ℕ) where
     pub at : slice_get K f ≡ Some fw
     pub out : (a : ℕ) → slice_get p a ≡ Some f → ⊥
     pub room : Slots p K ρ f L.used n
-    pub regular : Regular m L
     pub has : (q : ℕ) (t : Ty) → lookup x q ≡ Some t → WordAt p r K ρ q (L.homes q)
 
   slots_regs : (p : List ℕ) (K : EHeap) (ρ σ : ERegs) (f used n : ℕ) → σ (slot_reg m) ≡ ρ (slot_reg m) →
@@ -110,9 +110,9 @@ module _ (m : ℕ) where
 
   -- with other registers above m + 2
   pub alike_regs : (p : List ℕ) (x : TFile) (L : Layout) (n : ℕ) (h : Heap) (r : RegWords) (K : EHeap) (ρ σ : ERegs) →
-      ((q : ℕ) → q ≤ m + 2 → σ q ≡ ρ q) →
+      Regular m L → ((q : ℕ) → q ≤ m + 2 → σ q ≡ ρ q) →
       Alike p x L n h r K ρ → Alike p x L n h r K σ
-  alike_regs p x L n h r K ρ σ s a = record {
+  alike_regs p x L n h r K ρ σ reg s a = record {
     heaps = a.heaps;
     f = a.f;
     fw = a.fw;
@@ -120,11 +120,10 @@ module _ (m : ℕ) where
     at = a.at;
     out = a.out;
     room = slots_regs p K ρ σ a.f L.used n (s (slot_reg m) (omega arith)) a.room;
-    regular = a.regular;
     has = λ q t e. let w = a.has q t e in
         moved w refl (λ v y z. z)
         (home_regs m K ρ σ (m + 2) (L.homes q) w.eword (omega arith)
-        (regular_up m (m + 2) L (omega arith) a.regular q) s w.home);
+        (regular_up m (m + 2) L (omega arith) reg q) s w.home);
   }
 
   -- with another frame
@@ -139,7 +138,6 @@ module _ (m : ℕ) where
     at = get_front K (ws ∷ []) a.f a.fw a.at;
     out = a.out;
     room = slots_heap p K (ws ∷ []) ρ a.f L.used n a.room;
-    regular = a.regular;
     has = λ q t e. let w = a.has q t e in
         moved w refl (λ v y z. z) (home_heap m K (ws ∷ []) ρ (L.homes q) w.eword w.home);
   }
@@ -177,7 +175,6 @@ module _ (m : ℕ) where
     at = get_front K (es ∷ []) a.f a.fw a.at;
     out = apart_more p K a.f (slice_get_within K a.f a.fw a.at) a.out;
     room = slots_tuple p K ρ a.f L.used n es a.room;
-    regular = a.regular;
     has = λ q t e. let w = a.has q t e in
         moved w refl (λ v y z. image_more p (length K) v y z) (home_heap m K (es ∷ []) ρ (L.homes q) w.eword w.home);
   }
@@ -202,26 +199,6 @@ module _ (m : ℕ) where
   slots_written p K ρ f (suc j) n d a ws pl s =
       (s.0, s.1, s.2, set_other K d s.0 ws (λ z. s.5 a (pl ∙ ap Some (sym z))) ∙ s.3, s.4, s.5, s.6)
 
-  pub alike_written : (p : List ℕ) (x : TFile) (L : Layout) (n : ℕ) (h h1 : Heap) (r : RegWords) (K : EHeap)
-      (ρ : ERegs) (d a : ℕ) (ws : List EWord) → slice_get p a ≡ Some d →
-      Heaps p h1 (slice_set K d ws) → Alike p x L n h r K ρ → Alike p x L n h1 r (slice_set K d ws) ρ
-  alike_written p x L n h h1 r K ρ d a ws pl hs s =
-      let far : s.f ≢ d = λ z. s.out a (pl ∙ ap Some (sym z)) in
-      record {
-        heaps = hs;
-        f = s.f;
-        fw = s.fw;
-        one = s.one;
-        at = set_other K d s.f ws far ∙ s.at;
-        out = s.out;
-        room = slots_written p K ρ s.f L.used n d a ws pl s.room;
-        regular = s.regular;
-        has = λ q t e. let w = s.has q t e in
-            moved w refl (λ v y z. z)
-            (home_written p K ρ s.f L.used n d a q ws (L.homes q) w.eword s.one far s.room pl (s.regular q)
-            w.home);
-      }
-
   -- a word is computed, and the others are at home
   pub record Mid (p : List ℕ) (x : TFile) (L : Layout) (n : ℕ) (h : Heap) (r : RegWords) (K : EHeap) (ρ : ERegs)
       (rd : ℕ) : Type 0 where
@@ -232,9 +209,31 @@ module _ (m : ℕ) where
     pub at : slice_get K f ≡ Some fw
     pub out : (a : ℕ) → slice_get p a ≡ Some f → ⊥
     pub room : Slots p K ρ f L.used n
-    pub regular : Regular m L
+    pub others : Others m L rd
     pub mine : WordAt p r K ρ rd (Held (into m rd))
     pub old : (q : ℕ) (t : Ty) → q ≢ rd → lookup x q ≡ Some t → WordAt p r K ρ q (L.homes q)
+
+  -- and where a tuple of the program is written then
+  pub mid_written : (p : List ℕ) (x : TFile) (L : Layout) (n : ℕ) (h h1 : Heap) (r : RegWords) (K : EHeap)
+      (ρ : ERegs) (rd d a : ℕ) (ws : List EWord) → slice_get p a ≡ Some d →
+      Heaps p h1 (slice_set K d ws) → Mid p x L n h r K ρ rd → Mid p x L n h1 r (slice_set K d ws) ρ rd
+  mid_written p x L n h h1 r K ρ rd d a ws pl hs s =
+      let far : s.f ≢ d = λ z. s.out a (pl ∙ ap Some (sym z)) in
+      record {
+        heaps = hs;
+        f = s.f;
+        fw = s.fw;
+        one = s.one;
+        at = set_other K d s.f ws far ∙ s.at;
+        out = s.out;
+        room = slots_written p K ρ s.f L.used n d a ws pl s.room;
+        others = s.others;
+        mine = moved s.mine refl (λ v y z. z) s.mine.home;
+        old = λ q t ne e. let w = s.old q t ne e in
+            moved w refl (λ v y z. z)
+            (home_written p K ρ s.f L.used n d a q ws (L.homes q) w.eword s.one far s.room pl (s.others q ne)
+            w.home);
+      }
 
   home_set : (K : EHeap) (ρ : ERegs) (used rd q : ℕ) (v e : EWord) (x : Home) → q ≢ rd → Sound m used q x →
       HomeAt m K ρ x e → HomeAt m K (with_reg ρ (into m rd) v) x e
@@ -258,10 +257,10 @@ module _ (m : ℕ) where
   )
 
   pub mid_of : (p : List ℕ) (x : TFile) (L : Layout) (n : ℕ) (h : Heap) (r r2 : RegWords) (K : EHeap) (ρ : ERegs)
-      (rd : ℕ) (w : Word) (e : EWord) →
+      (rd : ℕ) (w : Word) (e : EWord) → Others m L rd →
       Alike p x L n h r K ρ → image p w ≡ Some e → Full e → r2 rd ≡ Some w → ((q : ℕ) → q ≢ rd → r2 q ≡ r q) →
       Mid p x L n h r2 K (with_reg ρ (into m rd) e) rd
-  mid_of p x L n h r r2 K ρ rd w e a im full here same =
+  mid_of p x L n h r r2 K ρ rd w e reg a im full here same =
       let σ : ERegs = with_reg ρ (into m rd) e in
       let far : (q : ℕ) → m < q → q ≤ m + 2 →
       σ q ≡ ρ q = λ q lt le. look_other ρ (into m rd) q e (into_far m rd q lt le) in
@@ -273,7 +272,7 @@ module _ (m : ℕ) where
         at = a.at;
         out = a.out;
         room = slots_regs p K ρ σ a.f L.used n (far (slot_reg m) (omega arith) (omega arith)) a.room;
-        regular = a.regular;
+        others = reg;
         mine = record {
           word = w;
           eword = e;
@@ -284,25 +283,28 @@ module _ (m : ℕ) where
               look_same ρ (into m rd) e;
         };
         old = λ q t ne k. let y = a.has q t k in
-            moved y (same q ne) (λ v z u. u) (home_set K ρ L.used rd q e y.eword (L.homes q) ne (a.regular q) y.home);
+            moved y (same q ne) (λ v z u. u) (home_set K ρ L.used rd q e y.eword (L.homes q) ne (reg q ne) y.home);
       }
 
-  -- the word is there already
-  pub mid_here : (p : List ℕ) (x : TFile) (L : Layout) (n : ℕ) (h : Heap) (r : RegWords) (K : EHeap) (ρ : ERegs)
-      (rd : ℕ) (w : Word) (e : EWord) →
-      Alike p x L n h r K ρ → image p w ≡ Some e → Full e → r rd ≡ Some w → ρ (into m rd) ≡ Some e →
-      Mid p x L n h r K ρ rd
-  mid_here p x L n h r K ρ rd w e a im full here there = record {
+  -- the word is there already, where registers up to m + 2 are the same
+  pub mid_here : (p : List ℕ) (x : TFile) (L : Layout) (n : ℕ) (h : Heap) (r : RegWords) (K : EHeap) (ρ σ : ERegs)
+      (rd : ℕ) (w : Word) (e : EWord) → Others m L rd → ((q : ℕ) → q ≤ m + 2 → σ q ≡ ρ q) →
+      Alike p x L n h r K ρ → image p w ≡ Some e → Full e → r rd ≡ Some w → σ (into m rd) ≡ Some e →
+      Mid p x L n h r K σ rd
+  mid_here p x L n h r K ρ σ rd w e reg s a im full here there = record {
     heaps = a.heaps;
     f = a.f;
     fw = a.fw;
-    one = a.one;
+    one = s (frame_reg m) (omega arith) ∙ a.one;
     at = a.at;
     out = a.out;
-    room = a.room;
-    regular = a.regular;
+    room = slots_regs p K ρ σ a.f L.used n (s (slot_reg m) (omega arith)) a.room;
+    others = reg;
     mine = record { word = w; eword = e; known = here; stands = im; full = full; home = there };
-    old = λ q t ne k. a.has q t k;
+    old = λ q t ne k. let y = a.has q t k in
+        moved y refl (λ v z u. u)
+        (home_regs m K ρ σ (m + 2) (L.homes q) y.eword (omega arith)
+        (sound_up m L.used q (m + 2) (L.homes q) (omega arith) (reg q ne)) s y.home);
   }
 
   -- so with the home of that word
@@ -328,7 +330,6 @@ module _ (m : ℕ) where
     at = at;
     out = out;
     room = tt;
-    regular = gathered_regular m (highs m to);
     has = λ q t e. ⊎_elim
         (λ (lt : m < q).
         let y = word_in p r (high_part m to) ws q t fh (high_look m to q lt ∙ e) in
@@ -413,7 +414,6 @@ module _ (m : ℕ) where
               (λ b z. let lo = place_below p h K a.heaps b (length K) z in absurd (omega (arith, lo))),
               omega (arith, len),
             );
-            regular = after_regular m (record { homes = homes; used = 0 }) rd to Fills (lt, omega arith) a.regular;
             has = λ q t z.
                 let v = fits_at (with_reg (lookup x) rd u) to q t fits z in
                 homed_both homes rd q (InSlot 0) (WordAt p r (K ++ ((a.mine.eword ∷ replicate n EEmpty) ∷ [])) σ q)
@@ -427,7 +427,7 @@ module _ (m : ℕ) where
                 )))
                 (λ ne. let y = a.old q v.0 ne (sym (look_other (lookup x) rd q u ne) ∙ v.1) in
                 moved y refl (λ w z i. i)
-                (home_first K (gw ∷ []) ρ q (EAddress (length K)) y.eword (homes q) (a.regular q) y.home));
+                (home_first K (gw ∷ []) ρ q (EAddress (length K)) y.eword (homes q) (a.others q ne) y.home));
           };
         }
 
@@ -490,7 +490,6 @@ module _ (m : ℕ) where
               a.room.5,
               omega (arith, more, size),
             );
-            regular = after_regular m (record { homes = homes; used = suc j }) rd to Fills lt a.regular;
             has = λ q t z.
                 let v = fits_at (with_reg (lookup x) rd u) to q t fits z in
                 homed_both homes rd q (InSlot (suc j))
@@ -506,7 +505,7 @@ module _ (m : ℕ) where
                 )))
                 (λ ne. let y = a.old q v.0 ne (sym (look_other (lookup x) rd q u ne) ∙ v.1) in
                 moved y refl (λ w z i. i)
-                (home_next p K ρ a.f j g q gw e y.eword (homes q) a.one two a.room.3 a.room.4 (a.regular q)
+                (home_next p K ρ a.f j g q gw e y.eword (homes q) a.one two a.room.3 a.room.4 (a.others q ne)
                 y.home));
           };
         }
@@ -521,11 +520,11 @@ module _ (m : ℕ) where
     slot_at p x to homes (suc j) n h r K ρ rd u k lt a fits = next_slot p x to homes j n h r K ρ rd u k lt a fits
 
     -- what becomes of the word
-    pub finish_at : (p : List ℕ) (x to : TFile) (L : Layout) (w : Way) (n : ℕ) (nx : List ℕ) (h : Heap) (r : RegWords)
-        (K : EHeap) (ρ : ERegs) (rd : ℕ) (u : Ty) (k : ESeq) → WayFits m L.used rd w →
+    pub finish_at : (p : List ℕ) (x to : TFile) (L : Layout) (c : TSeq) (w : Way) (n : ℕ) (nx : List ℕ) (h : Heap)
+        (r : RegWords) (K : EHeap) (ρ : ERegs) (rd : ℕ) (u : Ty) (k : ESeq) → WayFits m L.used rd c w → Kept m L rd →
         Mid p x L (count_by w n) h r K ρ rd → FitsFile (with_reg (lookup x) rd u) to → nx ≡ highs m to →
         Finished (EAt K ρ (efinish m L rd (count_by w n) nx w k)) p to (after_way m L rd to w) n h r k
-    finish_at p x to L Stays n nx h r K ρ rd u k wf a fits same = record {
+    finish_at p x to L c Stays n nx h r K ρ rd u k wf kp a fits same = record {
       heap = K;
       regs = ρ;
       walks = walks_none B _;
@@ -537,23 +536,38 @@ module _ (m : ℕ) where
         at = a.at;
         out = a.out;
         room = a.room;
-        regular = a.regular;
         has = λ q t z.
             let v = fits_at (with_reg (lookup x) rd u) to q t fits z in
             ⊎_elim
             (λ (s : q ≡ rd).
             let home : L.homes q ≡ Held (into m rd) = ap L.homes s
-            ∙ sound_held m L.used rd (L.homes rd) wf (a.regular rd) ∙ ap Held (sym (into_low m rd wf)) in
+            ∙ nearly_held m L rd rd (a.others, kp) wf ∙ ap Held (sym (into_low m rd wf)) in
             subst (WordAt p r K ρ q) (sym home) (subst (λ i. WordAt p r K ρ i (Held (into m rd))) (sym s) a.mine))
             (λ (ne : q ≢ rd). a.old q v.0 ne (sym (look_other (lookup x) rd q u ne) ∙ v.1))
             (cases_eq q rd);
       };
     }
-    finish_at p x to L Fills n nx h r K ρ rd u k wf a fits same =
+    finish_at p x to L c Holds n nx h r K ρ rd u k wf kp a fits same = record {
+      heap = K;
+      regs = ρ;
+      walks = walks_none B _;
+      alike = record {
+        heaps = a.heaps;
+        f = a.f;
+        fw = a.fw;
+        one = a.one;
+        at = a.at;
+        out = a.out;
+        room = a.room;
+        has = λ q t z. let v = fits_at (with_reg (lookup x) rd u) to q t fits z in
+            (homed_word p x L n h r K ρ rd u a q v.0 v.1);
+      };
+    }
+    finish_at p x to L c Fills n nx h r K ρ rd u k wf kp a fits same =
         slot_at p x to L.homes L.used n h r K ρ rd u k wf a fits
-    finish_at p x to L Gathers n nx h r K ρ rd u k wf a fits same =
+    finish_at p x to L c Gathers n nx h r K ρ rd u k wf kp a fits same =
         let homes : ℕ → Home = homed L.homes rd (Held (into m rd)) in
-        let up : (q : ℕ) → UpTo (m + 3) (homed L.homes rd (Held (into m rd)) q) = λ q. homed_up m L rd q a.regular in
+        let up : (q : ℕ) → UpTo (m + 3) (homed L.homes rd (Held (into m rd)) q) = λ q. homed_up m L rd q a.others in
         let words = homed_word p x L 0 h r K ρ rd u a in
         let y = frame_words p r K ρ homes up (with_reg (lookup x) rd u) words (high_part m to)
         (fits_high (with_reg (lookup x) rd u) m to fits) in
@@ -582,7 +596,7 @@ module _ (m : ℕ) where
               same_reg ∙ ap ρ (s ∙ sym (into_low m rd lo)) ∙ w.home;
         })
         (λ (ne : q ≢ rd).
-        let w = subst (WordAt p r K ρ q) (sound_held m L.used q (L.homes q) le (a.regular q))
+        let w = subst (WordAt p r K ρ q) (nearly_held m L rd q (a.others, kp) le)
         (a.old q v.0 ne (sym (look_other (lookup x) rd q u ne) ∙ v.1)) in
         record {
           word = w.word;

@@ -17,7 +17,7 @@ use Rattle.t_spill_rules.specs.Spill.{high_part, frame, cells, frame_reg, slot_r
 use Rattle.t_spill_rules.specs.Spill.{sp, sp_regs, sp_file, sp_base, sp_value}
 use Rattle.t_spill_rules.specs.Spill.{reg, numbers, before}
 use Rattle.t_spill_rules.specs.Spill.{Home, Held, InFrame, InSlot, Layout, homed, layout, at_home, load, load_value}
-use Rattle.t_spill_rules.specs.Spill.{second_at, fill, build, gather, into, Way, Stays, Fills, Gathers}
+use Rattle.t_spill_rules.specs.Spill.{second_at, fill, build, gather, into, Way, Stays, Holds, Fills, Gathers}
 use Rattle.t_spill_rules.specs.Spill.{after_way, slots_by, used_by, fill_slot, finish, sp_block}
 use Rattle.t_spill_rules.specs.Spill.{sp_data}
 use Rattle.t_spill_laws.proofs.TypeLaws.{sp_put, sp_inst, fits_sp, below_high}
@@ -27,7 +27,7 @@ use Rattle.t_spill_laws.proofs.Files.{fits_high, prefix, prefix_more, field_pref
 use Rattle.t_spill_rules.proofs.HighParts.{high_regs}
 use Rattle.t_spill_rules.proofs.Parts.{joined}
 use Rattle.t_spill_laws.proofs.Files.{filled_prefix}
-use Rattle.t_spill_laws.proofs.Homes.{Sound, Regular, UpTo, sound_held, into_high, into_low}
+use Rattle.t_spill_laws.proofs.Homes.{Sound, Others, Nearly, nearly_held, UpTo, into_high, into_low}
 use Rattle.t_spill_laws.proofs.Homes.{homed_up, WayFits}
 use Rattle.t_spill_laws.proofs.Located.{HomeHas, Located, located_same, entered_at, Room, open_more, open_empty}
 use Rattle.t_spill_laws.proofs.Located.{field_true, open_filled, Loaded, Defined, defined_at}
@@ -223,7 +223,7 @@ module _ (m : ℕ) (P Q : TProg) (labels : Labels m P Q) (tuples : Tuples m P Q)
 
   pub slot_ok : (homes : ℕ → Home) (used rd : ℕ) (u : Ty) (k k2 : RegTypes) (ts : List Ty) (g : RegTypes) (n : ℕ)
       (rest : TSeq) →
-      Regular m (record { homes = homes; used = used }) → g (first_reg m) ≡ Some (sp m u) →
+      Others m (record { homes = homes; used = used }) rd → g (first_reg m) ≡ Some (sp m u) →
       ((r : ℕ) (t : Ty) → r ≢ rd → k r ≡ Some t → HomeHas m g (homes r) (sp m t)) → k2 ≡ with_reg k rd u →
       Room m used g (sp m u ∷ ts) → BelowTypes n (sp m u ∷ ts) →
       (t : Ty) × (g (frame_reg m) ≡ Some t) → Goes n (record { homes = homes; used = used }) rd k2 ts rest →
@@ -255,8 +255,8 @@ module _ (m : ℕ) (P Q : TProg) (labels : Labels m P Q) (tuples : Tuples m P Q)
           go g2
               (defined_at m (record { homes = homes; used = 0 }) rd u k k2 g2 (InSlot 0)
               (MoreFields (sp m u) true (empty_fields ts), two, refl)
-              (λ r t ne e. first_home r g1 w2 (homes r) (sp m t) (reg r)
-              (first_home r g w (homes r) (sp m t) (reg r) (old r t ne e))) same) (
+              (λ r t ne e. first_home r g1 w2 (homes r) (sp m t) (reg r ne)
+              (first_home r g w (homes r) (sp m t) (reg r ne) (old r t ne e))) same) (
                 MoreFields (sp m u) true (empty_fields ts),
                 two,
                 open_more m (sp m u) true (empty_fields ts) 0 ts (open_empty m ts),
@@ -275,22 +275,23 @@ module _ (m : ℕ) (P Q : TProg) (labels : Labels m P Q) (tuples : Tuples m P Q)
         go g2
             (defined_at m (record { homes = homes; used = suc j }) rd u k k2 g2 (InSlot (suc j))
             (filled room.0 (suc j), two, filled_field room.0 (suc j) (sp m u) room.2.0.0 room.2.0.1)
-            (λ r t ne e. slot_home j rd r g room.0 (homes r) (sp m t) (reg r) room.1 (old r t ne e)) same)
+            (λ r t ne e. slot_home j rd r g room.0 (homes r) (sp m t) (reg r ne) room.1 (old r t ne e)) same)
             (filled room.0 (suc j), two, open_filled m room.0 (suc j) (suc (suc j)) ts room.2.1)
             (fr.0, look_other g (slot_reg m) (frame_reg m) w (λ z. absurd (omega arith)) ∙ fr.1),
       )
 
   -- what becomes of the word
-  pub finish_ok : (L : Layout) (rd : ℕ) (u v : Ty) (k k2 : RegTypes) (ts : List Ty) (to : TFile) (w : Way)
+  pub finish_ok : (L : Layout) (rd : ℕ) (u v : Ty) (k k2 : RegTypes) (ts : List Ty) (to : TFile) (c : TSeq) (w : Way)
       (g : RegTypes) (n : ℕ) (rest : TSeq) →
-      Regular m L → WayFits m L.used rd w → Defined m L rd u k g → k2 ≡ with_reg k rd u → v ≡ sp m u → FitsFile k2 to →
+      Nearly m L rd → WayFits m L.used rd c w → Defined m L rd u k g → k2 ≡ with_reg k rd u → v ≡ sp m u → FitsFile
+      k2 to →
       ((r : ℕ) (t : Ty) → lookup to r ≡ Some t → k2 r ≡ Some t) →
       BelowFile n to → Room m L.used g (slots_by w v ts) → BelowTypes n (slots_by w v ts) → (t : Ty)
       × (g (frame_reg m) ≡ Some t) →
       ((h : RegTypes) → Located m (after_way m L rd to w).homes (lookup to) h → Room m (used_by w L.used) h ts →
       (t : Ty) × (h (frame_reg m) ≡ Some t) → SeqAccepted Q n h rest) →
       SeqAccepted Q n g (before (finish m L rd (slots_by w v ts) to w) rest)
-  finish_ok L rd u v k k2 ts to Stays g n rest reg wf def same e fits sub small room below fr go =
+  finish_ok L rd u v k k2 ts to c Stays g n rest reg wf def same e fits sub small room below fr go =
       go g (λ r t z. stays r t (sub r t z)) room fr
     where
       stays : (r : ℕ) (t : Ty) → k2 r ≡ Some t → HomeHas m g (L.homes r) (sp m t)
@@ -300,20 +301,24 @@ module _ (m : ℕ) (P Q : TProg) (labels : Labels m P Q) (tuples : Tuples m P Q)
           ∙ z in
           let s : u ≡ t = cc in
           let low : r ≤ m = omega (arith, wf, q) in
-          subst (λ x. HomeHas m g x (sp m t)) (sym (sound_held m L.used r (L.homes r) low (reg r)))
+          subst (λ x. HomeHas m g x (sp m t)) (sym (nearly_held m L rd r reg low))
           (ap g (q ∙ sym (into_low m rd wf)) ∙ def.0 ∙ ap (λ y. Some (sp m y)) s))
           (λ (ne : r ≢ rd). def.1 r t ne (sym (look_other k rd r u ne) ∙ sym (ap (λ f. f r) same) ∙ z))
           (cases_eq r rd)
-  finish_ok L rd u v k k2 ts to Fills g n rest reg wf def same e fits sub small room below fr go =
+  finish_ok L rd u v k k2 ts to c Holds g n rest reg wf def same e fits sub small room below fr go =
+      let l : Located m (homed L.homes rd (Held (into m rd))) k2 g =
+      defined_at m L rd u k k2 g (Held (into m rd)) def.0 def.1 same in
+      go g (λ r t z. l r t (sub r t z)) room fr
+  finish_ok L rd u v k k2 ts to c Fills g n rest reg wf def same e fits sub small room below fr go =
       subst (λ y. Room m L.used g (y ∷ ts) → BelowTypes n (y ∷ ts) →
       SeqAccepted Q n g (before (fill_slot m L.used (y ∷ ts)) rest)) (sym e)
-      (λ room2 below2. slot_ok L.homes L.used rd u k k2 ts g n rest reg (ap g (sym (into_high m rd wf.0))
+      (λ room2 below2. slot_ok L.homes L.used rd u k k2 ts g n rest reg.0 (ap g (sym (into_high m rd wf.0))
       ∙ def.0) def.1 same room2 below2 fr
       (λ h l r f. go h (λ q t z. l q t (sub q t z)) r f)) room below
-  finish_ok L rd u v k k2 ts to Gathers g n rest reg wf def same e fits sub small room below fr go =
+  finish_ok L rd u v k k2 ts to c Gathers g n rest reg wf def same e fits sub small room below fr go =
       let homes = homed L.homes rd (Held (into m rd)) in
       let l : Located m homes k2 g = defined_at m L rd u k k2 g (Held (into m rd)) def.0 def.1 same in
-      gather_ok homes k2 to g n rest (λ r. homed_up m L rd r reg) low l fits small sub (λ h x f. go h x tt f)
+      gather_ok homes k2 to g n rest (λ r. homed_up m L rd r reg.0) low l fits small sub (λ h x f. go h x tt f)
     where
       low : (r : ℕ) (t : Ty) → r ≤ m → k2 r ≡ Some t → g r ≡ Some (sp m t)
       low r t le z = ⊎_elim
@@ -324,6 +329,6 @@ module _ (m : ℕ) (P Q : TProg) (labels : Labels m P Q) (tuples : Tuples m P Q)
           let lo : rd ≤ m = omega (arith, le, q) in
           ap g (q ∙ sym (into_low m rd lo)) ∙ def.0 ∙ ap (λ y. Some (sp m y)) s)
           (λ (ne : r ≢ rd).
-          subst (λ x. HomeHas m g x (sp m t)) (sound_held m L.used r (L.homes r) le (reg r))
+          subst (λ x. HomeHas m g x (sp m t)) (nearly_held m L rd r reg le)
           (def.1 r t ne (sym (look_other k rd r u ne) ∙ sym (ap (λ f. f r) same) ∙ z)))
           (cases_eq r rd)

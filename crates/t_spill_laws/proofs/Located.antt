@@ -20,7 +20,7 @@ use Rattle.t_spill_laws.proofs.TypeLaws.{sp_shift}
 use Rattle.t_spill_laws.proofs.Files.{look_same, look_other, frame_at, high_look, look_sp}
 use Rattle.t_spill_laws.proofs.Files.{numbers_regs}
 use Rattle.t_spill_rules.proofs.HighParts.{high_regs}
-use Rattle.t_spill_laws.proofs.Homes.{Sound, Regular, UpTo, sound_held, at_case}
+use Rattle.t_spill_laws.proofs.Homes.{Sound, Regular, Others, UpTo, sound_up, sound_held, at_case}
 use Rattle.t_spill_laws.proofs.Homes.{into_far, into_other, homed_both}
 
 module _ (m : ℕ) where
@@ -180,11 +180,21 @@ module _ (m : ℕ) where
     e.2,
   )
 
-  pub defined : (L : Layout) (rd : ℕ) (u : Ty) (k g : RegTypes) → Regular m L → Located L.homes k g →
+  -- the others at home
+  abbrev pub OldAt : Layout → ℕ → RegTypes → RegTypes → Type 0
+  OldAt L rd k g = (r : ℕ) (t : Ty) → r ≢ rd → k r ≡ Some t → HomeHas g (L.homes r) (sp m t)
+
+  pub old_same : (L : Layout) (rd : ℕ) (k g h : RegTypes) → Others m L rd → ((q : ℕ) → q ≤ m + 2 → h q ≡ g q) →
+      Located L.homes k g → OldAt L rd k h
+  old_same L rd k g h reg s l r t ne e =
+      home_same (m + 2) g h (L.homes r) (sp m t) (omega arith)
+      (sound_up m L.used r (m + 2) (L.homes r) (omega arith) (reg r ne)) s (l r t e)
+
+  pub defined : (L : Layout) (rd : ℕ) (u : Ty) (k g : RegTypes) → Others m L rd → OldAt L rd k g →
       Defined L rd u k (with_reg g (into m rd) (sp m u))
   defined L rd u k g reg l = (
     look_same g (into m rd) (sp m u),
-    λ r t ne e. home_set L.used rd r g (sp m u) (L.homes r) (sp m t) ne (reg r) (l r t e),
+    λ r t ne e. home_set L.used rd r g (sp m u) (L.homes r) (sp m t) ne (reg r ne) (l r t ne e),
   )
 
   -- so with the register's home set

@@ -21,6 +21,7 @@ use Rattle.t_spill_laws.proofs.Erased.{esize}
 use Rattle.t_spill_laws.proofs.Erased.{slots_left}
 use Rattle.t_spill_laws.proofs.Walks.{Walks, Moves}
 use Rattle.t_spill_laws.proofs.Frames.{Alike}
+use Rattle.t_spill_laws.proofs.Homes.{Ready}
 
 -- each block of the spilled program, erased, is one further on
 abbrev pub ELabels : ℕ → TProg → List ESeq → Type 0
@@ -49,6 +50,7 @@ pub record Matches (m : ℕ) (P : TProg) (s : State) (e : EState) : Type 0 where
   pub up : Rises (start_types P) types
   pub still : Still P places
   pub alike : Alike m places file lay (slots_left m lay.used (code_of s)) (heap_of s) (regs_of s) eheap eregs
+  pub ready : Ready m lay (code_of s)
   pub is : e ≡ EAt eheap eregs (erase_seq (code m P lay file (code_of s)))
 
 -- A step to the next instruction is some steps, one at least; a step into a block is some, and then one into its
@@ -78,9 +80,9 @@ Follows m P B tail low s e =
     × Sized m P tail k (sizes m P a.lay a.file (code_of t)))
 
 abbrev pub tail_sizes : ℕ → TProg → Layout → TFile → TSeq → List ℕ
-tail_sizes m P L x (Then i c) = sizes m P (after m L i (kept P x i c)) (kept P x i c) c
+tail_sizes m P L x (Then i c) = sizes m P (after m L i c (kept P x i c)) (kept P x i c) c
 tail_sizes m P L x (Ends e) = []
 
 abbrev pub tail_left : ℕ → TProg → Layout → TFile → TSeq → ℕ
-tail_left m P L x (Then i c) = suc (esize (erase_seq (code m P (after m L i (kept P x i c)) (kept P x i c) c)))
+tail_left m P L x (Then i c) = suc (esize (erase_seq (code m P (after m L i c (kept P x i c)) (kept P x i c) c)))
 tail_left m P L x (Ends e) = 0

@@ -30,6 +30,7 @@ use Rattle.t_spill_laws.proofs.Erased.{erase_sp}
 use Rattle.t_terms.specs.Registers.{with_reg}
 use Rattle.t_spill_laws.proofs.Heaps.{image, Images, Heaps, FrameHas}
 use Rattle.t_spill_laws.proofs.Frames.{Alike, framed}
+use Rattle.t_spill_laws.proofs.Homes.{gathered_regular, regular_ready}
 use Rattle.t_spill_laws.proofs.Erased.{highs, slots_left}
 use Rattle.t_spill_laws.proofs.Matching.{ELabels, Matches, Seg, Sized, Ending, Follows, tail_sizes, tail_left}
 use Rattle.t_spill_laws.proofs.Sim.{follows}
@@ -310,6 +311,7 @@ module _ (top : ℕ) (some : 1 ≤ top) (P : TProg) (whole : WellFormedProgram P
             let l = data_length top P in absurd (omega (arith, r.0, r.1, l)))
             (subst (λ x. FrameHas (row 0 P.heap) no_words (highs top x) []) (sym none) tt)
             (λ q t le k. let y : None ≡ Some t = sym (ap (λ x. lookup x q) none) ∙ k in cc));
+        ready = regular_ready top (layout top b.file) (code_of s) (gathered_regular top (highs top b.file));
         is = ap (λ z. EAt (entered top P) (entered_regs top P)
             (erase_seq (code top P (layout top b.file) b.file (code_of z)))) (sym same);
       }

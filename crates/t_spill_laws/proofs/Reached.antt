@@ -18,7 +18,7 @@ use Rattle.t_spill_rules.specs.Spill.{type_of}
 use Rattle.t_spill_rules.specs.Spill.{target_file, next, numbers, kept, or_int, Home, Held, InFrame, InSlot, Layout}
 use Rattle.t_spill_rules.specs.Spill.{homed}
 use Rattle.t_spill_rules.specs.Spill.{layout, load, load_value, second_at, fill, build, defines, into, Way, Stays}
-use Rattle.t_spill_rules.specs.Spill.{Fills, Gathers, way, after, slots_by, used_by, slots, fill_slot, finish}
+use Rattle.t_spill_rules.specs.Spill.{Holds, Fills, Gathers, way, after, slots_by, used_by, slots, fill_slot, finish}
 use Rattle.t_spill_rules.specs.Spill.{target, before, does}
 use Rattle.t_spill_rules.specs.Spill.{code, sp_blocks, sp_data, spilled_above}
 use Rattle.t_spill_rules.proofs.HighParts.{high_regs}
@@ -128,6 +128,7 @@ look_most (MoreRegs q t x) r = go (nat_eq q r) (look_most x r)
 by_most : (n : ℕ) (w : Way) (t : Ty) (ts : List Ty) → type_nesting t ≤ n → types_nesting ts ≤ n →
     types_nesting (slots_by w t ts) ≤ n
 by_most n Stays t ts h l = l
+by_most n Holds t ts h l = l
 by_most n Fills t ts h l = omega (arith, h, l)
 by_most n Gathers t ts h l = omega arith
 
@@ -137,8 +138,8 @@ slots_most m k P (Then i c) used x h =
     let t : Ty = or_int (lookup (next P x i) (defines i)) in
     let a = type_most m (or_int (lookup (next P x i) (defines i))) in
     let b = look_most (next P x i) (defines i) in
-    let rest = slots_most m k P c (used_by (way m used i) used) (kept P x i c) h.3 in
-    by_most k (way m used i) (sp m (or_int (lookup (next P x i) (defines i)))) _ (omega (arith, a, b, h.2)) rest
+    let rest = slots_most m k P c (used_by (way m used i c) used) (kept P x i c) h.3 in
+    by_most k (way m used i c) (sp m (or_int (lookup (next P x i) (defines i)))) _ (omega (arith, a, b, h.2)) rest
 slots_most m k P (Ends e) used x h = omega arith
 
 module _ (n : ℕ) (some : 2 ≤ n) (m : ℕ) where
@@ -176,6 +177,7 @@ module _ (n : ℕ) (some : 2 ≤ n) (m : ℕ) where
   finish_most : (L : Layout) (rd : ℕ) (ts : List Ty) (to : TFile) (w : Way) (rest : TSeq) → types_nesting ts + 1 ≤ n →
       regs_reach to + 1 ≤ n → seq_nesting rest ≤ n → seq_nesting (before (finish m L rd ts to w) rest) ≤ n
   finish_most L rd ts to Stays rest ht nx h = h
+  finish_most L rd ts to Holds rest ht nx h = h
   finish_most L rd ts to Fills rest ht nx h = slot_most L.used ts rest ht h
   finish_most L rd ts to Gathers rest ht nx h =
       let homes = homed L.homes rd (Held (into m rd)) in
@@ -218,9 +220,9 @@ module _ (n : ℕ) (some : 2 ≤ n) (m : ℕ) where
       subst (λ d. seq_nesting d ≤ n) (sym (step_is m P L x i c _))
       (loading_most L.homes (target P x i) i _ (omega (arith, t, h.0, le))
       (does_most P x L.homes i _ f.0 (omega (arith, h.0, le))
-      (finish_most L (defines i) (slots m P L.used x (Then i c)) (kept P x i c) (way m L.used i) _
+      (finish_most L (defines i) (slots m P L.used x (Then i c)) (kept P x i c) (way m L.used i c) _
       (omega (arith, s, le)) (omega (arith, h.1, le))
-      (code_most P k c (after m L i (kept P x i c)) (kept P x i c) le f.1 h.3))))
+      (code_most P k c (after m L i c (kept P x i c)) (kept P x i c) le f.1 h.3))))
   code_most P k (Ends (Jmp v)) L x le f h =
       let a = value_most m (second_at m L.homes) v f in
       let t = target_most (type_of P x v) in

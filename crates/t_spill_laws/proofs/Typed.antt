@@ -18,8 +18,9 @@ use Rattle.t_rules.specs.Rules.{FirstTakesNothing, Accepted}
 use Rattle.t_spill_rules.specs.Spill.{high_part, frame, frame_reg, slot_reg, first_reg, second_reg, made_reg}
 use Rattle.t_spill_rules.specs.Spill.{saved_reg, sp, sp_regs, sp_fields, sp_file, ins, or_int, type_of}
 use Rattle.t_spill_rules.specs.Spill.{type_in, field_type, filled_type, hidden_type, target_file, next, reg, kept}
-use Rattle.t_spill_rules.specs.Spill.{Layout, layout, at_home}
-use Rattle.t_spill_rules.specs.Spill.{second_at, target, before, defines, into, Way, Stays, Fills, Gathers, way_of, way}
+use Rattle.t_spill_rules.specs.Spill.{Held, Layout, layout, at_home}
+use Rattle.t_spill_rules.specs.Spill.{second_at, target, before, defines, into, Way, Stays, Holds, Fills, Gathers}
+use Rattle.t_spill_rules.specs.Spill.{way_of, way}
 use Rattle.t_spill_rules.specs.Spill.{after_way, after, slots_by, used_by, slots, finish, ended, code, sp_block}
 use Rattle.t_spill_rules.specs.Spill.{sp_blocks, sp_data, entry, spilled_above}
 use Rattle.t_spill_rules.proofs.Parts.{stepped, step_is}
@@ -34,10 +35,11 @@ use Rattle.t_spill_laws.proofs.Scopes.{scoped_next}
 use Rattle.t_spill_laws.proofs.Scopes.{below_regs as below_file, scoped_ascends, scoped_kept, scoped_target}
 use Rattle.t_spill_laws.proofs.Scopes.{labels_scoped}
 use Rattle.t_spill_laws.proofs.Scopes.{data_scoped}
-use Rattle.t_spill_laws.proofs.Homes.{regular_up, Regular, UpTo, at_far}
-use Rattle.t_spill_laws.proofs.Homes.{into_far, WayFits, way_fits}
-use Rattle.t_spill_laws.proofs.Homes.{gathered_regular, way_sound, stored_at, used_is}
-use Rattle.t_spill_laws.proofs.Located.{Located, located_same, located_raised, low_known, entered_at, Room}
+use Rattle.t_spill_laws.proofs.Homes.{regular_up, sound_up, Regular, Nearly, Kept, ReadyFor, Ready, UpTo, at_far}
+use Rattle.t_spill_laws.proofs.Homes.{into_far, WayFits, way_fits, regular_nearly, regular_ready, stored_far}
+use Rattle.t_spill_laws.proofs.Homes.{gathered_regular, way_ready, stored_at, used_is}
+use Rattle.t_spill_laws.proofs.Located.{HomeHas, home_same, old_same, Located, located_same, located_raised, low_known}
+use Rattle.t_spill_laws.proofs.Located.{entered_at, Room}
 use Rattle.t_spill_laws.proofs.Located.{room_same, room_raised, Loaded, loaded_same, defined}
 use Rattle.t_spill_laws.proofs.Framing.{Labels, Tuples, value_sp, load_ok, load_value_ok, build_ok, finish_ok}
 
@@ -61,15 +63,16 @@ module _ (m : ℕ) (P Q : TProg) (labels : Labels m P Q) (tuples : Tuples m P Q)
   -- the types of slots are in scope
   by_below : (n : ℕ) (w : Way) (t : Ty) (ts : List Ty) → Below n t → BelowTypes n ts → BelowTypes n (slots_by w t ts)
   by_below n Stays t ts h k = k
+  by_below n Holds t ts h k = k
   by_below n Fills t ts h k = (h, k)
   by_below n Gathers t ts h k = tt
 
   -- there are none before an unpack
-  no_slots : (i : TInstr) (used n : ℕ) (t : Ty) (ts : List Ty) →
-      (names_after i n ≡ n → BelowTypes n (slots_by (way m used i) t ts)) →
-      BelowTypes n (slots_by (way m used i) t ts)
-  no_slots (Unpack rd v) used n t ts h = tt
-  no_slots _ used n t ts h = h refl
+  no_slots : (i : TInstr) (c : TSeq) (used n : ℕ) (t : Ty) (ts : List Ty) →
+      (names_after i n ≡ n → BelowTypes n (slots_by (way m used i c) t ts)) →
+      BelowTypes n (slots_by (way m used i c) t ts)
+  no_slots (Unpack rd v) c used n t ts h = tt
+  no_slots _ c used n t ts h = h refl
 
   module _ (p q : ℕ) (files : LabelsScoped P) (fields : DataScoped P) where
     pub slots_below : (c : TSeq) (file : TFile) (used n : ℕ) → ScopedRegs 0 n file → WellFormedSeq p q n c →
@@ -78,17 +81,17 @@ module _ (m : ℕ) (P Q : TProg) (labels : Labels m P Q) (tuples : Tuples m P Q)
     slots_below (Ends e) file used n h w k = tt
     slots_below (Then i c) file used n h w k =
         let to = kept P file i c in
-        let used2 = used_by (way m used i) used in
+        let used2 = used_by (way m used i c) used in
         let acc = subst (λ z. SeqAccepted P (names_after i n) z c) (next_is P n file i k.0 k.1) k.2 in
         let nx = scoped_next P p q files fields i n file k.0 h w.0 k.1 in
         let rest = slots_below c to used2 (names_after i n)
         (scoped_kept P p q files fields i (names_after i n) file c nx) w.2
         (kept_accepted P i (names_after i n) file c acc) in
-        no_slots i used n _ _ (λ e.
-        by_below n (way m used i) _ _
+        no_slots i c used n _ _ (λ e.
+        by_below n (way m used i c) _ _
         (subst (λ z. Below z (sp m (or_int (lookup (next P file i) (defines i))))) e
         (or_below (names_after i n) (defines i) (next P file i) nx))
-        (subst (λ z. BelowTypes z (slots m P (used_by (way m used i) used) (kept P file i c) c)) e rest))
+        (subst (λ z. BelowTypes z (slots m P (used_by (way m used i c) used) (kept P file i c) c)) e rest))
 
     below_target : (n : ℕ) (file : TFile) (v : TValue) → ScopedRegs 0 n file → WellFormedValue p q n v →
         Enters P n (lookup file) v →
@@ -106,8 +109,8 @@ module _ (m : ℕ) (P Q : TProg) (labels : Labels m P Q) (tuples : Tuples m P Q)
       (t : Ty) × (h (frame_reg m) ≡ Some t) → SeqAccepted Q n h rest
 
   -- an instruction computes a word, where g is known with the operands at hand, and it is put where it goes
-  put_ok : (file : TFile) (L : Layout) (rd : ℕ) (u : Ty) (ts : List Ty) (to : TFile) (w : Way) (g g1 : RegTypes)
-      (n : ℕ) (rest : TSeq) → Regular m L → WayFits m L.used rd w →
+  put_ok : (file : TFile) (L : Layout) (rd : ℕ) (u : Ty) (ts : List Ty) (to : TFile) (c : TSeq) (w : Way)
+      (g g1 : RegTypes) (n : ℕ) (rest : TSeq) → Nearly m L rd → WayFits m L.used rd c w →
       Located m L.homes (lookup file) g → Same g g1 → FitsFile (lookup (ins rd u file)) to →
       ((r : ℕ) (t : Ty) → lookup to r ≡ Some t → lookup (ins rd u file) r ≡ Some t) → BelowFile n to →
       Room m L.used g (slots_by w (sp m (or_int (lookup (ins rd u file) rd))) ts) →
@@ -116,15 +119,13 @@ module _ (m : ℕ) (P Q : TProg) (labels : Labels m P Q) (tuples : Tuples m P Q)
       After n L rd to w ts rest →
       SeqAccepted Q n (with_reg g1 (into m rd) (sp m u))
       (before (finish m L rd (slots_by w (sp m (or_int (lookup (ins rd u file) rd))) ts) to w) rest)
-  put_ok file L rd u ts to w g g1 n rest reg wf l s fits sub small room below fr go =
+  put_ok file L rd u ts to c w g g1 n rest reg wf l s fits sub small room below fr go =
       let g2 : RegTypes = with_reg g1 (into m rd) (sp m u) in
       let far : (x : ℕ) → m < x → x ≤ m + 2 →
       g2 x ≡ g x = λ x a b. look_other g1 (into m rd) x (sp m u) (into_far m rd x a b) ∙ s x b in
       finish_ok m P Q labels tuples L rd u (sp m (or_int (lookup (ins rd u file) rd))) (lookup file)
-      (lookup (ins rd u file)) ts to w g2 n rest reg wf
-      (defined m L rd u (lookup file) g1 reg
-      (located_same m (m + 2) L.homes (lookup file) g g1 (omega arith) (regular_up m (m + 2) L (omega arith) reg) s
-      l))
+      (lookup (ins rd u file)) ts to c w g2 n rest reg wf
+      (defined m L rd u (lookup file) g1 reg.0 (old_same m L rd (lookup file) g g1 reg.0 s l))
       (lookup_ins rd u file) (given rd u file) fits sub small
       (room_same m L.used g g2 _ (far (slot_reg m) (omega arith) (omega arith)) room) below
       (fr.0, far (frame_reg m) (omega arith) (omega arith) ∙ fr.1) go
@@ -134,26 +135,79 @@ module _ (m : ℕ) (P Q : TProg) (labels : Labels m P Q) (tuples : Tuples m P Q)
   Left i file to = FitsFile (lookup (next P file i)) to
       × ((r : ℕ) (t : Ty) → lookup to r ≡ Some t → lookup (next P file i) r ≡ Some t)
 
+  module _ (file : TFile) (L : Layout) (g : RegTypes) (n : ℕ) where
+    abbrev Types : TInstr → TSeq → List Ty → List Ty
+    Types i c ts = slots_by (way m L.used i c) (sp m (or_int (lookup (next P file i) (defines i)))) ts
+
+    abbrev Step : TInstr → TSeq → Type 0
+    Step i c = (h : RegTypes) (to : TFile) (ts : List Ty) (rest : TSeq) → Left i file to →
+        BelowFile (names_after i n) to → Typed P n (lookup file) i h →
+        Room m L.used g (Types i c ts) → BelowTypes n (Types i c ts) →
+        After (names_after i n) L (defines i) to (way m L.used i c) ts rest →
+        SeqAccepted Q n g (stepped m L (high_part m (target P file i)) i c (Types i c ts) to rest)
+
+    -- what is stored is at home, where the tuple was loaded
+    stored_ok : (rd rs : ℕ) (g1 : RegTypes) (t v : Ty) → Nearly m L rd → HomeHas m g (L.homes rd) t →
+        g1 (at_home (first_reg m) (L.homes rd)) ≡ Some t → Same g g1 → HomeHas m g (L.homes rs) v →
+        HomeHas m g1 (L.homes rs) v
+    stored_ok rd rs g1 t v near tuple e1 s k = ⊎_elim
+        (λ (e : rs ≡ rd). mine e near.1)
+        (λ (ne : rs ≢ rd). home_same m (m + 2) g g1 (L.homes rs) v (omega arith)
+        (sound_up m L.used rs (m + 2) (L.homes rs) (omega arith) (near.0 rs ne)) s k)
+        (cases_eq rs rd)
+      where
+        mine : rs ≡ rd → Kept m L rd → HomeHas m g1 (L.homes rs) v
+        mine e (inl so) = home_same m (m + 2) g g1 (L.homes rs) v (omega arith)
+            (subst (λ r. UpTo (m + 2) (L.homes r)) (sym e)
+            (sound_up m L.used rd (m + 2) (L.homes rd) (omega arith) so)) s k
+        mine e (inr held) =
+            let at : L.homes rs ≡ Held (into m rd) = ap L.homes e ∙ held in
+            let a : g (into m rd) ≡ Some t = subst (λ x. HomeHas m g x t) held tuple in
+            let b : g (into m rd) ≡ Some v = subst (λ x. HomeHas m g x v) at k in
+            let c : g1 (into m rd) ≡ Some t = ap (λ x. g1 (at_home (first_reg m) x)) (sym held) ∙ e1 in
+            subst (λ x. HomeHas m g1 x v) (sym at) (c ∙ sym a ∙ b)
+
+    st_ok : (rd i rs : ℕ) (c : TSeq) → Nearly m L rd → Located m L.homes (lookup file) g →
+        (t : Ty) × (g (frame_reg m) ≡ Some t) → Step (St rd i rs) c
+    st_ok rd i rs c near l fr h to ts rest lf small a room below go =
+        let same : filled_type (or_int (lookup file rd)) i ≡ TupleTy (filled a.0 i) =
+        ap (λ o. filled_type (or_int o) i) a.4 in
+        let mine : TupleTy (filled (sp_fields m a.0) i) ≡ sp m (filled_type (or_int (lookup file rd)) i) =
+        ap TupleTy (sym (filled_sp m a.0 i)) ∙ ap (sp m) (sym same) in
+        load_ok m P Q labels tuples n (first_reg m) g (L.homes rd) (sp m (TupleTy a.0)) _ (l rd (TupleTy a.0) a.4)
+        (λ g1 e1 o1.
+        let s1 : (x : ℕ) → x ≤ m + 2 → g1 x ≡ g x = λ x le. o1 x (λ z. absurd (omega arith)) in
+        load_ok m P Q labels tuples n (second_reg m) g1 (L.homes rs) (sp m a.3) _
+        (stored_ok rd rs g1 (sp m (TupleTy a.0)) (sp m a.3) near (l rd (TupleTy a.0) a.4) e1 s1 (l rs a.3 a.6))
+        (λ g2 e2 o2. (
+          with_reg g2 (into m rd) (sp m (filled_type (or_int (lookup file rd)) i)),
+          (
+            sp_fields m a.0,
+            sp m a.1,
+            a.2,
+            sp m a.3,
+            ap g2 (sym (stored_at m L rd near.1))
+                ∙ o2 (at_home (first_reg m) (L.homes rd)) (stored_far m L rd (second_reg m) near.1 (omega arith)) ∙ e1,
+            field_sp m a.0 i a.1 a.2 a.5,
+            e2,
+            fits_sp m a.3 a.1 a.7,
+            ap (with_reg g2 (into m rd)) (sym mine),
+          ),
+          put_ok file L rd (filled_type (or_int (lookup file rd)) i) ts to c (way_of m L.used rd c) g g2 n rest near
+              (way_fits m L.used rd c) l
+              (λ x le. o2 x (λ z. absurd (omega arith)) ∙ s1 x le) lf.0 lf.1 small room below fr go,
+        )))
+
   module _ (file : TFile) (L : Layout) (g : RegTypes) (n : ℕ) (reg : Regular m L)
       (l : Located m L.homes (lookup file) g) (fr : (t : Ty) × (g (frame_reg m) ≡ Some t)) where
-    abbrev Types : TInstr → List Ty → List Ty
-    Types i ts = slots_by (way m L.used i) (sp m (or_int (lookup (next P file i) (defines i)))) ts
-
-    abbrev Step : TInstr → Type 0
-    Step i = (h : RegTypes) (to : TFile) (ts : List Ty) (rest : TSeq) → Left i file to →
-        BelowFile (names_after i n) to → Typed P n (lookup file) i h →
-        Room m L.used g (Types i ts) → BelowTypes n (Types i ts) →
-        After (names_after i n) L (defines i) to (way m L.used i) ts rest →
-        SeqAccepted Q n g (stepped m L (high_part m (target P file i)) i (Types i ts) to rest)
-
     up_m : (r : ℕ) → UpTo m (L.homes r)
     up_m = regular_up m m L (omega arith) reg
 
     up_2 : (r : ℕ) → UpTo (m + 2) (L.homes r)
     up_2 = regular_up m (m + 2) L (omega arith) reg
 
-    arith_ok : (op : _) (rd rs : ℕ) (v : TValue) → Step (Arith op rd rs v)
-    arith_ok op rd rs v h to ts rest lf small a room below go =
+    arith_ok : (op : _) (rd rs : ℕ) (v : TValue) (c : TSeq) → Step file L g n (Arith op rd rs v) c
+    arith_ok op rd rs v c h to ts rest lf small a room below go =
         load_ok m P Q labels tuples n (first_reg m) g (L.homes rs) IntTy _ (l rs IntTy a.0) (λ g1 e1 o1.
         load_value_ok m P Q labels tuples file L.homes g1 v IntTy n _ a.1
         (located_same m (m + 2) L.homes (lookup file) g g1 (omega arith) up_2
@@ -166,13 +220,14 @@ module _ (m : ℕ) (P Q : TProg) (labels : Labels m P Q) (tuples : Tuples m P Q)
             value_sp m P Q labels tuples n file g2 (second_at m L.homes) v IntTy k a.1,
             refl,
           ),
-          put_ok file L rd IntTy ts to (way_of m L.used rd) g g2 n rest reg (way_fits m L.used rd) l
+          put_ok file L rd IntTy ts to c (way_of m L.used rd c) g g2 n rest (regular_nearly m L rd reg)
+              (way_fits m L.used rd c) l
               (λ x le. o2 x (λ z. absurd (omega arith))
               ∙ o1 x (λ z. absurd (omega arith))) lf.0 lf.1 small room below fr go,
         )))
 
-    ld_ok : (rd rs i : ℕ) → Step (Ld rd rs i)
-    ld_ok rd rs i h to ts rest lf small a room below go =
+    ld_ok : (rd rs i : ℕ) (c : TSeq) → Step file L g n (Ld rd rs i) c
+    ld_ok rd rs i c h to ts rest lf small a room below go =
         let same : a.1 ≡ field_type (or_int (lookup file rs)) i =
         sym (ap (λ o. field_type (or_int o) i) a.2 ∙ ap type_in a.3) in
         load_ok m P Q labels tuples n (first_reg m) g (L.homes rs) (sp m (TupleTy a.0)) _ (l rs (TupleTy a.0) a.2)
@@ -185,21 +240,23 @@ module _ (m : ℕ) (P Q : TProg) (labels : Labels m P Q) (tuples : Tuples m P Q)
             field_sp m a.0 i (field_type (or_int (lookup file rs)) i) true (a.3 ∙ ap (λ y. Some (AField y true)) same),
             refl,
           ),
-          put_ok file L rd (field_type (or_int (lookup file rs)) i) ts to (way_of m L.used rd) g g1 n rest reg
-              (way_fits m L.used rd) l
+          put_ok file L rd (field_type (or_int (lookup file rs)) i) ts to c (way_of m L.used rd c) g g1 n rest
+              (regular_nearly m L rd reg)
+              (way_fits m L.used rd c) l
               (λ x le. o1 x (λ z. absurd (omega arith))) lf.0 lf.1 small room below fr go,
         ))
 
-    malloc_ok : (rd : ℕ) (us : List Ty) → Step (Malloc rd us)
-    malloc_ok rd us h to ts rest lf small a room below go = (
+    malloc_ok : (rd : ℕ) (us : List Ty) (c : TSeq) → Step file L g n (Malloc rd us) c
+    malloc_ok rd us c h to ts rest lf small a room below go = (
       with_reg g (into m rd) (sp m (TupleTy (empty_fields us))),
       (ap (λ y. with_reg g (into m rd) (TupleTy y)) (empty_sp m us), below_types m n us a.1),
-      put_ok file L rd (TupleTy (empty_fields us)) ts to (way_of m L.used rd) g g n rest reg (way_fits m L.used rd) l
+      put_ok file L rd (TupleTy (empty_fields us)) ts to c (way_of m L.used rd c) g g n rest
+          (regular_nearly m L rd reg) (way_fits m L.used rd c) l
           (λ x le. refl) lf.0 lf.1 small room below fr go,
     )
 
-    mov_ok : (rd : ℕ) (v : TValue) → Step (Mov rd v)
-    mov_ok rd v h to ts rest lf small a room below go =
+    mov_ok : (rd : ℕ) (v : TValue) (c : TSeq) → Step file L g n (Mov rd v) c
+    mov_ok rd v c h to ts rest lf small a room below go =
         load_value_ok m P Q labels tuples file L.homes g v a.0 n _ a.1 l (λ g1 k o. (
           with_reg g1 (into m rd) (sp m (type_of P file v)),
           (
@@ -208,43 +265,13 @@ module _ (m : ℕ) (P Q : TProg) (labels : Labels m P Q) (tuples : Tuples m P Q)
                 (subst (Has P n (lookup file) v) (sym (value_is P n file v a.0 a.1)) a.1),
             refl,
           ),
-          put_ok file L rd (type_of P file v) ts to (way_of m L.used rd) g g1 n rest reg (way_fits m L.used rd) l
+          put_ok file L rd (type_of P file v) ts to c (way_of m L.used rd c) g g1 n rest (regular_nearly m L rd reg)
+              (way_fits m L.used rd c) l
               (λ x le. o x (λ z. absurd (omega arith))) lf.0 lf.1 small room below fr go,
         ))
 
-    st_ok : (rd i rs : ℕ) → Step (St rd i rs)
-    st_ok rd i rs h to ts rest lf small a room below go =
-        let same : filled_type (or_int (lookup file rd)) i ≡ TupleTy (filled a.0 i) =
-        ap (λ o. filled_type (or_int o) i) a.4 in
-        let mine : TupleTy (filled (sp_fields m a.0) i) ≡ sp m (filled_type (or_int (lookup file rd)) i) =
-        ap TupleTy (sym (filled_sp m a.0 i)) ∙ ap (sp m) (sym same) in
-        load_ok m P Q labels tuples n (first_reg m) g (L.homes rd) (sp m (TupleTy a.0)) _ (l rd (TupleTy a.0) a.4)
-        (λ g1 e1 o1.
-        let s1 : (x : ℕ) → x ≤ m + 2 → g1 x ≡ g x = λ x le. o1 x (λ z. absurd (omega arith)) in
-        load_ok m P Q labels tuples n (second_reg m) g1 (L.homes rs) (sp m a.3) _
-        (located_same m (m + 2) L.homes (lookup file) g g1 (omega arith) up_2 s1 l rs a.3 a.6) (λ g2 e2 o2. (
-          with_reg g2 (into m rd) (sp m (filled_type (or_int (lookup file rd)) i)),
-          (
-            sp_fields m a.0,
-            sp m a.1,
-            a.2,
-            sp m a.3,
-            ap g2 (sym (stored_at m L rd reg))
-                ∙ o2 (at_home (first_reg m) (L.homes rd))
-                (at_far (first_reg m) m (second_reg m) (L.homes rd) (up_m rd) (λ z. absurd (omega arith))
-                (omega arith)) ∙ e1,
-            field_sp m a.0 i a.1 a.2 a.5,
-            e2,
-            fits_sp m a.3 a.1 a.7,
-            ap (with_reg g2 (into m rd)) (sym mine),
-          ),
-          put_ok file L rd (filled_type (or_int (lookup file rd)) i) ts to (way_of m L.used rd) g g2 n rest reg
-              (way_fits m L.used rd) l
-              (λ x le. o2 x (λ z. absurd (omega arith)) ∙ s1 x le) lf.0 lf.1 small room below fr go,
-        )))
-
-    unpack_ok : (rd : ℕ) (v : TValue) → Step (Unpack rd v)
-    unpack_ok rd v h to ts rest lf small a room below go =
+    unpack_ok : (rd : ℕ) (v : TValue) (c : TSeq) → Step file L g n (Unpack rd v) c
+    unpack_ok rd v c h to ts rest lf small a room below go =
         let same : a.0 ≡ hidden_type (type_of P file v) =
         sym (ap hidden_type (value_is P n file v (ExistsTy a.0) a.1)) in
         let x = shift_file 1 0 file in
@@ -260,21 +287,21 @@ module _ (m : ℕ) (P Q : TProg) (labels : Labels m P Q) (tuples : Tuples m P Q)
                 k (subst (λ y. Has P n (lookup file) v (ExistsTy y)) same a.1),
             refl,
           ),
-          put_ok (shift_file 1 0 file) L rd (hidden_type (type_of P file v)) ts to Gathers (raised g1) (raised g1)
-              (n + 1) rest reg tt l2 (λ y le. refl) lf.0 lf.1 small
+          put_ok (shift_file 1 0 file) L rd (hidden_type (type_of P file v)) ts to c Gathers (raised g1)
+              (raised g1) (n + 1) rest (regular_nearly m L rd reg) tt l2 (λ y le. refl) lf.0 lf.1 small
               (room_raised m L.used g g1 (o (slot_reg m) (λ z. absurd (omega arith))) room) tt
               (shift 1 0 fr.0, ap (option_map (shift 1 0)) (o (frame_reg m) (λ z. absurd (omega arith)) ∙ fr.1)) go,
         ))
 
-    bnz_ok : (r : ℕ) (v : TValue) → BelowFile n (target_file (type_of P file v)) →
+    bnz_ok : (r : ℕ) (v : TValue) (c : TSeq) → BelowFile n (target_file (type_of P file v)) →
         (h : RegTypes) (ts : List Ty) (rest : TSeq) → Typed P n (lookup file) (Bnz r v) h → Room m L.used g ts →
         ((h : RegTypes) → Located m L.homes (lookup file) h → Room m L.used h ts → (t : Ty)
         × (h (frame_reg m) ≡ Some t) → SeqAccepted Q n h rest) →
-        SeqAccepted Q n g (stepped m L (high_part m (target P file (Bnz r v))) (Bnz r v) ts file rest)
-    bnz_ok r v tg h ts rest a room go =
+        SeqAccepted Q n g (stepped m L (high_part m (target P file (Bnz r v))) (Bnz r v) c ts file rest)
+    bnz_ok r v c tg h ts rest a room go =
         let dest = a.1.0 in
         subst
-        (λ z. SeqAccepted Q n g (stepped m L (high_part m z) (Bnz r v) ts file rest)) (sym (target_is file v n a.1))
+        (λ z. SeqAccepted Q n g (stepped m L (high_part m z) (Bnz r v) c ts file rest)) (sym (target_is file v n a.1))
         (build_ok m P Q labels tuples L.homes (lookup file) a.1.0 g n _ (regular_up m (m + 3) L (omega arith) reg) l
         a.1.2 (subst (BelowFile n) (target_is file v n a.1) tg) (λ g1 five o1.
         load_ok m P Q labels tuples n (first_reg m) g1 (L.homes r) IntTy _
@@ -389,58 +416,59 @@ module _ (m : ℕ) (P Q : TProg) (labels : Labels m P Q) (tuples : Tuples m P Q)
 
   module _ (one : 1 ≤ m) (p q : ℕ) (files : LabelsScoped P) (fields : DataScoped P) where
     abbrev Rest : TInstr → TSeq → TFile → Type 0
-    Rest i c to = (L2 : Layout) (n2 : ℕ) (g2 : RegTypes) → Regular m L2 → ScopedRegs 0 n2 to → WellFormedSeq p q n2 c →
+    Rest i c to = (L2 : Layout) (n2 : ℕ) (g2 : RegTypes) → Ready m L2 c → ScopedRegs 0 n2 to → WellFormedSeq p q n2 c →
         SeqAccepted P n2 (lookup to) c →
         Located m L2.homes (lookup to) g2 → Room m L2.used g2 (slots m P L2.used to c) → (t : Ty)
         × (g2 (frame_reg m) ≡ Some t) → SeqAccepted Q n2 g2 (code m P L2 to c)
 
     -- an instruction in front of a rest
-    on : (i : TInstr) (c : TSeq) (L : Layout) (file : TFile) (n : ℕ) (g : RegTypes) (reg : Regular m L)
+    on : (i : TInstr) (c : TSeq) (L : Layout) (file : TFile) (n : ℕ) (g : RegTypes) (reg : ReadyFor m L i)
         (h : ScopedRegs 0 n file) (w : WellFormedSeq p q n (Then i c)) (k : SeqAccepted P n (lookup file) (Then i c))
         (l : Located m L.homes (lookup file) g) (room : Room m L.used g (slots m P L.used file (Then i c)))
         (fr : (t : Ty) × (g (frame_reg m) ≡ Some t)) →
-        Step file L g n reg l fr i → Rest i c (kept P file i c) → SeqAccepted Q n g (code m P L file (Then i c))
+        Step file L g n i c → Rest i c (kept P file i c) → SeqAccepted Q n g (code m P L file (Then i c))
     on i c L file n g reg h w k l room fr st go =
         let to = kept P file i c in
         let acc = subst (λ z. SeqAccepted P (names_after i n) z c) (next_is P n file i k.0 k.1) k.2 in
         let after2 = scoped_kept P p q files fields i (names_after i n) file c
         (scoped_next P p q files fields i n file k.0 h w.0 k.1) in
-        let same = used_is m L (defines i) (kept P file i c) (way m L.used i) in
+        let same = used_is m L (defines i) (kept P file i c) (way m L.used i c) in
         subst (SeqAccepted Q n g) (sym (step_is m P L file i c _))
-        (st k.0 (kept P file i c) (slots m P (used_by (way m L.used i) L.used) (kept P file i c) c) _
+        (st k.0 (kept P file i c) (slots m P (used_by (way m L.used i c) L.used) (kept P file i c) c) _
         (left i file c (scoped_ascends n file h)) (below_file 0 (names_after i n) (kept P file i c) after2) k.1
         room
         (slots_below p q files fields (Then i c) file L.used n h w k)
-        (λ g2 x r f. go (after m L i (kept P file i c)) (names_after i n) g2 (way_sound m L i (kept P file i c) reg)
+        (λ g2 x r f. go (after m L i c (kept P file i c)) (names_after i n) g2 (way_ready m L i c (kept P file i c) reg)
         after2 w.2 (kept_accepted P i (names_after i n) file c acc) x
         (subst (λ u. Room m u g2 (slots m P u (kept P file i c) c)) (sym same) r) f))
 
-    pub code_ok : (c : TSeq) (L : Layout) (file : TFile) (n : ℕ) (g : RegTypes) → Regular m L → ScopedRegs 0 n file →
+    pub code_ok : (c : TSeq) (L : Layout) (file : TFile) (n : ℕ) (g : RegTypes) → Ready m L c → ScopedRegs 0 n file →
         WellFormedSeq p q n c → SeqAccepted P n (lookup file) c →
         Located m L.homes (lookup file) g → Room m L.used g (slots m P L.used file c) → (t : Ty)
         × (g (frame_reg m) ≡ Some t) → SeqAccepted Q n g (code m P L file c)
     code_ok (Then (Bnz r v) c) L file n g reg h w k l room fr =
         subst (SeqAccepted Q n g) (sym (step_is m P L file (Bnz r v) c _))
-        (bnz_ok file L g n reg l fr r v (below_target p q files fields n file v h w.0.1 k.1.1) k.0
+        (bnz_ok file L g n reg l fr r v c (below_target p q files fields n file v h w.0.1 k.1.1) k.0
         (slots m P L.used file c) _ k.1 room
-        (λ g2 x y f. code_ok c L file n g2 reg h w.2 (subst (λ z. SeqAccepted P n z c) k.1.2 k.2) x y f))
+        (λ g2 x y f. code_ok c L file n g2 (regular_ready m L c reg) h w.2 (subst
+        (λ z. SeqAccepted P n z c) k.1.2 k.2) x y f))
     code_ok (Then (Arith op rd rs v) c) L file n g reg h w k l room fr =
-        on (Arith op rd rs v) c L file n g reg h w k l room fr (arith_ok file L g n reg l fr op rd rs v)
+        on (Arith op rd rs v) c L file n g reg h w k l room fr (arith_ok file L g n reg l fr op rd rs v c)
         (λ L2 n2 g2 a b d e x y f. code_ok c L2 _ n2 g2 a b d e x y f)
     code_ok (Then (Ld rd rs i) c) L file n g reg h w k l room fr =
-        on (Ld rd rs i) c L file n g reg h w k l room fr (ld_ok file L g n reg l fr rd rs i)
+        on (Ld rd rs i) c L file n g reg h w k l room fr (ld_ok file L g n reg l fr rd rs i c)
         (λ L2 n2 g2 a b d e x y f. code_ok c L2 _ n2 g2 a b d e x y f)
     code_ok (Then (Malloc rd us) c) L file n g reg h w k l room fr =
-        on (Malloc rd us) c L file n g reg h w k l room fr (malloc_ok file L g n reg l fr rd us)
+        on (Malloc rd us) c L file n g reg h w k l room fr (malloc_ok file L g n reg l fr rd us c)
         (λ L2 n2 g2 a b d e x y f. code_ok c L2 _ n2 g2 a b d e x y f)
     code_ok (Then (Mov rd v) c) L file n g reg h w k l room fr =
-        on (Mov rd v) c L file n g reg h w k l room fr (mov_ok file L g n reg l fr rd v)
+        on (Mov rd v) c L file n g reg h w k l room fr (mov_ok file L g n reg l fr rd v c)
         (λ L2 n2 g2 a b d e x y f. code_ok c L2 _ n2 g2 a b d e x y f)
     code_ok (Then (St rd i rs) c) L file n g reg h w k l room fr =
-        on (St rd i rs) c L file n g reg h w k l room fr (st_ok file L g n reg l fr rd i rs)
+        on (St rd i rs) c L file n g reg h w k l room fr (st_ok file L g n rd i rs c reg l fr)
         (λ L2 n2 g2 a b d e x y f. code_ok c L2 _ n2 g2 a b d e x y f)
     code_ok (Then (Unpack rd v) c) L file n g reg h w k l room fr =
-        on (Unpack rd v) c L file n g reg h w k l room fr (unpack_ok file L g n reg l fr rd v)
+        on (Unpack rd v) c L file n g reg h w k l room fr (unpack_ok file L g n reg l fr rd v c)
         (λ L2 n2 g2 a b d e x y f. code_ok c L2 _ n2 g2 a b d e x y f)
     code_ok (Ends (Jmp v)) L file n g reg h w k l room fr =
         jmp_ok file L g n reg l fr v (below_target p q files fields n file v h w k) k
@@ -457,7 +485,8 @@ module _ (m : ℕ) (P Q : TProg) (labels : Labels m P Q) (tuples : Tuples m P Q)
         (λ r t le e. split_low m (sp_regs m b.file) r le ∙ look_sp m b.file r t e) fr in (
           (
             below_split b.owes m (sp_regs m b.file) (below_regs m b.owes b.file h.0.0),
-            code_ok b.code (layout m b.file) b.file b.owes g (gathered_regular m _) s w.0.2 h.0.1 l tt
+            code_ok b.code (layout m b.file) b.file b.owes g
+                (regular_ready m (layout m b.file) b.code (gathered_regular m _)) s w.0.2 h.0.1 l tt
                 (TupleTy (frame (high_part m (sp_regs m b.file))), fr),
           ),
           blocks_ok bs w.1 h.1,

@@ -116,7 +116,7 @@ origin_most (n ∷ ns) k = go (nat_lt k n) (origin_most ns (k - n))
     go false h = omega arith
 
 sizes_length : (top : ℕ) (P : TProg) (c : TSeq) (L : Layout) (x : TFile) → length (sizes top P L x c) ≡ thens c
-sizes_length top P (Then i c) L x = ap suc (sizes_length top P c (laid top L i (kept P x i c)) (kept P x i c))
+sizes_length top P (Then i c) L x = ap suc (sizes_length top P c (laid top L i c (kept P x i c)) (kept P x i c))
 sizes_length top P (Ends e) L x = refl
 
 -- a step to the next instruction leaves one instruction less
@@ -253,7 +253,7 @@ within : (top : ℕ) (P : TProg) (L : Layout) (x : TFile) (c : TSeq) (j left k :
 within top P L x (Then i c) j left k e low le =
     let to = kept P x i c in
     let a = then_size top P L x i c in
-    origin_first (length (step top P L x i c)) (sizes top P (laid top L i to) to c) k (omega (arith, a, e, low, le))
+    origin_first (length (step top P L x i c)) (sizes top P (laid top L i c to) to c) k (omega (arith, a, e, low, le))
 within top P L x (Ends t) j left k e low le = refl
 
 module _ (top : ℕ) (some : 1 ≤ top) (P : TProg) (whole : WellFormedProgram P) (acc : Accepted P) where

@@ -21,7 +21,8 @@ use Rattle.t_spill_rules.specs.Spill.{target_file, or_int, next, numbers, kept, 
 use Rattle.t_spill_rules.specs.Spill.{homed, target, before, does}
 use Rattle.t_spill_rules.proofs.Parts.{joined, loading, step_is}
 use Rattle.t_spill_rules.specs.Spill.{position, gathered, layout, at_home, load, load_value, second_at, fill, build}
-use Rattle.t_spill_rules.specs.Spill.{defines, into, Way, Stays, Fills, Gathers, most_slots, way_of, way, after_way}
+use Rattle.t_spill_rules.specs.Spill.{defines, into, Way, Stays, Holds, Fills, Gathers, most_slots, way_of, way}
+use Rattle.t_spill_rules.specs.Spill.{after_way}
 use Rattle.t_spill_rules.specs.Spill.{after}
 use Rattle.t_spill_rules.specs.Spill.{slots_by, used_by, slots, fill_slot, finish, code, sp_block, sp_blocks}
 use Rattle.t_spill_rules.specs.Spill.{sp_data}
@@ -32,8 +33,8 @@ use Rattle.t_spill_laws.proofs.Kept.{KeptFew, kept_few, knows_first}
 use Rattle.t_spill_laws.proofs.Scopes.{Scoped, scoped_regs, well_formed, regs_above, LabelsScoped, DataScoped}
 use Rattle.t_spill_laws.proofs.Scopes.{scoped_ascends, scoped_value, scoped_next, scoped_kept, labels_scoped}
 use Rattle.t_spill_laws.proofs.Scopes.{data_scoped}
-use Rattle.t_spill_laws.proofs.Homes.{Sound, Regular, into_case, homed_both, WayFits, way_fits, gathered_regular}
-use Rattle.t_spill_laws.proofs.Homes.{way_sound}
+use Rattle.t_spill_laws.proofs.Homes.{Sound, Loose, into_case, homed_both, WayFits, way_fits, gathered_regular}
+use Rattle.t_spill_laws.proofs.Homes.{regular_loose, way_loose}
 use Rattle.t_spill_laws.proofs.Erased.{highs}
 
 -- parts of files
@@ -104,20 +105,23 @@ near_gathered m qs le = ((λ r. go r (nat_lt m r)), omega arith)
 highs_few : (m n : ℕ) (to : TFile) → RegsAbove 0 n to → length (highs m to) ≤ max_number
 highs_few m n to h = let a = small 0 n (high_part m to) (omega arith) (high_above m 0 n to h) in omega (arith, a)
 
-near_way : (m n : ℕ) (L : Layout) (rd : ℕ) (to : TFile) (w : Way) → WayFits m L.used rd w → RegsAbove 0 n to →
+near_way : (m n : ℕ) (L : Layout) (rd : ℕ) (c : TSeq) (to : TFile) (w : Way) → WayFits m L.used rd c w →
+    RegsAbove 0 n to →
     NearLayout L → NearLayout (after_way m L rd to w)
-near_way m n L rd to Stays k h l = l
-near_way m n L rd to Fills k h l =
+near_way m n L rd c to Stays k h l = l
+near_way m n L rd c to Holds k h l =
+    ((λ r. homed_both L.homes rd r (Held (into m rd)) Near (λ e. tt) (λ ne. l.0 r)), l.1)
+near_way m n L rd c to Fills k h l =
     let lt = k.1 in
     ((λ r. homed_both L.homes rd r (InSlot L.used) Near (λ e. omega (arith, lt)) (λ ne. l.0 r)), omega (arith, lt))
-near_way m n L rd to Gathers k h l = near_gathered m (highs m to) (highs_few m n to h)
+near_way m n L rd c to Gathers k h l = near_gathered m (highs m to) (highs_few m n to h)
 
-near_after : (m n : ℕ) (L : Layout) (i : TInstr) (to : TFile) → RegsAbove 0 n to → NearLayout L →
-    NearLayout (after m L i to)
-near_after m n L (Bnz r v) to h l = l
-near_after m n L (Unpack rd v) to h l = near_way m n L rd to Gathers tt h l
-near_after m n L i to h l =
-    near_way m n L (defines i) to (way_of m L.used (defines i)) (way_fits m L.used (defines i)) h l
+near_after : (m n : ℕ) (L : Layout) (i : TInstr) (c : TSeq) (to : TFile) → RegsAbove 0 n to → NearLayout L →
+    NearLayout (after m L i c to)
+near_after m n L (Bnz r v) c to h l = l
+near_after m n L (Unpack rd v) c to h l = near_way m n L rd c to Gathers tt h l
+near_after m n L i c to h l =
+    near_way m n L (defines i) c to (way_of m L.used (defines i) c) (way_fits m L.used (defines i) c) h l
 
 module _ (m : ℕ) (fit : m + 6 ≤ max_number) where
   -- types
@@ -179,10 +183,16 @@ module _ (m : ℕ) (fit : m + 6 ≤ max_number) where
   at_own used t r (InFrame i) s h k = h
   at_own used t r (InSlot i) s h k = h
 
-  second_own : (L : Layout) (r : ℕ) → Regular m L → IsRegister r → IsRegister (second_at m L.homes r)
-  second_own L r reg h = at_own L.used (second_reg m) r (L.homes r) (reg r) (own 4 (omega arith) (omega arith)) h
+  kept_own : (L : Layout) (t r : ℕ) → Loose m L → IsRegister t → IsRegister r → IsRegister (at_home t (L.homes r))
+  kept_own L t r reg h k = ⊎_elim
+      (λ (s : Sound m L.used r (L.homes r)). at_own L.used t r (L.homes r) s h k)
+      (λ (e : L.homes r ≡ Held (into m r)). subst (λ x. IsRegister (at_home t x)) (sym e) (into_own r k))
+      (reg r)
 
-  homed_own : (L : Layout) (rd r : ℕ) → Regular m L → IsRegister rd → IsRegister r →
+  second_own : (L : Layout) (r : ℕ) → Loose m L → IsRegister r → IsRegister (second_at m L.homes r)
+  second_own L r reg h = kept_own L (second_reg m) r reg (own 4 (omega arith) (omega arith)) h
+
+  homed_own : (L : Layout) (rd r : ℕ) → Loose m L → IsRegister rd → IsRegister r →
       IsRegister (second_at m (homed L.homes rd (Held (into m rd))) r)
   homed_own L rd r reg hd h =
       homed_both L.homes rd r (Held (into m rd)) (λ x. IsRegister (at_home (second_reg m) x)) (λ e. into_own rd hd)
@@ -259,10 +269,11 @@ module _ (m : ℕ) (fit : m + 6 ≤ max_number) where
       slot_well (suc j) ts rest le h k =
           ((own 2 (omega arith) (omega arith), omega (arith, le), own 3 (omega arith) (omega arith)), few, k)
 
-      finish_well : (L : Layout) (rd : ℕ) (ts : List Ty) (to : TFile) (w : Way) (rest : TSeq) → Regular m L →
+      finish_well : (L : Layout) (rd : ℕ) (ts : List Ty) (to : TFile) (w : Way) (rest : TSeq) → Loose m L →
           NearLayout L → IsRegister rd → RegsAbove 0 n to → WellFormedTypes n ts → WellFormedSeq p2 q n rest →
           WellFormedSeq p2 q n (before (finish m L rd ts to w) rest)
       finish_well L rd ts to Stays rest reg l hd h ht k = k
+      finish_well L rd ts to Holds rest reg l hd h ht k = k
       finish_well L rd ts to Fills rest reg l hd h ht k = slot_well L.used ts rest l.1 ht k
       finish_well L rd ts to Gathers rest reg l hd h ht k =
           let homes = homed L.homes rd (Held (into m rd)) in
@@ -270,9 +281,9 @@ module _ (m : ℕ) (fit : m + 6 ≤ max_number) where
           (build_well homes to _ (λ r. homed_near L rd r l) (λ r z. homed_own L rd r reg hd z) h
           (mov_well (frame_reg m) (made_reg m) rest one_own (own 5 (omega arith) (omega arith)) k))
 
-    module _ (L : Layout) (reg : Regular m L) (near : NearLayout L) where
+    module _ (L : Layout) (reg : Loose m L) (near : NearLayout L) where
       first_own : (r : ℕ) → IsRegister r → IsRegister (at_home (first_reg m) (L.homes r))
-      first_own r h = at_own L.used (first_reg m) r (L.homes r) (reg r) (own 3 (omega arith) (omega arith)) h
+      first_own r h = kept_own L (first_reg m) r reg (own 3 (omega arith) (omega arith)) h
 
       value_here : (n : ℕ) (v : TValue) → WellFormedValue p q n v →
           WellFormedValue p2 q n (sp_value m (second_at m L.homes) v)
@@ -319,13 +330,14 @@ module _ (m : ℕ) (fit : m + 6 ≤ max_number) where
       does_well (St rd i rs) n rest few w k = ((into_own rd w.0, w.1, second_own L rs reg w.2), few, k)
       does_well (Unpack rd v) n rest few w k = ((into_own rd w.0, value_here n v w.1), few, k)
 
-      word_well : (i : TInstr) (n : ℕ) (ts : List Ty) (to : TFile) (rest : TSeq) → names_after i n ≤ max_names →
+      word_well : (i : TInstr) (c : TSeq) (n : ℕ) (ts : List Ty) (to : TFile) (rest : TSeq) →
+          names_after i n ≤ max_names →
           RegsAbove 0 (names_after i n) to → WellFormedTypes (names_after i n) ts → WellFormedInstr p q n i →
           WellFormedSeq p2 q (names_after i n) rest →
-          WellFormedSeq p2 q (names_after i n) (before (finish m L (defines i) ts to (way m L.used i)) rest)
-      word_well (Bnz r v) n ts to rest few nx ht w k = k
-      word_well i n ts to rest few nx ht w k =
-          finish_well (names_after i n) few L (defines i) ts to (way m L.used i) rest reg near w.0 nx ht k
+          WellFormedSeq p2 q (names_after i n) (before (finish m L (defines i) ts to (way m L.used i c)) rest)
+      word_well (Bnz r v) c n ts to rest few nx ht w k = k
+      word_well i c n ts to rest few nx ht w k =
+          finish_well (names_after i n) few L (defines i) ts to (way m L.used i c) rest reg near w.0 nx ht k
 
     module _ (P : TProg) (labels : LabelsScoped P) (tuples : DataScoped P) where
       enters_above : (n : ℕ) (x : TFile) (v : TValue) → RegsAbove 0 n x → WellFormedValue p q n v →
@@ -346,15 +358,16 @@ module _ (m : ℕ) (fit : m + 6 ≤ max_number) where
       by_well : (n : ℕ) (w : Way) (t : Ty) (ts : List Ty) → WellFormed n t → WellFormedTypes n ts →
           WellFormedTypes n (slots_by w t ts)
       by_well n Stays t ts h k = k
+      by_well n Holds t ts h k = k
       by_well n Fills t ts h k = (h, k)
       by_well n Gathers t ts h k = tt
 
       -- there are none before an unpack
-      back_well : (i : TInstr) (used n : ℕ) (t : Ty) (ts : List Ty) →
-          WellFormedTypes (names_after i n) (slots_by (way m used i) t ts) →
-          WellFormedTypes n (slots_by (way m used i) t ts)
-      back_well (Unpack rd v) used n t ts h = tt
-      back_well _ used n t ts h = h
+      back_well : (i : TInstr) (c : TSeq) (used n : ℕ) (t : Ty) (ts : List Ty) →
+          WellFormedTypes (names_after i n) (slots_by (way m used i c) t ts) →
+          WellFormedTypes n (slots_by (way m used i c) t ts)
+      back_well (Unpack rd v) c used n t ts h = tt
+      back_well _ c used n t ts h = h
 
       next_above : (i : TInstr) (c : TSeq) (n : ℕ) (x : TFile) → RegsAbove 0 n x → WellFormedSeq p q n (Then i c) →
           (k : SeqAccepted P n (lookup x) (Then i c)) → KeptFew P n x (Then i c) →
@@ -376,10 +389,10 @@ module _ (m : ℕ) (fit : m + 6 ≤ max_number) where
           SeqAccepted P n (lookup x) c → KeptFew P n x c → WellFormedTypes n (slots m P used x c)
       slots_well (Then i c) used n x h w k f =
           let nx = next_above i c n x h w k f in
-          let rest = slots_well c (used_by (way m used i) used) (names_after i n) (kept P x i c) nx.1 w.2
+          let rest = slots_well c (used_by (way m used i c) used) (names_after i n) (kept P x i c) nx.1 w.2
           (rest_accepted i c n x k) f.3 in
-          back_well i used n _ _
-          (by_well (names_after i n) (way m used i) _ _
+          back_well i c used n _ _
+          (by_well (names_after i n) (way m used i c) _ _
           (sp_well (names_after i n) _ (type_well (names_after i n) 0 (defines i) (next P x i) nx.0)) rest)
       slots_well (Ends e) used n x h w k f = tt
 
@@ -389,12 +402,12 @@ module _ (m : ℕ) (fit : m + 6 ≤ max_number) where
           WellFormedTypes (names_after i n) (slots m P used x (Then i c))
       types_after i c used n x h w k f =
           let nx = next_above i c n x h w k f in
-          let rest = slots_well c (used_by (way m used i) used) (names_after i n) (kept P x i c) nx.1 w.2
+          let rest = slots_well c (used_by (way m used i c) used) (names_after i n) (kept P x i c) nx.1 w.2
           (rest_accepted i c n x k) f.3 in
-          by_well (names_after i n) (way m used i) _ _
+          by_well (names_after i n) (way m used i c) _ _
           (sp_well (names_after i n) _ (type_well (names_after i n) 0 (defines i) (next P x i) nx.0)) rest
 
-      pub code_well : (c : TSeq) (L : Layout) (n : ℕ) (x : TFile) → Regular m L → NearLayout L → n ≤ max_names →
+      pub code_well : (c : TSeq) (L : Layout) (n : ℕ) (x : TFile) → Loose m L → NearLayout L → n ≤ max_names →
           RegsAbove 0 n x → WellFormedSeq p q n c → SeqAccepted P n (lookup x) c → KeptFew P n x c →
           WellFormedSeq p2 q n (code m P L x c)
       code_well (Then i c) L n x reg near few h w k f =
@@ -402,10 +415,10 @@ module _ (m : ℕ) (fit : m + 6 ≤ max_number) where
           subst (WellFormedSeq p2 q n) (sym (step_is m P L x i c _))
           (loading_well L reg near i n (target P x i) _ few (instr_above i n x k.0 h w.0 k.1 f.0)
           (does_well L reg near i n _ w.1 w.0
-          (word_well L reg near i n (slots m P L.used x (Then i c)) (kept P x i c) _ w.1 nx.1
+          (word_well L reg near i c n (slots m P L.used x (Then i c)) (kept P x i c) _ w.1 nx.1
           (types_after i c L.used n x h w k f) w.0
-          (code_well c (after m L i (kept P x i c)) (names_after i n) (kept P x i c)
-          (way_sound m L i (kept P x i c) reg) (near_after m (names_after i n) L i (kept P x i c) nx.1 near) w.1
+          (code_well c (after m L i c (kept P x i c)) (names_after i n) (kept P x i c)
+          (way_loose m L i c (kept P x i c) reg) (near_after m (names_after i n) L i c (kept P x i c) nx.1 near) w.1
           nx.1 w.2 (rest_accepted i c n x k) f.3))))
       code_well (Ends (Jmp v)) L n x reg near few h w k f =
           build_well n few L.homes (target_file (type_of P x v)) _ near.0 (λ s z. second_own L s reg z)
@@ -425,7 +438,8 @@ module _ (m : ℕ) (fit : m + 6 ≤ max_number) where
             (
               w.0.0,
               split_well b.owes (sp_regs m b.file) (regs_well 0 b.owes b.file w.0.1),
-              code_well b.code (layout m b.file) b.owes b.file (gathered_regular m (highs m b.file))
+              code_well b.code (layout m b.file) b.owes b.file
+                  (regular_loose m (layout m b.file) (gathered_regular m (highs m b.file)))
                   (near_gathered m (highs m b.file) (highs_few m b.owes b.file w.0.1)) w.0.0 w.0.1 w.0.2 k.0.1
                   (kept_few P b.code b.owes b.file b.file knows f.0),
             ),

@@ -34,20 +34,21 @@ loads_are m homes high (St rd i rs) rest = before_both (load m (first_reg m) (ho
 loads_are m homes high _ rest = refl
 
 -- with slots of the types ts, and where `to` is known afterwards
-abbrev pub stepped : ℕ → Layout → TFile → TInstr → List Ty → TFile → TSeq → TSeq
-stepped m L high i ts to rest =
-    loading m L.homes high i (before (does m L.homes i) (before (finish m L (defines i) ts to (way m L.used i)) rest))
+abbrev pub stepped : ℕ → Layout → TFile → TInstr → TSeq → List Ty → TFile → TSeq → TSeq
+stepped m L high i c ts to rest =
+    loading m L.homes high i (before (does m L.homes i)
+    (before (finish m L (defines i) ts to (way m L.used i c)) rest))
 
 pub step_parts : (m : ℕ) (P : TProg) (L : Layout) (x : TFile) (i : TInstr) (c rest : TSeq) →
     before (step m P L x i c) rest
     ≡ before (loads m L.homes (high_part m (target P x i)) i) (before (does m L.homes i)
-    (before (finish m L (defines i) (slots m P L.used x (Then i c)) (kept P x i c) (way m L.used i)) rest))
+    (before (finish m L (defines i) (slots m P L.used x (Then i c)) (kept P x i c) (way m L.used i c)) rest))
 step_parts m P L x i c rest =
     before_both (loads m L.homes (high_part m (target P x i)) i ++ does m L.homes i)
-    (finish m L (defines i) (slots m P L.used x (Then i c)) (kept P x i c) (way m L.used i)) rest
+    (finish m L (defines i) (slots m P L.used x (Then i c)) (kept P x i c) (way m L.used i c)) rest
     ∙ before_both (loads m L.homes (high_part m (target P x i)) i) (does m L.homes i) _
 
 pub step_is : (m : ℕ) (P : TProg) (L : Layout) (x : TFile) (i : TInstr) (c rest : TSeq) →
     before (step m P L x i c) rest
-    ≡ stepped m L (high_part m (target P x i)) i (slots m P L.used x (Then i c)) (kept P x i c) rest
+    ≡ stepped m L (high_part m (target P x i)) i c (slots m P L.used x (Then i c)) (kept P x i c) rest
 step_is m P L x i c rest = step_parts m P L x i c rest ∙ loads_are m L.homes (high_part m (target P x i)) i _

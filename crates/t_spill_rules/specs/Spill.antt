@@ -296,48 +296,64 @@ defines (Unpack rd v) = rd
 abbrev pub into : ℕ → ℕ → ℕ
 into m rd = cond (nat_lt m rd) (first_reg m) rd
 
--- What becomes of it: it stays there, or it goes into the next slot, or into a new frame with all that the rest wants.
--- A new frame is made after each unpack, since the types of older fields cannot name the type variable that it binds,
--- and where the slots have come to their greatest number.
+-- whether an instruction stores into the tuple of the register, and whether a sequence begins with one that does
+abbrev pub stores_by : ℕ → TInstr → Bool
+stores_by rd (St r i rs) = nat_eq r rd
+stores_by rd _ = false
+
+abbrev pub stores : ℕ → TSeq → Bool
+stores rd (Then i rest) = stores_by rd i
+stores rd (Ends e) = false
+
+-- What becomes of it: it stays there, or it is held there for the next instruction, which stores into its tuple, or it
+-- goes into the next slot, or into a new frame with all that the rest wants. A new frame is made after each unpack,
+-- since the types of older fields cannot name the type variable that it binds, and where the slots have come to their
+-- greatest number.
 pub data Way : Type 0 where
   Stays : Way
+  Holds : Way
   Fills : Way
   Gathers : Way
 
 abbrev pub most_slots : ℕ
 most_slots = 1000
 
-abbrev pub way_of : ℕ → ℕ → ℕ → Way
-way_of m used rd = cond (nat_lt m rd) (cond (nat_lt used most_slots) Fills Gathers) Stays
+abbrev pub way_of : ℕ → ℕ → ℕ → TSeq → Way
+way_of m used rd rest =
+    cond (nat_lt m rd) (cond (nat_lt used most_slots) (cond (stores rd rest) Holds Fills) Gathers) Stays
 
-abbrev pub way : ℕ → ℕ → TInstr → Way
-way m used (Bnz r v) = Stays
-way m used (Unpack rd v) = Gathers
-way m used i = way_of m used (defines i)
+-- where `rest` follows
+abbrev pub way : ℕ → ℕ → TInstr → TSeq → Way
+way m used (Bnz r v) rest = Stays
+way m used (Unpack rd v) rest = Gathers
+way m used i rest = way_of m used (defines i) rest
 
 -- the layout after it, where the file `to` is known then
 abbrev pub after_way : ℕ → Layout → ℕ → TFile → Way → Layout
 after_way m L rd to Stays = L
+after_way m L rd to Holds = record { homes = homed L.homes rd (Held (into m rd)); used = L.used }
 after_way m L rd to Fills = record { homes = homed L.homes rd (InSlot L.used); used = suc L.used }
 after_way m L rd to Gathers = layout m to
 
-abbrev pub after : ℕ → Layout → TInstr → TFile → Layout
-after m L i to = after_way m L (defines i) to (way m L.used i)
+abbrev pub after : ℕ → Layout → TInstr → TSeq → TFile → Layout
+after m L i rest to = after_way m L (defines i) to (way m L.used i rest)
 
 -- the types of the slots that a sequence fills before the next frame is made, where some are used already
 abbrev pub slots_by : Way → Ty → List Ty → List Ty
 slots_by Stays t ts = ts
+slots_by Holds t ts = ts
 slots_by Fills t ts = t ∷ ts
 slots_by Gathers t ts = []
 
 abbrev pub used_by : Way → ℕ → ℕ
 used_by Stays used = used
+used_by Holds used = used
 used_by Fills used = suc used
 used_by Gathers used = 0
 
 abbrev pub slots : ℕ → TProg → ℕ → TFile → TSeq → List Ty
-slots m P used file (Then i rest) = slots_by (way m used i) (sp m (or_int (lookup (next P file i) (defines i))))
-    (slots m P (used_by (way m used i) used) (kept P file i rest) rest)
+slots m P used file (Then i rest) = slots_by (way m used i rest) (sp m (or_int (lookup (next P file i) (defines i))))
+    (slots m P (used_by (way m used i rest) used) (kept P file i rest) rest)
 slots m P used file (Ends e) = []
 
 -- the word in the first register goes into the next slot; where none is used, all of them are made
@@ -348,6 +364,7 @@ fill_slot m (suc j) types = St (slot_reg m) (suc j) (first_reg m) ∷ []
 -- a word where it was computed, put where it goes
 abbrev pub finish : ℕ → Layout → ℕ → List Ty → TFile → Way → List TInstr
 finish m L rd types to Stays = []
+finish m L rd types to Holds = []
 finish m L rd types to Fills = fill_slot m L.used types
 finish m L rd types to Gathers = gather m (homed L.homes rd (Held (into m rd))) (high_part m to)
 
@@ -379,7 +396,7 @@ does m homes (Unpack rd v) = Unpack (into m rd) (sp_value m (second_at m homes) 
 abbrev pub step : ℕ → TProg → Layout → TFile → TInstr → TSeq → List TInstr
 step m P L file i rest =
     loads m L.homes (high_part m (target P file i)) i ++ does m L.homes i
-    ++ finish m L (defines i) (slots m P L.used file (Then i rest)) (kept P file i rest) (way m L.used i)
+    ++ finish m L (defines i) (slots m P L.used file (Then i rest)) (kept P file i rest) (way m L.used i rest)
 
 -- the code of an end
 abbrev pub ended : ℕ → (ℕ → Home) → TFile → TEnd → TSeq
@@ -390,13 +407,13 @@ ended m homes high Halt = Ends Halt
 
 abbrev pub code : ℕ → TProg → Layout → TFile → TSeq → TSeq
 code m P L file (Then i rest) =
-    before (step m P L file i rest) (code m P (after m L i (kept P file i rest)) (kept P file i rest) rest)
+    before (step m P L file i rest) (code m P (after m L i rest (kept P file i rest)) (kept P file i rest) rest)
 code m P L file (Ends e) = ended m L.homes (high_part m (end_target P file e)) e
 
 -- the number of instructions in the code of each instruction of a sequence
 abbrev pub sizes : ℕ → TProg → Layout → TFile → TSeq → List ℕ
 sizes m P L file (Then i rest) =
-    length (step m P L file i rest) ∷ sizes m P (after m L i (kept P file i rest)) (kept P file i rest) rest
+    length (step m P L file i rest) ∷ sizes m P (after m L i rest (kept P file i rest)) (kept P file i rest) rest
 sizes m P L file (Ends e) = []
 
 abbrev pub sp_block : ℕ → TProg → TBlock → TBlock

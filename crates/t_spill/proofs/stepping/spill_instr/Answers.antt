@@ -36,14 +36,14 @@ settle-requires c =
     let b = h.4 in
     let read = c.in_ok-read.ensures h.0 h.1 b.knows ∙ ap (λ o. alone o h.1) c.subject_of.ensures in
     let k = c.in_ok-compute.ensures h.0 h.1 h.2 h.3 b read in
-    (h.0, h.1, h.2, h.3, k.1, b.ready.0, read)
+    (h.0, h.1, h.2, h.3, k.1, b.ready.0, read, h.5)
 
 pub returns : goal.returns
 returns c =
     on_ok_weaker c.settle.result
-    (λ h n y x s b.
+    (λ h n y x s b st.
     let read = c.in_ok-read.ensures n y b.knows ∙ ap (λ o. alone o y) c.subject_of.ensures in
     let k = c.in_ok-compute.ensures n y x s b read in
-    let g = h n y x s k.1 read in
+    let g = h n y x s k.1 read st in
     (g.0 ∙ k.0, g.1, g.2 ∙ k.2))
     c.settle.ensures

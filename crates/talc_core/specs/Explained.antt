@@ -15,10 +15,10 @@ use Rattle.talc_core.specs.Shown.{Showing}
 abbrev pub explained : (name text : List ℕ) → Fault → Told → List ℕ
 explained name text (Source code span) told =
     page name text (source_code code) (source_words code) span.start span.end told.value told.lines
-    (source_hint_at text code span told.form)
+    (source_hint_at text code span told.lines told.form)
 explained name text (Tal code span) told =
     page name text (tal_code code) (tal_words code) span.start span.end told.value told.lines
-    (tal_hint_at text code span)
+    (tal_hint_at text code span told.lines)
 
 abbrev pub no_fault : List ℕ
 no_fault = codes "no fault\n"

@@ -1,4 +1,5 @@
 mod HintRows
+mod WalkLemmas
 mod ValueLemmas
 mod BelowLemmas
 mod PathLemmas

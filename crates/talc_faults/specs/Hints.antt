@@ -1,216 +1,170 @@
--- A sentence for a fault: that of the first row that applies to what stands at the place, or to the form of the type
--- that is found; else that of the code. All of it is our own choice, and none is longer than 100 bytes.
-use Rattle.std.specs.Prelude.{ℕ, ◌==◌, Bool, not, false, ◌&&◌, min, List, [], ◌∷◌, drop, length, if◌then◌else◌, codes}
-use Rattle.std.specs.Prelude.{bytes_eq}
-use Rattle.text_core.specs.Byte.{digit, letter, of_word}
+-- A sentence for a fault: that of the first row of the table for its code whose tests all hold of what stands around
+-- the place and of what is told; else that of the code. The code reads the same tables. All of it is our own choice, and
+-- none is longer than 100 bytes.
+use Rattle.std.specs.Prelude.{ℕ, List, [], drop, map, codes, bytes_eq, if◌then◌else◌}
 use Rattle.idx_core.specs.declared.span.Span.{Span}
 use Rattle.f_terms.specs.declared.fault.Code.{Code}
-use Rattle.f_terms.specs.declared.fault.Code.TheVariants.{E01, E03, E05, E06, E07, E09, E10, E12, E15, E21}
+use Rattle.f_terms.specs.declared.fault.Code.TheVariants.{E01, E03, E04, E05, E06, E07, E08, E09, E10, E12, E13, E14}
+use Rattle.f_terms.specs.declared.fault.Code.TheVariants.{E15, E21}
 use Rattle.t_terms.specs.declared.fault.TCode.{TCode}
-use Rattle.t_terms.specs.declared.fault.TCode.TheVariants.{T01, T03}
+use Rattle.t_terms.specs.declared.fault.TCode.TheVariants.{T01, T03, T05, T20}
 use Rattle.talc_faults.specs.declared.type_form.Form.{Form}
-use Rattle.talc_faults.specs.declared.type_form.Form.TheVariants.{Integer, Function, Polymorphic, Tuple, Reference}
-use Rattle.talc_faults.specs.Around.{bytes_at, sign_of, word_before, byte_before, first_byte}
-use Rattle.talc_faults.specs.Words.{names, opens, makes, chooses, tests, defines, divides, is_type, calls}
+use Rattle.talc_faults.specs.declared.type_form.Form.TheVariants.{Untold, Integer, Variable, Function, Polymorphic}
+use Rattle.talc_faults.specs.declared.type_form.Form.TheVariants.{Tuple, Package, Reference}
+use Rattle.talc_faults.specs.declared.walk.Seen.{Seen}
+use Rattle.talc_faults.specs.declared.walk.Seen.TheVariants.{Nowhere, Own, Ended}
+use Rattle.talc_faults.specs.declared.token_table.TheConstants.{E03_FIRST, E03_ROWS, E03_LAST}
+use Rattle.talc_faults.specs.declared.source_table.TheConstants.{E01_ROWS, E04_ROWS, E05_ROWS}
+use Rattle.talc_faults.specs.declared.source_table.TheConstants.{E06_ROWS, E07_ROWS, E08_ROWS}
+use Rattle.talc_faults.specs.declared.source_table.TheConstants.{E09_ROWS, E10_ROWS, E12_ROWS, E13_ROWS}
+use Rattle.talc_faults.specs.declared.source_table.TheConstants.{E14_ROWS, E15_ROWS, E21_ROWS}
+use Rattle.talc_faults.specs.declared.assembly_table.TheConstants.{T01_ROWS, T03_FIRST, T03_ROWS, T05_ROWS, T20_ROWS}
+use Rattle.talc_faults.specs.Around.{bytes_at}
+use Rattle.talc_faults.specs.Words.{owns}
+use Rattle.talc_faults.specs.Walk.{token_at, token_behind, walked}
+use Rattle.talc_faults.specs.Choice.{Place, Tests, pick}
 use Rattle.talc_faults.specs.Sentences.{source_sentence, tal_sentence}
+
+-- ---- what stands around a place
+
+-- the bracket that is open, or the word that it belongs to: the one before it, or the `fix` before its name
+abbrev pub inside_of : (bracket by behind : List ℕ) → List ℕ
+inside_of bracket by behind =
+    if bytes_eq behind (codes "fix") then behind
+    else if owns by then by
+    else bracket
+
+abbrev pub place_of : List ℕ → Span → (told kind : List ℕ) → Place
+place_of text span told kind =
+    let before = bytes_at text 0 span.start in
+    let w = walked before [] (walked before [] 0).depth in
+    record {
+      told = told;
+      kind = kind;
+      inside = inside_of (token_at before w.bracket) (token_at before w.by) (token_at before w.behind);
+      earlier = token_at before w.before;
+      before = token_at before w.last;
+      found = bytes_at text span.start span.end;
+      behind = token_behind (drop span.end text);
+    }
 
 -- ---- of a source
 
--- a byte that begins no token (E01): `;`, `/`, `%`, `\`, `"`, `'`, `{`, `}`, `&`, `|`, the first of a Greek small
--- letter,
--- as of a lambda, and of a byte order mark
-abbrev pub byte_hint : ℕ → List ℕ
-byte_hint byte =
-    if byte == 59 then codes "there is no `;`: a step before another one is named, as in `let u = c := 1 in ..`" else
-    if byte == 47 then codes "there is no division (docs/HOWTO.md makes one), and a comment begins with `--`" else
-    if byte == 37 then codes "there is no remainder: docs/HOWTO.md makes one by `+`, `-` and `*`" else
-    if byte == 92 then codes "a function is `fix f(x:T1):T2. e`, with the types that it takes and gives" else
-    if byte == 34 then codes "there are no texts: values are integers, functions, tuples, packages and cells" else
-    if byte == 39 then codes "there are no texts, and a name has no `'`: letters, digits and `_` make a name" else
-    if byte == 123 then
-    codes "`{ }` is of assembly, which begins with `tal 1` or `tal 2`; here `( )` and `< >` group" else
-    if byte == 125 then
-    codes "`{ }` is of assembly, which begins with `tal 1` or `tal 2`; here `( )` and `< >` group" else
-    if byte == 38 then codes "there are no truth values: `if0(e, a, b)` tests whether an integer is 0" else
-    if byte == 124 then codes "there are no truth values: `if0(e, a, b)` tests whether an integer is 0" else
-    if byte == 206 then codes "a function is `fix f(x:T1):T2. e`, with the types that it takes and gives" else
-    if byte == 239 then codes
-    "the text begins with bytes that are not its own: save it as plain ASCII, with no byte order mark" else
-    source_sentence E01
+abbrev pub byte_rows : List (Tests × List ℕ)
+byte_rows = map (λ r. (map (λ t. (t.0, t.1.now)) r.0.now, r.1.now)) E01_ROWS
 
--- a token that no program has there (E03), by its sign: `=`, `(`, `)`, `.`, `:`, `,`, `-`, `>`, `[`
-abbrev pub sign_hint : ℕ → List ℕ
-sign_hint sign =
-    if sign == 61 then codes
-    "`=` stands in a `let` or an `open`; a `fix` has a dot there; a is b where `if0(a - b, ..)` says so" else
-    if sign == 40 then codes "a `let` takes no arguments: `let f = fix f(x:T1):T2. e in ..` names a function" else
-    if sign == 46 then codes "a `fix` has its result's type before the dot, `fix f(x:T1):T2. e`; a field, `#1 e`" else
-    if sign == 58 then codes "a `let` names no type, `let x = e in ..`; a `fix` names two, `fix f(x:T1):T2. e`" else
-    if sign == 44 then codes
-    "fields stand in `< >`, as in `f <1, 2>`; an `if0` has three parts, and a `let` names one value" else
-    if sign == 45 then codes "a negative number is written with `~`, as `~5`: a `-` stands between two numbers" else
-    if sign == 41 then codes
-    "this `)` closes nothing, or an expression is missing before it; and `a < b` is no test" else
-    if sign == 62 then codes "there is no order: docs/HOWTO.md makes `less`; here a `>` ends a tuple, `<1, 2>`" else
-    if sign == 91 then codes "`[ ]` has types, `e[int]`, or names: a tuple is `<1, 2>`, and its first field `#1 e`" else
-    source_sentence E03
+abbrev pub first_token_rows : List (Tests × List ℕ)
+first_token_rows = map (λ r. (map (λ t. (t.0, t.1.now)) r.0.now, r.1.now)) E03_FIRST
 
--- a word, by its first byte
-abbrev pub begins_word : List ℕ → Bool
-begins_word [] = false
-begins_word (b ∷ s) = letter b
+abbrev pub token_rows : List (Tests × List ℕ)
+token_rows = map (λ r. (map (λ t. (t.0, t.1.now)) r.0.now, r.1.now)) E03_ROWS
 
--- the same, by its word, and by the word before it: a word behind what a name stands behind is one of the language
-abbrev pub token_hint : (previous word : List ℕ) → List ℕ
-token_hint previous word =
-    if bytes_eq previous (codes "if0") then codes "a choice is `if0(e, a, b)`: a where e is 0, and else b"
-    else if names previous && begins_word word then
-    codes "a name stands here, and this word is one of the language's own: take another one"
-    else if opens word then
-    codes "an `in` is missing before it: `let x = e in ..` names x for what stands behind the `in`"
-    else if makes word then codes "where a `fix` or a `gen` is an argument or an operand, it stands in `( )`"
-    else if bytes_eq word (codes "in") then
-    codes "an expression is missing before this `in`, or it closes no `let` and no `open`"
-    else if bytes_eq word (codes "->") then codes "`->` stands in types alone: a function is `fix f(x:T1):T2. e`"
-    else sign_hint (sign_of word)
+abbrev pub last_token_rows : List (Tests × List ℕ)
+last_token_rows = map (λ r. (map (λ t. (t.0, t.1.now)) r.0.now, r.1.now)) E03_LAST
 
--- a name that nothing binds (E05)
-abbrev pub name_hint : List ℕ → List ℕ
-name_hint word =
-    if chooses word then codes "a choice is `if0(e, a, b)`: a where e is 0, and else b"
-    else if tests word then codes "there are no truth values: an `if0` takes its first branch where its integer is 0"
-    else if defines word then codes "a function is `fix f(x:T1):T2. e`, also one that does not call itself"
-    else if divides word then codes "there is no division: docs/HOWTO.md makes one by `+`, `-` and `*`"
-    else source_sentence E05
+abbrev pub name_rows : List (Tests × List ℕ)
+name_rows = map (λ r. (map (λ t. (t.0, t.1.now)) r.0.now, r.1.now)) E05_ROWS
 
--- a type name that nothing binds (E06)
-abbrev pub type_hint : List ℕ → List ℕ
-type_hint word =
-    if is_type word then codes "the types are `int`, `T1 -> T2`, `<T1, T2>`, `all a. T`, `some a. T` and `ref T`"
-    else source_sentence E06
+abbrev pub end_rows : List (Tests × List ℕ)
+end_rows = map (λ r. (map (λ t. (t.0, t.1.now)) r.0.now, r.1.now)) E04_ROWS
 
--- what is called (E07), by the form of its type
-abbrev pub called_hint : Form → List ℕ
-called_hint Integer = codes "a number is not called: a comma, a sign or an `in` may be missing before what follows it"
-called_hint Polymorphic = codes "this takes a type before its argument, as in `e[int] x`"
-called_hint Reference = codes "`ref f x` is `(ref f) x`: write `ref (f x)`; and what a cell c holds is `!c`"
-called_hint Tuple = codes "a tuple is not called: take the field that is a function, as in `(#1 e) x`"
-called_hint other = source_sentence E07
+abbrev pub call_rows : List (Tests × List ℕ)
+call_rows = map (λ r. (map (λ t. (t.0, t.1.now)) r.0.now, r.1.now)) E07_ROWS
 
--- what takes a type (E09)
-abbrev pub applied_hint : Form → List ℕ
-applied_hint Function = codes "this takes an argument, and no type: `f x`; a `gen a. e` takes a type, `e[T]`"
-applied_hint other = source_sentence E09
+abbrev pub operand_rows : List (Tests × List ℕ)
+operand_rows = map (λ r. (map (λ t. (t.0, t.1.now)) r.0.now, r.1.now)) E12_ROWS
 
--- of what a field is taken (E10)
-abbrev pub projected_hint : Form → List ℕ
-projected_hint Function = codes "`#1 f x` is `(#1 f) x`: the field of what f gives is `#1 (f x)`"
-projected_hint Reference = codes "what a cell c holds is `!c`, so its field is `#1 !c`"
-projected_hint other = source_sentence E10
+abbrev pub cell_rows : List (Tests × List ℕ)
+cell_rows = map (λ r. (map (λ t. (t.0, t.1.now)) r.0.now, r.1.now)) E21_ROWS
 
--- an operand (E12)
-abbrev pub operand_hint : Form → List ℕ
-operand_hint Function = codes "a function is no integer: an argument may be missing, and `f -5` is `f ~5`"
-operand_hint Tuple = codes "a tuple is no integer: take a field of it, as in `#1 e`"
-operand_hint Reference = codes "a cell is no integer: what the cell c holds is `!c`"
-operand_hint Polymorphic = codes "this is no integer: it takes a type first, as in `e[int]`"
-operand_hint other = source_sentence E12
+abbrev pub argument_rows : List (Tests × List ℕ)
+argument_rows = map (λ r. (map (λ t. (t.0, t.1.now)) r.0.now, r.1.now)) E08_ROWS
 
--- the whole (E15)
-abbrev pub whole_hint : Form → List ℕ
-whole_hint Function = codes "a program's value is an integer: this is a function, so an argument may be missing"
-whole_hint Tuple = codes "a program's value is an integer: take a field of the tuple, or go on behind it"
-whole_hint Reference = codes "a program's value is an integer: what the cell c holds is `!c`"
-whole_hint other = source_sentence E15
+abbrev pub source_rows : Code → List (Tests × List ℕ)
+source_rows E01 = byte_rows
+source_rows E03 = token_rows
+source_rows E04 = end_rows
+source_rows E05 = name_rows
+source_rows E06 = map (λ r. (map (λ t. (t.0, t.1.now)) r.0.now, r.1.now)) E06_ROWS
+source_rows E07 = call_rows
+source_rows E08 = argument_rows
+source_rows E09 = map (λ r. (map (λ t. (t.0, t.1.now)) r.0.now, r.1.now)) E09_ROWS
+source_rows E10 = map (λ r. (map (λ t. (t.0, t.1.now)) r.0.now, r.1.now)) E10_ROWS
+source_rows E12 = operand_rows
+source_rows E13 = map (λ r. (map (λ t. (t.0, t.1.now)) r.0.now, r.1.now)) E13_ROWS
+source_rows E14 = map (λ r. (map (λ t. (t.0, t.1.now)) r.0.now, r.1.now)) E14_ROWS
+source_rows E15 = map (λ r. (map (λ t. (t.0, t.1.now)) r.0.now, r.1.now)) E15_ROWS
+source_rows E21 = cell_rows
+source_rows other = []
 
--- what is read or assigned (E21)
-abbrev pub cell_hint : Form → List ℕ
-cell_hint Function = codes "`! f x` is `(! f) x`: what the cell that f gives holds is `! (f x)`"
-cell_hint other = source_sentence E21
+-- the rows that come before those
+abbrev pub first_rows : Code → List (Tests × List ℕ)
+first_rows E03 = first_token_rows
+first_rows other = []
 
--- by the code, with the bytes at the place, the word before it, and the form of the type that is found
-abbrev pub source_hint : Code → (previous word : List ℕ) → Form → List ℕ
-source_hint E01 previous word form = byte_hint (sign_of word)
-source_hint E03 previous word form = token_hint previous word
-source_hint E05 previous word form = name_hint word
-source_hint E06 previous word form = type_hint word
-source_hint E07 previous word form = called_hint form
-source_hint E09 previous word form = applied_hint form
-source_hint E10 previous word form = projected_hint form
-source_hint E12 previous word form = operand_hint form
-source_hint E15 previous word form = whole_hint form
-source_hint E21 previous word form = cell_hint form
-source_hint code previous word form = source_sentence code
+-- the rows that come after those
+abbrev pub last_rows : Code → List (Tests × List ℕ)
+last_rows E03 = last_token_rows
+last_rows other = []
+
+-- the word for a form
+abbrev pub form_word : Form → List ℕ
+form_word Untold = codes "untold"
+form_word Integer = codes "integer"
+form_word Variable = codes "variable"
+form_word Function = codes "function"
+form_word Polymorphic = codes "polymorphic"
+form_word Tuple = codes "tuple"
+form_word Package = codes "package"
+form_word Reference = codes "reference"
+
+-- the word for where a name is bound that is bound nowhere around its place: by a `let` whose value it stands in, by
+-- what has ended, further down only, or nowhere
+abbrev pub behind_word : Seen → List ℕ
+behind_word Nowhere = codes "nowhere"
+behind_word other = codes "later"
+
+abbrev pub seen_word : (before all : Seen) → List ℕ
+seen_word Own all = codes "own"
+seen_word Ended all = codes "ended"
+seen_word Nowhere all = behind_word all
+
+-- the word for the form, or of a name that nothing binds for where it is bound
+abbrev pub source_kind : (text before found : List ℕ) → Code → Form → List ℕ
+source_kind text before found E05 form = seen_word (walked before found 0).seen (walked text found 0).seen
+source_kind text before found other form = form_word form
 
 -- of a fault of a text at a place
-abbrev pub source_hint_at : List ℕ → Code → Span → Form → List ℕ
-source_hint_at text code span form =
-    source_hint code (word_before text (min (length text) span.start)) (bytes_at text span.start span.end) form
+abbrev pub source_hint_at : List ℕ → Code → Span → (told : List ℕ) → Form → List ℕ
+source_hint_at text code span told form =
+    let before = bytes_at text 0 span.start in
+    let kind = source_kind text before (bytes_at text span.start span.end) code form in
+    let place = place_of text span told kind in
+    pick place (first_rows code)
+    (pick place (source_rows code) (pick place (last_rows code) (source_sentence code)))
 
 -- ---- of an assembly text
 
--- a byte that begins no token (T01): `;`, `/`, `-`, `#`, `$`, `%`
-abbrev pub tal_byte_hint : ℕ → List ℕ
-tal_byte_hint byte =
-    if byte == 59 then codes "a comment begins with `--`, and nothing stands between two instructions" else
-    if byte == 47 then codes "a comment begins with `--`, and nothing stands between two instructions" else
-    if byte == 45 then codes "a negative number is written with `~`, as `~5`" else
-    if byte == 35 then codes "a register is `r1`, and a number is written as it is: `mov r1, 5`" else
-    if byte == 36 then codes "a register is `r1`, and a number is written as it is: `mov r1, 5`" else
-    if byte == 37 then codes "a register is `r1`, and a number is written as it is: `mov r1, 5`" else
-    tal_sentence T01
+abbrev pub first_instruction_rows : List (Tests × List ℕ)
+first_instruction_rows = map (λ r. (map (λ t. (t.0, t.1.now)) r.0.now, r.1.now)) T03_FIRST
 
--- a word with `:` behind it, and neither `<` nor `,` before it: a label, and no word of data
-abbrev pub is_label : (behind before : ℕ) → Bool
-is_label behind before = behind == 58 && not (before == 60) && not (before == 44)
+abbrev pub instruction_rows : List (Tests × List ℕ)
+instruction_rows = map (λ r. (map (λ t. (t.0, t.1.now)) r.0.now, r.1.now)) T03_ROWS
 
--- a token that no program has there (T03): a word, by the signs behind and before it
-abbrev pub tal_word_hint : List ℕ → (behind before : ℕ) → List ℕ
-tal_word_hint word behind before =
-    if bytes_eq word (codes "code") then codes "`code` begins a block: the type of code is `all[..]{..}`"
-    else if is_label behind before then codes "a block ends with `jmp` or `halt[int]`, before the next label"
-    else if bytes_eq word (codes "bz") then codes "there is `bnz` alone: it jumps where the register is not 0"
-    else if calls word then codes "there are no calls: what goes on stands in a register (docs/TARGETING.md)"
-    else tal_sentence T03
+abbrev pub tal_rows : TCode → List (Tests × List ℕ)
+tal_rows T01 = map (λ r. (map (λ t. (t.0, t.1.now)) r.0.now, r.1.now)) T01_ROWS
+tal_rows T03 = instruction_rows
+tal_rows T05 = map (λ r. (map (λ t. (t.0, t.1.now)) r.0.now, r.1.now)) T05_ROWS
+tal_rows T20 = map (λ r. (map (λ t. (t.0, t.1.now)) r.0.now, r.1.now)) T20_ROWS
+tal_rows other = []
 
--- a number, by the sign before it: behind `,`, a letter and `[`
-abbrev pub tal_number_hint : ℕ → List ℕ
-tal_number_hint before =
-    if letter before then codes "a register stands here: put the number into one before, by `mov r1, 5`" else
-    if before == 44 then codes "a register stands here: put the number into one before, by `mov r1, 5`" else
-    if before == 91 then codes "behind a value stand types in `[ ]`: a field is loaded by `ld r1, r2[0]`" else
-    tal_sentence T03
-
--- another sign: `,`, `>`
-abbrev pub tal_sign_hint : ℕ → List ℕ
-tal_sign_hint sign =
-    if sign == 44 then codes
-    "fields of types have flags, `<int^1>`, those of data types, `<5 : int>`; a store is `st r1[0], r2`" else
-    if sign == 62 then codes
-    "fields of types have flags, `<int^1>`, those of data types, `<5 : int>`; a store is `st r1[0], r2`" else
-    tal_sentence T03
-
--- a token, by the byte that it begins with, and the signs behind and before it; none, where the text ends
-abbrev pub tal_token_hint : List ℕ → (behind before : ℕ) → List ℕ
-tal_token_hint [] behind before = codes "the text ends too early: a block ends with `jmp` or `halt[int]`"
-tal_token_hint (b ∷ s) behind before =
-    if digit b then tal_number_hint before
-    else if b == 126 then tal_number_hint before
-    else if of_word b then tal_word_hint (b ∷ s) behind before
-    else tal_sign_hint (sign_of (b ∷ s))
-
--- the same, by the word before it
-abbrev pub tal_unexpected_hint : (previous word : List ℕ) → (behind before : ℕ) → List ℕ
-tal_unexpected_hint previous word behind before =
-    if bytes_eq previous (codes "halt") then codes "the result of a program has a type: `halt[int]`"
-    else if bytes_eq previous (codes "tal") then codes "a text begins with `tal 1`, or with `tal 2` where it has data"
-    else tal_token_hint word behind before
+-- the rows that come before those
+abbrev pub first_tal_rows : TCode → List (Tests × List ℕ)
+first_tal_rows T03 = first_instruction_rows
+first_tal_rows other = []
 
 -- of a fault of a text at a place
-abbrev pub tal_hint_at : List ℕ → TCode → Span → List ℕ
-tal_hint_at text T01 span = tal_byte_hint (sign_of (bytes_at text span.start span.end))
-tal_hint_at text T03 span =
-    let start = min (length text) span.start in
-    tal_unexpected_hint (word_before text start) (bytes_at text span.start span.end)
-    (first_byte (drop span.end text)) (byte_before text start)
-tal_hint_at text code span = tal_sentence code
+abbrev pub tal_hint_at : List ℕ → TCode → Span → (told : List ℕ) → List ℕ
+tal_hint_at text code span told =
+    let place = place_of text span told [] in
+    pick place (first_tal_rows code) (pick place (tal_rows code) (tal_sentence code))

@@ -1,5 +1,7 @@
 pub mod Around
 pub mod Words
+pub mod Walk
+pub mod Choice
 pub mod Sentences
 pub mod Hints
 pub mod Line

@@ -43,7 +43,7 @@ fn source_note<'a>(name: &'a [u8], text: &[u8], code: Code, place: Span, told: &
     ensures place { result.place ≡ place }
     ensures value { result.value ≡ told.now.value }
     ensures odds { result.odds.now ≡ told.now.lines.items }
-    ensures hint { result.hint.now ≡ source_hint_at text.now code place told.now.form }
+    ensures hint { result.hint.now ≡ source_hint_at text.now code place told.now.lines.items told.now.form }
 {
     Note {
         name,
@@ -52,7 +52,7 @@ fn source_note<'a>(name: &'a [u8], text: &[u8], code: Code, place: Span, told: &
         place,
         value: told.value,
         odds: &told.lines,
-        hint: source_hint(text, code, place, told.form),
+        hint: source_hint(text, code, place, &told.lines, told.form),
     }
 }
 
@@ -64,7 +64,7 @@ fn tal_note<'a>(name: &'a [u8], text: &[u8], code: TCode, place: Span, told: &'a
     ensures place { result.place ≡ place }
     ensures value { result.value ≡ told.now.value }
     ensures odds { result.odds.now ≡ told.now.lines.items }
-    ensures hint { result.hint.now ≡ tal_hint_at text.now code place }
+    ensures hint { result.hint.now ≡ tal_hint_at text.now code place told.now.lines.items }
 {
     Note {
         name,
@@ -73,7 +73,7 @@ fn tal_note<'a>(name: &'a [u8], text: &[u8], code: TCode, place: Span, told: &'a
         place,
         value: told.value,
         odds: &told.lines,
-        hint: tal_hint(text, code, place),
+        hint: tal_hint(text, code, place, &told.lines),
     }
 }
 

@@ -135,7 +135,8 @@ def passes():
 BOXES = [
     ("what every side uses", 0, 0.5), ("f: the source", 1, 0), ("k: CPS", 2, 0), ("c: closed", 3, 0), ("h: hoisted", 4, 0),
     ("a: allocated", 5, 0), ("t: the assembly language", 2, 1), ("t: checker and machine", 4, 3),
-    ("t: code generation", 6, 0.5), ("t: the bound on registers", 4, 2), ("words, forms, all passes", 7, 1.5),
+    ("t: code generation", 6, 0.5), ("t: the bound on registers", 4, 2), ("w: word code", 5, 3),
+    ("x: the processor", 6, 3), ("words, forms, all passes", 7, 1.5),
     ("the tool", 8, 1.5), ("libraries for C, a host", 9, 1), ("tests and rows", 9, 2),
 ]
 

@@ -1,0 +1,9 @@
+pub mod Bounds
+pub mod Building
+pub mod DataWalks
+pub mod Generated
+pub mod Onto
+pub mod Puts
+pub mod Rooms
+pub mod Shares
+pub mod Walks

@@ -1,0 +1,13 @@
+pub mod Advance
+pub mod Data
+pub mod Enough
+pub mod Fitting
+pub mod Layouts
+pub mod Main
+pub mod Mallocs
+pub mod Runtimes
+pub mod Showing
+pub mod Starting
+pub mod Steps
+pub mod Translating
+pub mod Words

@@ -1,0 +1,3 @@
+pub mod Digits
+pub mod Gather
+pub mod Runs

@@ -1,0 +1,14 @@
+-- How a file comes of a program: by word code. Nothing that is promised rests on this file.
+use Rattle.std.specs.Prelude.{ℕ, List}
+use Rattle.t_terms.specs.Tree.{TProg}
+use Rattle.w_terms.specs.Tree.{WProg}
+use Rattle.w_gen.specs.Limits.{IsTooLarge, IsBuiltInFull}
+use Rattle.x_program.specs.Made.{IsMade}
+use Rattle.native.specs.Native.{native_registers, native_base}
+
+-- the file is that of word code which is built of the program
+pub record IsMadeOf (heap : ℕ) (P : TProg) (file : List ℕ) : Type 0 where
+  pub small : IsTooLarge (native_base P) heap P → ⊥
+  pub code : WProg
+  pub built : IsBuiltInFull P (native_base P) heap code
+  pub made : IsMade (native_registers P) code file

@@ -1,5 +1,5 @@
 -- From word code that means what the program does, and a file of that word code, to native code of the program.
-use Rattle.std.proofs.Common.{◌≡◌, ℕ, ◌+◌, ℤ, List, [], ◌∷◌, Some, ap, subst, inl, inr, slice_get}
+use Rattle.std.proofs.Common.{◌≡◌, ℕ, ◌+◌, ℤ, List, [], ◌∷◌, Some, ap, sym, subst, inl, inr, slice_get}
 use Rattle.t_terms.specs.Tree.{TProg}
 use Rattle.t_terms.specs.ReadProgram.{program as program_tree}
 use Rattle.t_terms.specs.declared.program.TProgram.{TProgram}
@@ -20,9 +20,10 @@ use Rattle.x_laws.specs.Laws.{places, held_words, EndsLike, BehavesAs, CompiledC
 use Rattle.x_laws.specs.Laws.{CompiledCodeHasPlaces}
 use Rattle.x_laws.proofs.Results.{is_process}
 use Rattle.x_pass.specs.Homes.{home}
-use Rattle.w_gen.specs.Limits.{registers_of, IsTooLarge, IsBuiltInFull}
+use Rattle.w_gen.specs.Data.{word_code}
+use Rattle.w_gen.specs.Limits.{registers_of, IsTooLarge}
 use Rattle.x_program.specs.Made.{base_of, HasRoom, IsMade}
-use Rattle.native.specs.Native.{IsNative, MakesFewTuples, IsInBounds, IsOutOfBounds, native_registers, native_base}
+use Rattle.native.specs.Native.{IsNative, MakesFewTuples, IsInBounds, native_registers, native_base}
 use Rattle.native.specs.Made.{IsMadeOf}
 
 -- the end of a process that writes a line and exits with 0
@@ -88,7 +89,7 @@ pub code_is_native : EachBuiltMeansTheSame → EnoughAtFirst → CompiledCodeBeh
 code_is_native means_same enough_first behaves have_places p q same accepted heap file made =
     subst (λ (t : TProgram). IsNative heap (program_tree t) file) same
     (is_native means_same enough_first behaves have_places (program_tree q) q.whole accepted
-    (native_base (program_tree q)) heap (native_registers (program_tree q)) made.code made.built.0 file made.made)
+    (native_base (program_tree q)) heap (native_registers (program_tree q)) made.code made.built file made.made)
 
 -- it is in bounds
 pub in_bounds : (p q : TProgram) → q ≡ p → (heap : ℕ) (file : List ℕ) → IsMadeOf heap (program_tree q) file →
@@ -96,28 +97,29 @@ pub in_bounds : (p q : TProgram) → q ≡ p → (heap : ℕ) (file : List ℕ) 
 in_bounds p q same heap file made =
     subst (λ (t : TProgram). IsInBounds heap (program_tree t)) same (record {
       small = made.small;
-      code = made.code;
-      built = made.built;
-      room = made.made.fits;
+      room = subst (HasRoom (native_registers (program_tree q))) made.is made.made.fits;
     })
 
--- a file of word code that is built of a program comes of the program, which has n registers
+-- The program has n registers. A file of its word code comes of it.
 module _ (heap n : ℕ) (P : TProg) (count : n ≡ registers_of P) where
   pub made_of : (W : WProg) (file : List ℕ) → (IsTooLarge (base_of (n + 16)) heap P → ⊥) →
-      IsBuiltInFull P (base_of (n + 16)) heap W → IsMade (n + 16) W file → IsMadeOf heap P file
-  made_of W file small built made = record {
+      W ≡ word_code P (base_of (n + 16)) heap → IsBuilt P (base_of (n + 16)) heap W → IsMade (n + 16) W file →
+      IsMadeOf heap P file
+  made_of W file small is built made = record {
     small = subst (λ k. IsTooLarge (base_of (k + 16)) heap P → ⊥) count small;
     code = W;
-    built = subst (λ k. IsBuiltInFull P (base_of (k + 16)) heap W) count built;
+    is = subst (λ k. W ≡ word_code P (base_of (k + 16)) heap) count is;
+    built = subst (λ k. IsBuilt P (base_of (k + 16)) heap W) count built;
     made = subst (λ k. IsMade (k + 16) W file) count made;
   }
 
-  -- and it is out of bounds where its word code has no room
-  pub no_room : (W : WProg) → IsBuiltInFull P (base_of (n + 16)) heap W → (HasRoom (n + 16) W → ⊥) →
-      IsOutOfBounds heap P
-  no_room W built none =
-      inr (
-        W,
-        subst (λ k. IsBuiltInFull P (base_of (k + 16)) heap W) count built,
-        subst (λ k. HasRoom (k + 16) W → ⊥) count none,
-      )
+  -- it is out of bounds where there is no word code, or that has no room
+  pub not_coded : IsTooLarge (base_of (n + 16)) heap P → IsInBounds heap P → ⊥
+  not_coded large bounds = bounds.small (subst (λ k. IsTooLarge (base_of (k + 16)) heap P) count large)
+
+  pub no_room : (W : WProg) → W ≡ word_code P (base_of (n + 16)) heap → (HasRoom (n + 16) W → ⊥) →
+      IsInBounds heap P → ⊥
+  no_room W is none bounds =
+      subst (λ k. HasRoom (k + 16) W → ⊥) count none
+      (subst (HasRoom (native_registers P))
+      (sym (subst (λ k. W ≡ word_code P (base_of (k + 16)) heap) count is)) bounds.room)

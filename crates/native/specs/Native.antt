@@ -1,14 +1,14 @@
 -- What native code of a program is: an executable file whose processes do what the program does; and which programs
 -- have none, because they are too large.
-use Rattle.std.specs.Prelude.{◌≡◌, ◌≤◌, ◌+◌, ◌⊎◌, ℕ, ℤ, List, Some, slice_get}
+use Rattle.std.specs.Prelude.{◌≡◌, ◌≤◌, ◌+◌, ℕ, ℤ, List, Some, slice_get}
 use Rattle.t_terms.specs.Tree.{TBlock, TProg}
 use Rattle.t_rules.specs.Machine.{Halts, HaltedAfter}
 use Rattle.t_rules.specs.Erase.{EAt, erase_block, erase_blocks, erase_heap, no_ewords}
-use Rattle.w_terms.specs.Tree.{WProg}
 use Rattle.w_print.specs.Blocks.{integer_line}
 use Rattle.w_laws.specs.Built.{first_use, full_line}
 use Rattle.w_laws.specs.Enough.{bytes_made}
-use Rattle.w_gen.specs.Limits.{registers_of, IsTooLarge, IsBuiltInFull}
+use Rattle.w_gen.specs.Data.{word_code}
+use Rattle.w_gen.specs.Limits.{registers_of, IsTooLarge}
 use Rattle.x_terms.specs.Machine.{Answer, State}
 use Rattle.x_terms.specs.Elf.{IsExecutable, IsStart, image}
 use Rattle.x_terms.specs.Process.{EndsWithLine, IsProcessOf}
@@ -43,17 +43,8 @@ native_registers P = registers_of P + 16
 abbrev pub native_base : TProg → ℕ
 native_base P = base_of (native_registers P)
 
--- The program is in bounds: it names no register from 2 ^ 20 on and no field from 2 ^ 28 on, and word code of it, memory
+-- The program is in bounds: it names no register from 2 ^ 20 on and no field from 2 ^ 28 on, and its word code, memory
 -- for so many bytes of heap with it, has room in a process.
 pub record IsInBounds (heap : ℕ) (P : TProg) : Type 0 where
   pub small : IsTooLarge (native_base P) heap P → ⊥
-  pub code : WProg
-  pub built : IsBuiltInFull P (native_base P) heap code
-  pub room : HasRoom (native_registers P) code
-
--- It is out of bounds: it names a register or a field past its bound, or its memory ends past 2 ^ 47, or word code of it
--- has no room.
-abbrev pub IsOutOfBounds : ℕ → TProg → Type 0
-IsOutOfBounds heap P =
-    IsTooLarge (native_base P) heap P
-    ⊎ ((code : WProg) × IsBuiltInFull P (native_base P) heap code × (HasRoom (native_registers P) code → ⊥))
+  pub room : HasRoom (native_registers P) (word_code P (native_base P) heap)

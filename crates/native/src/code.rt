@@ -2,7 +2,7 @@
 ghost use Rattle.std.specs.Prelude.{◌≡◌, ◌%◌, ◌<◌, IfOk, IfErr};
 ghost use Rattle.t_terms.specs.ReadProgram.{program as program_tree};
 ghost use Rattle.t_check.specs.Checked.{checked_program};
-ghost use Rattle.native.specs.Native.{IsNative, IsInBounds, IsOutOfBounds};
+ghost use Rattle.native.specs.Native.{IsNative, IsInBounds};
 ghost use Rattle.native.specs.Made.{IsMadeOf};
 
 use crate::error::NativeError;
@@ -21,7 +21,7 @@ fn file_of(alloc: Global, program: &TProgram, heap: u64) -> Result<Vec<u8>, Nati
     requires some { 0 < heap }
     ensures made { IfOk result (λ file. IsMadeOf heap (program_tree program.now) file.items) }
     ensures large { IfErr result
-        (λ why. why ≡ NativeError.TooLarge → IsOutOfBounds heap (program_tree program.now)) }
+        (λ why. why ≡ NativeError.TooLarge → IsInBounds heap (program_tree program.now) → ⊥) }
 {
     let named = registers(program)?;
     let many = named + 16;
@@ -33,7 +33,7 @@ fn file_of(alloc: Global, program: &TProgram, heap: u64) -> Result<Vec<u8>, Nati
 
 /// An executable file for Linux on x86-64 of a checked program, with a heap of so many bytes. Run, it shows the integer
 /// with which the program halts and ends with 0, with 6 where the system does not take that line, or with 7 for want of
-/// memory; it goes on for ever where the program does. `TooLarge` is answered only where the program is out of bounds.
+/// memory; it goes on for ever where the program does. `TooLarge` is answered where the program is out of bounds.
 pub fn native_code(alloc: Global, checked: &Checked, heap: u64) -> Result<Vec<u8>, NativeError>
     requires pages { heap % 4096 ≡ 0 }
     requires some { 0 < heap }
@@ -41,7 +41,7 @@ pub fn native_code(alloc: Global, checked: &Checked, heap: u64) -> Result<Vec<u8
         (λ file. ∥ IsNative heap (program_tree (checked_program checked.now)) file.items ∥₁) }
     ensures fits { IfOk result (λ _. IsInBounds heap (program_tree (checked_program checked.now))) }
     ensures large { IfErr result
-        (λ why. why ≡ NativeError.TooLarge → IsOutOfBounds heap (program_tree (checked_program checked.now))) }
+        (λ why. why ≡ NativeError.TooLarge → IsInBounds heap (program_tree (checked_program checked.now)) → ⊥) }
 {
     each_built_keeps_meaning();
     few_tuples_are_enough();

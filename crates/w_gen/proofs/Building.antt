@@ -13,7 +13,7 @@ use Rattle.w_rooms.specs.Numbers.{entry}
 use Rattle.w_laws.specs.Code.{own_words, data_size, data_words}
 use Rattle.w_laws.specs.Translate.{blocks_of, codes_of}
 use Rattle.w_laws.specs.Built.{IsBuilt, layout_of, program_layout, runtime_blocks, runtime_words}
-use Rattle.w_gen.specs.Data.{addresses_of, generated}
+use Rattle.w_gen.specs.Data.{addresses_of, generated, word_code}
 use Rattle.w_gen.specs.Limits.{IsPlan, IsTooLarge, IsWide, IsBuiltInFull, registers_of, highest_field}
 use Rattle.w_gen.specs.declared.memory.Plan.{Plan}
 use Rattle.w_gen.proofs.Bounds.{all_small}
@@ -81,6 +81,10 @@ module _ (P : TProg) (base heap : ℕ) (whole : Whole P) (aligned : base % 8 ≡
     is_built W e =
         let f = h.fits in
         subst (IsBuiltInFull P base heap) (sym (e ∙ same)) (built h.short (subst (λ t. t < 2 ^ 47) top f))
+
+    pub is_code : (W : WProg) → W ≡ generated p.base ((p.parts.top - p.base) / 8) p.many
+        (runtime_blocks (layout p.parts) p.base p.heap p.many) (runtime_words p.many) P → W ≡ word_code P base heap
+    is_code W e = e ∙ same
 
 pub not_large : (P : TProg) (base heap : ℕ) (p : Plan) → IsPlan P base heap p → IsTooLarge base heap P → ⊥
 not_large P base heap p h = ⊎_elim

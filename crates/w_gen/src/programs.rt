@@ -6,7 +6,7 @@ ghost use Rattle.w_terms.specs.Read.{program as word_program};
 ghost use Rattle.w_blocks.specs.Read.{layout};
 ghost use Rattle.w_laws.specs.Built.{IsBuilt, runtime_blocks as runtime_trees, runtime_words as runtime_data};
 ghost use Rattle.w_gen.specs.declared.error.BuildError.TheVariants as error;
-ghost use Rattle.w_gen.specs.Data.{generated};
+ghost use Rattle.w_gen.specs.Data.{generated, word_code};
 ghost use Rattle.w_gen.specs.Limits.{IsTooLarge, IsBuiltInFull};
 
 use crate::blocks::all_blocks;
@@ -33,6 +33,7 @@ pub fn program(
     requires some { 0 < heap }
     ensures built { IfOk result (λ w. IsBuilt (program_tree program.now) base heap (word_program w)) }
     ensures count { IfOk result (λ w. IsBuiltInFull (program_tree program.now) base heap (word_program w)) }
+    ensures code { IfOk result (λ w. word_program w ≡ word_code (program_tree program.now) base heap) }
     ensures begins { IfOk result (λ w. w.base ≡ base) }
     ensures fits { IfOk result (λ w. IsTooLarge base heap (program_tree program.now) → ⊥) }
     ensures large { result ≡ Err error.TooLarge → IsTooLarge base heap (program_tree program.now) }

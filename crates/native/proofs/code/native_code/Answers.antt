@@ -3,7 +3,7 @@ use Rattle.std.proofs.Math.Logic.{∥∥₁_map}
 use Rattle.std.proofs.lemmas.Result.{err_from_is_err_and}
 use Rattle.t_terms.specs.ReadProgram.{program as program_tree}
 use Rattle.t_terms.specs.declared.program.TProgram.{TProgram}
-use Rattle.native.specs.Native.{IsOutOfBounds}
+use Rattle.native.specs.Native.{IsInBounds}
 use Rattle.t_check.specs.Checked.{checked_program}
 use Rattle.native.proofs.Composing.{code_is_native, in_bounds}
 use Rattle.native.proofs.code.native_code.Goals as goal
@@ -22,5 +22,5 @@ returns-clause-fits c =
 pub returns-in_err-file-clause-large : goal.returns-in_err-file-clause-large
 returns-in_err-file-clause-large c =
     let r = err_from_is_err_and c.from_residual.result c.from_residual.ensures.1 in
-    rw r.1 (λ is. subst (λ (t : TProgram). IsOutOfBounds c.args.heap (program_tree t)) c.program.ensures.same
+    rw r.1 (λ is. subst (λ (t : TProgram). IsInBounds c.args.heap (program_tree t) → ⊥) c.program.ensures.same
     (c.in_err-file.ensures.large (sym r.2 ∙ is)))

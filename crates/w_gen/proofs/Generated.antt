@@ -34,7 +34,8 @@ module _ (at to : ℕ → ℕ) (fixed many : ℕ) (agree : (d : ℕ) → d < fix
   is_choice blocks q (Label l) k c h = h
   is_choice blocks q (Data d) k c h = h
 
-  pub is_seq : (blocks : List WSeq) (e : ESeq) (c : WSeq) → IsSeq at fixed many blocks e c → IsSeq to fixed many blocks e c
+  pub is_seq : (blocks : List WSeq) (e : ESeq) (c : WSeq) → IsSeq at fixed many blocks e c →
+      IsSeq to fixed many blocks e c
   is_seq blocks (EThen (EArith op rd rs b) e) c k = (k.0, k.1, k.2, is_seq blocks e k.0 k.3, k.4, k.5)
   is_seq blocks (EThen (EBnz q b) e) c k = (k.0, is_seq blocks e k.0 k.1, is_choice blocks q b k.0 c k.2)
   is_seq blocks (EThen (ELd rd rs i) e) c k = (k.0, is_seq blocks e k.0 k.1, k.2, k.3)

@@ -50,15 +50,17 @@ abbrev pub highest_field : List ESeq → ℕ
 highest_field [] = 0
 highest_field (e ∷ es) = max (seq_field e) (highest_field es)
 
--- how many registers a program has: one more than the highest that it names
+-- how many registers a program has: one more than the highest that it names, and two at least, since a program that
+-- halts does so with the integer in register 1
 abbrev pub registers_of : TProg → ℕ
-registers_of P = suc (highest_register (erase_blocks P))
+registers_of P = suc (max (highest_register (erase_blocks P)) 1)
 
 -- It has more than 2 ^ 20 registers, ..
 abbrev pub IsWide : TProg → Type 0
 IsWide P = 2 ^ 20 ≤ highest_register (erase_blocks P)
 
--- .. or names a field from number 2 ^ 28 on, or makes a tuple of so many fields, or its memory ends at the address 2 ^ 47
+-- .. or names a field from number 2 ^ 28 on, or makes a tuple of so many fields, or its memory ends at the address
+-- 2 ^ 47
 -- or behind it.
 abbrev pub IsTooLarge : (base heap : ℕ) → TProg → Type 0
 IsTooLarge base heap P =

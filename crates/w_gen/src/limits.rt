@@ -14,7 +14,8 @@ use t_terms::{Base, Block, End, Instr, TProgram};
 // Registers below this one.
 const REGISTERS: u64 = 0x10_0000;
 
-/// How many registers a program has: one more than the highest that it names. More than 2^20 are too many.
+/// How many registers a program has: one more than the highest that it names, and two at least, since a program that
+/// halts does so with the integer in register 1. More than 2^20 are too many.
 pub fn registers(program: &TProgram) -> Result<u64, BuildError>
     ensures count { IfOk result (λ n. n ≡ registers_of (program_tree program.now)) }
     ensures bound { IfOk result (λ n. n ≤ 2 ^ 20) }
@@ -25,7 +26,7 @@ pub fn registers(program: &TProgram) -> Result<u64, BuildError>
     if highest.register >= REGISTERS {
         return Err(BuildError::TooLarge);
     }
-    Ok(highest.register + 1)
+    Ok(highest.register.max(1) + 1)
 }
 
 // The highest register that is named, and the highest field that is named or number of fields that is made.

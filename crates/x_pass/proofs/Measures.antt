@@ -1,6 +1,7 @@
 -- Sizes hang on no place.
 use Rattle.std.proofs.Common.{◌≡◌, ℕ, ◌+◌, ◌≤◌, ◌<◌, ◌^◌, ◌∷◌, ◌++◌, List, [], zero, suc, length}
-use Rattle.std.proofs.Common.{drop, append_assoc, get_or, ap, sym, ◌∙◌, arith, slice_index_or, refl, subst, drop-cons, add-one}
+use Rattle.std.proofs.Common.{drop, append_assoc, get_or, ap, sym, ◌∙◌, arith, slice_index_or, refl, subst, drop-cons}
+use Rattle.std.proofs.Common.{add-one}
 use Rattle.x_laws.specs.Core.{bytes_all}
 use Rattle.x_laws.specs.Code.{instr_code, seq_code}
 use Rattle.x_laws.specs.Layout.{size, place_from}

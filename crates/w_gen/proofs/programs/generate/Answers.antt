@@ -28,7 +28,8 @@ returns c =
     (c.in_ok-blocks.ensures
     ∙ ap₂ (λ (ps : List ℕ) (xs : List Block). blocks_of (slice_index ps) (map block c.in_ok-runtime.runtime.items)
     (map erase_block (trees_of xs))) c.deref-3.ensures.value c.deref-2.ensures.value
-    ∙ ap (λ (r : List WSeq). blocks_of (slice_index places) r (map erase_block (trees_of c.args.program.now.blocks.items)))
+    ∙ ap (λ (r : List WSeq). blocks_of (slice_index places) r
+    (map erase_block (trees_of c.args.program.now.blocks.items)))
     c.in_ok-runtime.ensures)
     (c.in_ok-words.ensures
     ∙ ap₂ (λ (ps : List ℕ) (xs : List Data). c.in_ok-image.image.items

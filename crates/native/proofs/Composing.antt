@@ -1,5 +1,5 @@
 -- From word code that means what the program does, and a file of that word code, to native code of the program.
-use Rattle.std.proofs.Common.{◌≡◌, ℕ, ◌+◌, ℤ, List, [], ◌∷◌, Some, ap, sym, subst, inl, inr, slice_get}
+use Rattle.std.proofs.Common.{◌≡◌, ℕ, ◌+◌, ℤ, List, [], ◌∷◌, Some, ap, ap₂, sym, ◌∙◌, subst, inl, inr, slice_get}
 use Rattle.t_terms.specs.Tree.{TProg}
 use Rattle.t_terms.specs.ReadProgram.{program as program_tree}
 use Rattle.t_terms.specs.declared.program.TProgram.{TProgram}
@@ -25,6 +25,14 @@ use Rattle.w_gen.specs.Limits.{registers_of, IsTooLarge}
 use Rattle.x_program.specs.Made.{base_of, HasRoom, IsMade}
 use Rattle.native.specs.Native.{IsNative, MakesFewTuples, IsInBounds, native_registers, native_base}
 use Rattle.native.specs.Made.{IsMadeOf}
+use Rattle.native.proofs.Bounds.{has_room}
+use Rattle.native.specs.Listing.{native_words, HasNativeCode, IsNativeListing}
+use Rattle.t_rules.specs.Erase.{erase_blocks}
+use Rattle.x_laws.specs.Layout.{program_code}
+use Rattle.x_file.specs.File.{code_address}
+use Rattle.x_listing.specs.Remarks.{Note}
+use Rattle.x_listing.specs.Lines.{page_text, program_lines, ShowsCode}
+use Rattle.x_listing.specs.Notes.{notes_of}
 
 -- the end of a process that writes a line and exits with 0
 line_end : (m : Image) (world : ℕ → Answer) (s : State) (line : List ℕ) (k : ℕ) (calls : List Call) →
@@ -95,10 +103,9 @@ code_is_native means_same enough_first behaves have_places p q same accepted hea
 pub in_bounds : (p q : TProgram) → q ≡ p → (heap : ℕ) (file : List ℕ) → IsMadeOf heap (program_tree q) file →
     IsInBounds heap (program_tree p)
 in_bounds p q same heap file made =
-    subst (λ (t : TProgram). IsInBounds heap (program_tree t)) same (record {
-      small = made.small;
-      room = subst (HasRoom (native_registers (program_tree q))) made.is made.made.fits;
-    })
+    let room = subst (HasRoom (native_registers (program_tree q))) made.is made.made.fits in
+    subst (λ (t : TProgram). IsInBounds heap (program_tree t)) same
+    (record { small = made.small; code = room.code; memory = room.memory })
 
 -- The program has n registers. A file of its word code comes of it.
 module _ (heap n : ℕ) (P : TProg) (count : n ≡ registers_of P) where
@@ -117,9 +124,38 @@ module _ (heap n : ℕ) (P : TProg) (count : n ≡ registers_of P) where
   pub not_coded : IsTooLarge (base_of (n + 16)) heap P → IsInBounds heap P → ⊥
   not_coded large bounds = bounds.small (subst (λ k. IsTooLarge (base_of (k + 16)) heap P) count large)
 
-  pub no_room : (W : WProg) → W ≡ word_code P (base_of (n + 16)) heap → (HasRoom (n + 16) W → ⊥) →
+  pub no_room : Whole P → (W : WProg) → W ≡ word_code P (base_of (n + 16)) heap → (HasRoom (n + 16) W → ⊥) →
       IsInBounds heap P → ⊥
-  no_room W is none bounds =
+  no_room whole W is none bounds =
       subst (λ k. HasRoom (k + 16) W → ⊥) count none
       (subst (HasRoom (native_registers P))
-      (sym (subst (λ k. W ≡ word_code P (base_of (k + 16)) heap) count is)) bounds.room)
+      (sym (subst (λ k. W ≡ word_code P (base_of (k + 16)) heap) count is)) (has_room heap P whole bounds))
+
+-- the code that the file has
+pub has_code : (p q : TProgram) → q ≡ p → (heap : ℕ) (file : List ℕ) → IsMadeOf heap (program_tree q) file →
+    HasNativeCode heap (program_tree p) (image file)
+has_code p q same heap file made =
+    subst (λ (t : TProgram). HasNativeCode heap (program_tree t) (image file)) same
+    (made.made.code_at, made.made.code ∙ ap (λ (W : WProg). program_code home code_address W.blocks) made.is)
+
+-- the word code is that of the program, where its registers are counted
+pub words_of : (heap n : ℕ) (P : TProg) (W : WProg) → n ≡ registers_of P → W ≡ word_code P (base_of (n + 16)) heap →
+    W ≡ native_words heap P
+words_of heap n P W count is = subst (λ k. W ≡ word_code P (base_of (k + 16)) heap) count is
+
+-- the listing of a program's word code
+pub is_listing : (heap : ℕ) (P : TProg) (W : WProg) (notes : List Note) (page : List ℕ) → W ≡ native_words heap P →
+    notes ≡ notes_of (erase_blocks P) → page ≡ page_text (program_lines notes W) →
+    ShowsCode code_address (program_lines notes W) (program_code home code_address W.blocks) →
+    IsNativeListing heap P page
+is_listing heap P W notes page same told is shows = record {
+  is = is ∙ ap₂ (λ xs (V : WProg). page_text (program_lines xs V)) told same;
+  shows = subst (λ (V : WProg). ShowsCode code_address (program_lines (notes_of (erase_blocks P)) V)
+      (program_code home code_address V.blocks)) same
+      (subst (λ xs. ShowsCode code_address (program_lines xs W) (program_code home code_address W.blocks)) told shows);
+}
+
+-- of the program that was checked
+pub listed : (p q : TProgram) → q ≡ p → (heap : ℕ) (page : List ℕ) → IsNativeListing heap (program_tree q) page →
+    IsNativeListing heap (program_tree p) page
+listed p q same heap page h = subst (λ (t : TProgram). IsNativeListing heap (program_tree t) page) same h

@@ -1,1 +1,4 @@
+pub mod Bounds
+pub mod Coded
 pub mod Composing
+pub mod Runtime

@@ -1,6 +1,6 @@
 -- What native code of a program is: an executable file whose processes do what the program does; and which programs
 -- have none, because they are too large.
-use Rattle.std.specs.Prelude.{◌≡◌, ◌≤◌, ◌+◌, ℕ, ℤ, List, Some, slice_get}
+use Rattle.std.specs.Prelude.{◌≡◌, ◌≤◌, ◌+◌, ◌*◌, ◌^◌, ℕ, ℤ, List, Some, length, slice_get}
 use Rattle.t_terms.specs.Tree.{TBlock, TProg}
 use Rattle.t_rules.specs.Machine.{Halts, HaltedAfter}
 use Rattle.t_rules.specs.Erase.{EAt, erase_block, erase_blocks, erase_heap, no_ewords}
@@ -12,7 +12,10 @@ use Rattle.w_gen.specs.Limits.{registers_of, IsTooLarge}
 use Rattle.x_terms.specs.Machine.{Answer, State}
 use Rattle.x_terms.specs.Elf.{IsExecutable, IsStart, image}
 use Rattle.x_terms.specs.Process.{EndsWithLine, IsProcessOf}
-use Rattle.x_program.specs.Made.{base_of, HasRoom}
+use Rattle.x_laws.specs.Layout.{program_code}
+use Rattle.x_file.specs.File.{code_address, data_address}
+use Rattle.x_pass.specs.Homes.{home}
+use Rattle.x_program.specs.Made.{base_of}
 
 -- The program halts with i, and all tuples that it makes until then fit into the part of the heap that is in use at
 -- first: all of the heap, of which 1 MiB at most.
@@ -43,8 +46,11 @@ native_registers P = registers_of P + 16
 abbrev pub native_base : TProg → ℕ
 native_base P = base_of (native_registers P)
 
--- The program is in bounds: it names no register from 2 ^ 20 on and no field from 2 ^ 28 on, and its word code, memory
--- for so many bytes of heap with it, has room in a process.
+-- The program is in bounds: it names no register from 2 ^ 20 on and no field from 2 ^ 28 on, its native code ends a
+-- page below the data at least, and its memory, with so many bytes of heap, ends where that of a process does.
 pub record IsInBounds (heap : ℕ) (P : TProg) : Type 0 where
   pub small : IsTooLarge (native_base P) heap P → ⊥
-  pub room : HasRoom (native_registers P) (word_code P (native_base P) heap)
+  pub code :
+      code_address + length (program_code home code_address (word_code P (native_base P) heap).blocks) + 0x1000
+      ≤ data_address
+  pub memory : native_base P + 8 * (word_code P (native_base P) heap).size ≤ 2 ^ 46

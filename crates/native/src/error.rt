@@ -1,5 +1,6 @@
 // Why there is no native code of a program.
 
+use idx_core::OutOfMemory;
 use w_gen::BuildError;
 use x_program::Refused;
 
@@ -10,6 +11,17 @@ pub enum NativeError {
     OutOfMemory,
     /// A register, a field, the code or the memory of the program is past its bound.
     TooLarge,
+}
+
+impl From<OutOfMemory> for NativeError {
+    ghost use Rattle.std.specs.Prelude.{◌≡◌};
+    ghost use Rattle.native.specs.declared.error.NativeError.TheVariants as why;
+
+    ghost from_gives = { λ _ e. e ≡ why.OutOfMemory };
+
+    fn from(_: OutOfMemory) -> NativeError {
+        NativeError::OutOfMemory
+    }
 }
 
 impl From<BuildError> for NativeError {

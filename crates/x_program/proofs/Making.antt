@@ -214,6 +214,8 @@ module _ (n : ℕ) (bs : List WBlock) (base : ℕ) (given : List WDatum) (size :
       is_made = record {
         fits = has_room;
         executable = loaded.executable;
+        code_at = ap (λ (x : Image). x.code_at) loaded.image_is;
+        code = ap (λ (x : Image). x.code) loaded.image_is ∙ code_is;
         compiled = λ s g. subst (λ y. IsCompiled y n home prog s) (sym loaded.image_is) (compiled_at s g);
         words = held_words_are;
       }

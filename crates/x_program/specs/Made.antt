@@ -1,5 +1,5 @@
 -- What an executable file of a program is.
-use Rattle.std.specs.Prelude.{ℕ, ◌+◌, ◌*◌, ◌^◌, ◌≤◌, ◌++◌, List, length, map, replicate}
+use Rattle.std.specs.Prelude.{◌≡◌, ℕ, ◌+◌, ◌*◌, ◌^◌, ◌≤◌, ◌++◌, List, length, map, replicate}
 use Rattle.x_terms.specs.Machine.{State}
 use Rattle.x_terms.specs.Elf.{IsExecutable, IsStart, image}
 use Rattle.x_laws.specs.Layout.{program_code}
@@ -35,10 +35,12 @@ pub record HasRoom (n : ℕ) (p : WProg) : Type 0 where
   pub memory : p.base + 8 * p.size ≤ 2 ^ 46
   pub image : p.base + 8 * length p.image ≤ 2 ^ 46
 
--- Linux loads the file. Each process that begins from it is of the code of the program, of which n registers have
--- homes, and their homes have words. The program has room.
+-- Linux loads the file, with the code of the program at its address. Each process that begins from it is of that code,
+-- of which n registers have homes, and their homes have words. The program has room.
 pub record IsMade (n : ℕ) (p : WProg) (file : List ℕ) : Type 0 where
   pub fits : HasRoom n p
   pub executable : IsExecutable file
+  pub code_at : (image file).code_at ≡ code_address
+  pub code : (image file).code ≡ program_code home code_address p.blocks
   pub compiled : (s : State) → IsStart file s → IsCompiled (image file) n home p s
   pub words : (s : State) → IsStart file s → AreWords (held_words home s)

@@ -5,7 +5,7 @@ use Rattle.t_terms.specs.ReadProgram.{program as program_tree}
 use Rattle.t_terms.specs.declared.program.TProgram.{TProgram}
 use Rattle.native.specs.Native.{IsInBounds}
 use Rattle.t_check.specs.Checked.{checked_program}
-use Rattle.native.proofs.Composing.{code_is_native, in_bounds}
+use Rattle.native.proofs.Composing.{code_is_native, has_code, in_bounds}
 use Rattle.native.proofs.code.native_code.Goals as goal
 
 pub returns-clause-native : goal.returns-clause-native
@@ -14,6 +14,10 @@ returns-clause-native c =
     (λ accepted. code_is_native c.each_built_keeps_meaning.ensures c.few_tuples_are_enough.ensures
     c.compiled_code_behaves.ensures c.compiled_code_has_places.ensures (checked_program c.args.checked.now) _
     c.program.ensures.same accepted _ _ c.in_ok-file.ensures.made)
+
+pub returns-clause-code : goal.returns-clause-code
+returns-clause-code c =
+    has_code (checked_program c.args.checked.now) _ c.program.ensures.same _ _ c.in_ok-file.ensures.made
 
 pub returns-clause-fits : goal.returns-clause-fits
 returns-clause-fits c =

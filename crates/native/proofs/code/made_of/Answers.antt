@@ -2,8 +2,8 @@ use Rattle.std.proofs.Common.{Err, ap, inl}
 use Rattle.std.proofs.lemmas.Result.{err_from_is_err_and}
 use Rattle.t_terms.specs.ReadProgram.{program as program_tree}
 use Rattle.w_terms.specs.Read.{program as word_program}
-use Rattle.native.proofs.Composing.{made_of, not_coded, no_room}
-use Rattle.native.proofs.code.file_of.Goals as goal
+use Rattle.native.proofs.Composing.{made_of, not_coded, no_room, words_of}
+use Rattle.native.proofs.code.made_of.Goals as goal
 
 pub returns-clause-made : goal.returns-clause-made
 returns-clause-made c =
@@ -11,11 +11,17 @@ returns-clause-made c =
     (word_program c.in_ok-words.words) _ c.in_ok-words.ensures.fits c.in_ok-words.ensures.code
     c.in_ok-words.ensures.built c.in_ok-file.ensures.made
 
+pub returns-clause-words : goal.returns-clause-words
+returns-clause-words c =
+    words_of c.args.heap c.in_ok-named.named (program_tree c.args.program.now) (word_program c.in_ok-words.words)
+    c.in_ok-named.ensures.count c.in_ok-words.ensures.code
+
 pub returns-in_err-file-clause-large : goal.returns-in_err-file-clause-large
 returns-in_err-file-clause-large c =
     let r = err_from_is_err_and c.from_residual-in_err-file.result c.from_residual-in_err-file.ensures.1 in
     rw r.1 (λ is. no_room c.args.heap c.in_ok-named.named (program_tree c.args.program.now) c.in_ok-named.ensures.count
-    (word_program c.in_ok-words.words) c.in_ok-words.ensures.code (c.in_err-file.ensures.large (r.2 is)))
+    c.args.program.now.whole (word_program c.in_ok-words.words) c.in_ok-words.ensures.code
+    (c.in_err-file.ensures.large (r.2 is)))
 
 pub returns-in_err-named-clause-large : goal.returns-in_err-named-clause-large
 returns-in_err-named-clause-large c =

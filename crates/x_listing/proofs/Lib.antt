@@ -1,0 +1,4 @@
+mod Rows
+pub mod Turns
+pub mod Shown
+pub mod Sayings

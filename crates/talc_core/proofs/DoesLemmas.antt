@@ -9,10 +9,13 @@ use Rattle.talc_core.specs.declared.status.Status.{Status}
 use Rattle.talc_core.specs.declared.status.Status.TheVariants.{Done, Refused, Usage, Limit, Budget, ReadFault}
 use Rattle.talc_core.specs.declared.status.Status.TheVariants.{WriteFault, Memory}
 use Rattle.talc_core.specs.Command.{Asked, Compiles, CompilesWithin, Types, Evaluates, Checks, Runs, Generates}
-use Rattle.talc_core.specs.Command.{Upgrades, Traces, Shows, Explains, Lists, Costs, TypesNames}
+use Rattle.talc_core.specs.Command.{Upgrades, Traces, Shows, Explains, Lists, Costs, TypesNames, Builds}
+use Rattle.talc_core.specs.Command.{Disassembles}
 use Rattle.talc_core.specs.FirstFault.{Need, AnyText, AnyTerm, AProgram, CellFree, AnAssembly}
 use Rattle.talc_core.specs.CompiledText.{CompiledText, CompiledTextWithin}
 use Rattle.talc_core.specs.Upgraded.{IsUpgraded}
+use Rattle.talc_core.specs.NativeText.{IsNativeText}
+use Rattle.talc_core.specs.NativeListing.{ShowsNativeListing}
 use Rattle.talc_core.specs.Shown.{Showing, ShowsType, ShowsValue, ShowsAccepted, ShowsRun, ShowsTrace, ShowsCost}
 use Rattle.talc_core.specs.Shown.{SeedShown}
 use Rattle.talc_core.specs.FormShown.{ShowsForm}
@@ -324,6 +327,10 @@ module _ (f f' : FilesState) (o o' e e' : SinkState) where
   does_failed (Generates seed output) failure status done told = seed_failed seed output failure status done told
   does_failed (Upgrades input output) failure status done told =
       text_failed IsUpgraded AnAssembly input output done.1 failure status done.0 told
+  does_failed (Builds input output heap) failure status done told =
+      text_failed (IsNativeText heap) AnAssembly input output done.1 failure status done.0 told
+  does_failed (Disassembles input heap) failure status done told =
+      line_failed (ShowsNativeListing heap) AnAssembly input failure status done told
 
   does_at_end : (asked : Asked) (ending : Ending) → Performs asked f f' o o' (Ok ending) →
       Does (outside f o e) (outside f' o' e) (status_at ending) asked
@@ -342,6 +349,10 @@ module _ (f f' : FilesState) (o o' e e' : SinkState) where
   does_at_end (TypesNames input) ending done = line_ended ShowsTypes AnyTerm input ending done
   does_at_end (Generates seed output) ending done = seed_ended seed output ending done
   does_at_end (Upgrades input output) ending done = text_ended IsUpgraded AnAssembly input output done.1 ending done.0
+  does_at_end (Builds input output heap) ending done =
+      text_ended (IsNativeText heap) AnAssembly input output done.1 ending done.0
+  does_at_end (Disassembles input heap) ending done =
+      line_ended (ShowsNativeListing heap) AnAssembly input ending done
 
   pub does_ended : (asked : Asked) (ending : Ending) (status : Status) → status ≡ status_at ending →
       Performs asked f f' o o' (Ok ending) → Does (outside f o e) (outside f' o' e) status asked

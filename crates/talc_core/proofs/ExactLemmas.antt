@@ -14,8 +14,11 @@ use Rattle.t_rules.specs.Machine.{GoesOnAfter}
 use Rattle.talc_core.specs.FirstFault.{Need, AnyText, AnyTerm, AProgram, CellFree, AnAssembly, IsTaken}
 use Rattle.talc_core.specs.Command.{Asked, Compiles, CompilesWithin, Types, Evaluates, Checks, Runs, Generates}
 use Rattle.talc_core.specs.Command.{Upgrades, Traces, Shows, Explains, Lists, command_of, need_of, Costs, TypesNames}
+use Rattle.talc_core.specs.Command.{Builds, Disassembles}
 use Rattle.talc_core.specs.CompiledText.{CompiledText, CompiledTextWithin}
 use Rattle.talc_core.specs.Upgraded.{IsUpgraded}
+use Rattle.talc_core.specs.NativeText.{IsNativeText}
+use Rattle.talc_core.specs.NativeListing.{ShowsNativeListing}
 use Rattle.talc_core.specs.Shown.{Showing, ShowsType, ShowsValue, ValueShown, ShowsAccepted, ShowsRun, ShowsTrace}
 use Rattle.talc_core.specs.Shown.{HaltedShown, ShowsCost}
 use Rattle.talc_words.specs.declared.form.Form.{Form}
@@ -93,6 +96,8 @@ goes_on_taken (Lists input) source more = absurd more
 goes_on_taken (TypesNames input) source more = absurd more
 goes_on_taken (Generates seed output) source more = absurd more
 goes_on_taken (Upgrades input output) source more = absurd more
+goes_on_taken (Builds input output heap) source more = absurd more
+goes_on_taken (Disassembles input heap) source more = absurd more
 
 -- a text whose first fault leads to one status has none that leads to another
 one_status : TextLaws → (need : Need) (source : List ℕ) (a b : Status) → LeadsTo need source a →
@@ -268,6 +273,16 @@ upgraded_sound : (input output : List ℕ) → Makers (Upgrades input output) Is
 upgraded_sound input output =
     record { made = λ source target made. (made.program, made.accepted); ends = λ source more. more }
 
+native_sound : (input output : List ℕ) (heap : ℕ) → Makers (Builds input output heap) (IsNativeText heap)
+native_sound input output heap =
+    record { made = λ source file made. (made.program, made.accepted); ends = λ source more. more }
+
+native_listing_sound : (input : List ℕ) (heap : ℕ) → IsSound (Disassembles input heap) (ShowsNativeListing heap)
+native_listing_sound input heap = record {
+  done = λ source text shown. ((shown.program, shown.accepted), λ more. more);
+  over = λ source text shown. absurd shown;
+}
+
 -- ---- by the command and the status
 
 module _ (laws : TextLaws) (old new : Outside) where
@@ -386,6 +401,12 @@ module _ (laws : TextLaws) (old new : Outside) where
   judged (Upgrades input output) source status answer tells settled =
       text_judged (Upgrades input output) input output IsUpgraded (upgraded_sound input output) source status answer
       tells settled
+  judged (Builds input output heap) source status answer tells settled =
+      text_judged (Builds input output heap) input output (IsNativeText heap) (native_sound input output heap) source
+      status answer tells settled
+  judged (Disassembles input heap) source status answer tells settled =
+      line_judged (Disassembles input heap) input (ShowsNativeListing heap) (native_listing_sound input heap) source
+      status answer tells settled
   judged (Generates seed output) source Done answer is settled =
       let done = answer.says in
       inl (record {
@@ -471,6 +492,10 @@ module _ (laws : TextLaws) (old new : Outside) where
       text_absent (CompiledTextWithin k) AProgram input output status answer absent
   absent_at (Upgrades input output) status answer absent =
       text_absent IsUpgraded AnAssembly input output status answer absent
+  absent_at (Builds input output heap) status answer absent =
+      text_absent (IsNativeText heap) AnAssembly input output status answer absent
+  absent_at (Disassembles input heap) status answer absent =
+      line_absent (ShowsNativeListing heap) AnAssembly input status answer absent
   absent_at (Generates seed output) status answer absent = absurd absent
 
   read_fault_at : (asked : Asked) → Does old new ReadFault asked → CannotRead asked old new
@@ -488,11 +513,15 @@ module _ (laws : TextLaws) (old new : Outside) where
   read_fault_at (TypesNames input) answer = answer.cause
   read_fault_at (Generates seed output) answer = answer
   read_fault_at (Upgrades input output) answer = answer.cause
+  read_fault_at (Builds input output heap) answer = answer.cause
+  read_fault_at (Disassembles input heap) answer = answer.cause
 
   write_fault_at : (asked : Asked) → Does old new WriteFault asked → CannotWrite asked old new
   write_fault_at (Compiles input output) answer = inl (refl, answer.cause)
   write_fault_at (CompilesWithin input output k) answer = inl (refl, answer.cause)
   write_fault_at (Upgrades input output) answer = inl (refl, answer.cause)
+  write_fault_at (Builds input output heap) answer = inl (refl, answer.cause)
+  write_fault_at (Disassembles input heap) answer = inr (refl, answer.cause)
   write_fault_at (Types input) answer = inr (refl, answer.cause)
   write_fault_at (Evaluates input turns) answer = inr (refl, answer.cause)
   write_fault_at (Checks input) answer = inr (refl, answer.cause)
@@ -521,6 +550,8 @@ module _ (laws : TextLaws) (old new : Outside) where
   cannot_read (Compiles input output) source none tells why = told_is_read input source none tells why
   cannot_read (CompilesWithin input output k) source none tells why = told_is_read input source none tells why
   cannot_read (Upgrades input output) source none tells why = told_is_read input source none tells why
+  cannot_read (Builds input output heap) source none tells why = told_is_read input source none tells why
+  cannot_read (Disassembles input heap) source none tells why = told_is_read input source none tells why
   cannot_read (Types input) source none tells why = told_is_read input source none tells why
   cannot_read (Evaluates input turns) source none tells why = told_is_read input source none tells why
   cannot_read (Checks input) source none tells why = told_is_read input source none tells why
@@ -537,6 +568,8 @@ module _ (laws : TextLaws) (old new : Outside) where
   no_usage (Compiles input output) answer = answer
   no_usage (CompilesWithin input output k) answer = answer
   no_usage (Upgrades input output) answer = answer
+  no_usage (Builds input output heap) answer = answer
+  no_usage (Disassembles input heap) answer = answer
   no_usage (Types input) answer = answer
   no_usage (Evaluates input turns) answer = answer
   no_usage (Checks input) answer = answer
@@ -553,6 +586,8 @@ module _ (laws : TextLaws) (old new : Outside) where
   budget_has (Compiles input output) answer = absurd answer
   budget_has (CompilesWithin input output k) answer = absurd answer
   budget_has (Upgrades input output) answer = absurd answer
+  budget_has (Builds input output heap) answer = absurd answer
+  budget_has (Disassembles input heap) answer = absurd answer.says
   budget_has (Types input) answer = absurd answer.says
   budget_has (Evaluates input turns) answer = refl
   budget_has (Checks input) answer = absurd answer.says

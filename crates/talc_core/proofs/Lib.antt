@@ -12,9 +12,12 @@ pub mod ExactLemmas
 mod ExplainLemmas
 mod FaultLemmas
 mod ExplainRows
+mod FileLemmas
 mod FormLemmas
 mod ListedLemmas
 mod ListingLemmas
+mod NativeLemmas
+mod NativeListingLemmas
 mod Rows
 mod RunLemmas
 mod SeedLemmas

@@ -2,7 +2,8 @@
 use Rattle.std.specs.Prelude.{List, ℕ, Option, Some, None}
 use Rattle.talc_core.specs.FirstFault.{Need, AnyText, AnyTerm, AProgram, CellFree, AnAssembly}
 pub use Rattle.talc_words.specs.Command.{Asked, Compiles, CompilesWithin, Types, Evaluates, Checks, Runs, Generates}
-pub use Rattle.talc_words.specs.Command.{Upgrades, Traces, Shows, Explains, Lists, Costs, TypesNames}
+pub use Rattle.talc_words.specs.Command.{Upgrades, Traces, Shows, Explains, Lists, Costs, TypesNames, Builds}
+pub use Rattle.talc_words.specs.Command.{Disassembles}
 pub use Rattle.talc_words.specs.Command.{command_of}
 
 -- what the command needs of the text that it works on: of the one that it reads, or of the source that it makes
@@ -16,6 +17,8 @@ need_of (Runs input fuel) = AnAssembly
 need_of (Costs input fuel) = AnAssembly
 need_of (Generates seed output) = AProgram
 need_of (Upgrades input output) = AnAssembly
+need_of (Builds input output heap) = AnAssembly
+need_of (Disassembles input heap) = AnAssembly
 need_of (Traces input from to) = AnAssembly
 need_of (Shows input form) = AProgram
 need_of (Explains input) = AnyText
@@ -33,6 +36,8 @@ input_of (Runs input fuel) = Some input
 input_of (Costs input fuel) = Some input
 input_of (Generates seed output) = None
 input_of (Upgrades input output) = Some input
+input_of (Builds input output heap) = Some input
+input_of (Disassembles input heap) = Some input
 input_of (Traces input from to) = Some input
 input_of (Shows input form) = Some input
 input_of (Explains input) = Some input
@@ -45,6 +50,7 @@ output_of (Compiles input output) = Some output
 output_of (CompilesWithin input output k) = Some output
 output_of (Generates seed output) = Some output
 output_of (Upgrades input output) = Some output
+output_of (Builds input output heap) = Some output
 output_of other = None
 
 -- the number of turns or of instructions that it makes at most, if it has such a budget

@@ -10,6 +10,8 @@ use Rattle.talc_core.specs.Fault.{status_of}
 use Rattle.talc_core.specs.FirstFault.{Need, AnyText, AnyTerm, AProgram, CellFree, AnAssembly, FirstFault}
 use Rattle.talc_core.specs.CompiledText.{CompiledText, CompiledTextWithin}
 use Rattle.talc_core.specs.Upgraded.{IsUpgraded}
+use Rattle.talc_core.specs.NativeText.{IsNativeText}
+use Rattle.talc_core.specs.NativeListing.{ShowsNativeListing}
 use Rattle.f_seeds.specs.Source.{source}
 use Rattle.talc_core.specs.Shown.{Showing, ShowsType, ShowsValue, ShowsAccepted, ShowsRun, ShowsTrace, ShowsCost}
 use Rattle.talc_core.specs.Shown.{SeedShown}
@@ -19,7 +21,8 @@ use Rattle.talc_core.specs.Listed.{ListingShown, FaultListed, ShowsListed}
 use Rattle.talc_core.specs.Binding.{ShowsTypes}
 use Rattle.talc_core.specs.OnTexts.{Making}
 use Rattle.talc_core.specs.Command.{Asked, Compiles, CompilesWithin, Types, Evaluates, Checks, Runs, Generates}
-use Rattle.talc_core.specs.Command.{Upgrades, Traces, Shows, Explains, Lists, Costs, TypesNames, command_of}
+use Rattle.talc_core.specs.Command.{Upgrades, Traces, Shows, Explains, Lists, Costs, TypesNames, Builds}
+use Rattle.talc_core.specs.Command.{Disassembles, command_of}
 use Rattle.talc_core.specs.Lines.{fault_line, read_line, write_line, memory_line}
 
 -- what the call reaches: the files, the output and the error output
@@ -298,6 +301,10 @@ Does old new status (Runs input fuel) = LineAnswer (ShowsRun fuel) AnAssembly in
 Does old new status (Costs input fuel) = LineAnswer (ShowsCost fuel) AnAssembly input old new status
 Does old new status (Generates seed output) = SeedAnswer seed output old new status
 Does old new status (Upgrades input output) = TextAnswer IsUpgraded AnAssembly input output old new status
+Does old new status (Builds input output heap) =
+    TextAnswer (IsNativeText heap) AnAssembly input output old new status
+Does old new status (Disassembles input heap) =
+    LineAnswer (ShowsNativeListing heap) AnAssembly input old new status
 Does old new status (Traces input from to) = LineAnswer (ShowsTrace from to) AnAssembly input old new status
 Does old new status (Shows input form) = LineAnswer (ShowsForm form) AProgram input old new status
 Does old new status (Explains input) = LineAnswer (ShowsExplained input) AnyText input old new status

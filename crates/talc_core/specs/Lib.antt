@@ -14,6 +14,8 @@ pub mod Translated
 pub mod Made
 pub mod CompiledText
 pub mod Upgraded
+pub mod NativeText
+pub mod NativeListing
 pub mod Shown
 pub mod FormShown
 pub mod AtOdds

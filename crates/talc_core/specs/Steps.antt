@@ -38,11 +38,14 @@ use Rattle.talc_core.specs.declared.reply.Ending.TheVariants.{Ends, GoesOn}
 use Rattle.talc_core.specs.declared.reply.Reply.{Reply}
 use Rattle.talc_core.specs.Fault.{status_of}
 use Rattle.talc_core.specs.Command.{Asked, Compiles, CompilesWithin, Types, Evaluates, Checks, Runs, Generates}
-use Rattle.talc_core.specs.Command.{Upgrades, Traces, Shows, Explains, Lists, Costs, TypesNames}
+use Rattle.talc_core.specs.Command.{Upgrades, Traces, Shows, Explains, Lists, Costs, TypesNames, Builds}
+use Rattle.talc_core.specs.Command.{Disassembles}
 use Rattle.talc_core.specs.FirstFault.{Need, AnyText, AnyTerm, AProgram, CellFree, AnAssembly}
 use Rattle.talc_core.specs.FirstFault.{IsChecked, IsAcceptedText, IsTaken, FirstFault}
 use Rattle.talc_core.specs.CompiledText.{CompiledText, CompiledTextWithin}
 use Rattle.talc_core.specs.Upgraded.{IsUpgraded}
+use Rattle.talc_core.specs.NativeText.{IsNativeText}
+use Rattle.talc_core.specs.NativeListing.{ShowsNativeListing}
 use Rattle.f_seeds.specs.Source.{source as source_of}
 use Rattle.talc_core.specs.Shown.{Showing, ShowsType, ShowsValue, ShowsAccepted, ShowsRun, ShowsTrace, ShowsCost}
 use Rattle.talc_core.specs.Shown.{SeedShown, seed_turns}
@@ -274,6 +277,10 @@ Performs (Costs input fuel) old new out out' result =
 Performs (Generates seed output) old new out out' result = ShowsSeed seed output old new out out' result
 Performs (Upgrades input output) old new out out' result =
     MakesFile IsUpgraded AnAssembly input output old new result × (out' ≡ out)
+Performs (Builds input output heap) old new out out' result =
+    MakesFile (IsNativeText heap) AnAssembly input output old new result × (out' ≡ out)
+Performs (Disassembles input heap) old new out out' result =
+    ShowsFile (ShowsNativeListing heap) AnAssembly input old new out out' result
 Performs (Traces input from to) old new out out' result =
     ShowsFile (ShowsTrace from to) AnAssembly input old new out out' result
 Performs (Shows input form) old new out out' result =

@@ -1,12 +1,13 @@
 // What the commands do: one module for each.
 ghost use Rattle.talc_core.specs.Steps.{Performs, PutsReply};
-ghost use Rattle.talc_words.specs.Command.{EnoughRegisters};
+ghost use Rattle.talc_words.specs.Command.{NumbersAreInBounds};
 ghost use Rattle.talc_words.specs.Reads.{asked_by};
 
 use crate::commands::check::show_acceptance;
 use crate::commands::compile::{compile_file, compile_file_within};
 use crate::commands::cost::show_cost;
 use crate::commands::eval::show_value;
+use crate::commands::executable::{native_file, show_native_listing};
 use crate::commands::explain::show_explanation;
 use crate::commands::listed::show_listing;
 use crate::commands::run::show_run;
@@ -27,6 +28,7 @@ mod check;
 mod compile;
 mod cost;
 mod eval;
+mod executable;
 mod explain;
 mod listed;
 mod run;
@@ -41,6 +43,7 @@ pub use check::check_text;
 pub use compile::{compile_text, compile_text_within};
 pub use cost::cost_text;
 pub use eval::eval_text;
+pub use executable::{native_listing_text, native_text};
 pub use explain::explain_text;
 pub use listed::{listed_text, listing_text};
 pub use run::run_text;
@@ -65,7 +68,7 @@ pub(crate) fn perform<F: Files, O: Sink>(
     out: &mut O,
     command: Command,
 ) -> Result<Ending, Failure>
-    requires { EnoughRegisters (asked_by command) }
+    requires { NumbersAreInBounds (asked_by command) }
     ensures { Performs (asked_by command.entry) (F.state files.old) (F.state files.new)
         (O.state out.old) (O.state out.new) result }
 {
@@ -87,6 +90,14 @@ pub(crate) fn perform<F: Files, O: Sink>(
         Command::Listing { input } => show_listing(alloc, files, out, input),
         Command::Types { input } => show_types(alloc, files, out, input),
         Command::Upgrade { input, output } => upgrade_file(alloc, files, input, output),
+        Command::Native {
+            input,
+            output,
+            heap,
+        } => native_file(alloc, files, input, output, heap),
+        Command::Disassembly { input, heap } => {
+            show_native_listing(alloc, files, out, input, heap)
+        }
         Command::Trace { input, from, to } => {
             show_trace(alloc, files, out, input, Window { from, to })
         }

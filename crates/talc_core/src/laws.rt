@@ -1,6 +1,8 @@
 // Laws of the definitions that `talc` is proved by, as functions that do nothing but call other laws. Callers cite
 // them.
 ghost use Rattle.talc_core.specs.FirstFault.{OneFault, NoFaultWhereTaken, TakenOrFault};
+ghost use Rattle.talc_core.specs.NativeText.{NativeRunsTheSame, NativeShowsTheSame};
+ghost use Rattle.talc_core.specs.NativeListing.{NativeListingShowsTheFile, OneNativeListing};
 ghost use Rattle.talc_core.specs.Composition.{CompiledIsTaken, CompiledMeansTheSame, CompiledShowsTheSame};
 ghost use Rattle.talc_core.specs.Composition.{CompiledRunsAreEvaluations, CompiledRunsAreShown};
 ghost use Rattle.talc_core.specs.Composition.{CompiledEvaluationsRun, CompiledValuesRun};
@@ -159,6 +161,39 @@ pub fn compiled_is_covered()
 /// What `compile` wrote never sticks.
 pub fn compiled_never_sticks()
     ensures { CompiledNeverSticks }
+{
+    texts_keep_laws();
+}
+
+/// A process of the executable file that `native` makes of what `compile` wrote shows the integer to which the source
+/// evaluates and ends with 0, or with 6 where the system does not take that line, or with 7 for want of memory. Where
+/// the source evaluates to none it goes on for ever, or ends with 7.
+pub fn native_shows_the_same()
+    ensures { NativeShowsTheSame }
+{
+    texts_keep_laws();
+}
+
+/// A process of the executable file that `native` makes of a text shows what `run` shows of the text: the same line, or
+/// it ends with 6 where the system does not take that line, or with 7 for want of memory. What it shows where it ends
+/// with 0, `run` shows.
+pub fn native_runs_the_same()
+    ensures { NativeRunsTheSame }
+{
+    texts_keep_laws();
+}
+
+/// What `native --listing` shows of a text is one page.
+pub fn one_native_listing()
+    ensures { OneNativeListing }
+{
+    texts_keep_laws();
+}
+
+/// What `native --listing` shows of a text is the code of the executable file that `native` makes of it with the same
+/// heap: each byte in order, and each instruction as the processor reads it at its address.
+pub fn native_listing_shows_the_file()
+    ensures { NativeListingShowsTheFile }
 {
     texts_keep_laws();
 }

@@ -6,6 +6,7 @@ ghost use Rattle.talc_core.specs.Failures.{refusal_of, refusal_of_assembly};
 use crate::fault::Fault;
 use f_terms::{FFault, FTerm};
 use idx_core::OutOfMemory;
+use native::NativeError;
 use std::alloc::AllocError;
 use std::error::Error;
 use std::fmt;
@@ -48,6 +49,15 @@ impl From<AllocError> for Refusal {
     ghost from_gives = { λ _ e. e ≡ refusal.Memory };
 
     fn from(_: AllocError) -> Refusal {
+        Refusal::Memory
+    }
+}
+
+// A program that is too large for an executable file is past an internal bound, which is told as want of memory.
+impl From<NativeError> for Refusal {
+    ghost from_gives = { λ _ e. e ≡ refusal.Memory };
+
+    fn from(_: NativeError) -> Refusal {
         Refusal::Memory
     }
 }

@@ -1,6 +1,6 @@
 // The top call.
 ghost use Rattle.std.specs.Prelude.{map, string_bytes};
-ghost use Rattle.talc_words.specs.Command.{EnoughRegisters};
+ghost use Rattle.talc_words.specs.Command.{NumbersAreInBounds};
 ghost use Rattle.talc_words.specs.Reads.{asked_by};
 ghost use Rattle.talc_core.specs.Headline.{Does, Headline};
 ghost use Rattle.talc_core.specs.Exact.{Exactly};
@@ -11,7 +11,7 @@ use crate::report::{Failure, report, show};
 use crate::status::Status;
 use io_core::{Files, Sink};
 use std::alloc::Global;
-use talc_words::{Command, NoCommand, read, registers_are_enough};
+use talc_words::{Command, NoCommand, numbers_are_in_bounds, read};
 
 // Does a command, and tells the user why where it fails.
 fn run_command<F: Files, O: Sink, E: Sink>(
@@ -21,7 +21,7 @@ fn run_command<F: Files, O: Sink, E: Sink>(
     err: &mut E,
     command: Command,
 ) -> Status
-    requires { EnoughRegisters (asked_by command) }
+    requires { NumbersAreInBounds (asked_by command) }
     ensures { Does
         (record { files = F.state files.old; out = O.state out.old; err = E.state err.old })
         (record { files = F.state files.new; out = O.state out.new; err = E.state err.new })
@@ -52,7 +52,7 @@ pub fn talc<F: Files, O: Sink, E: Sink>(
         result }
 {
     headline_is_exact();
-    registers_are_enough();
+    numbers_are_in_bounds();
     match read(alloc, words) {
         Ok(command) => run_command(alloc, files, out, err, command),
         Err(NoCommand::Usage(text)) => show(alloc, err, text.as_bytes(), Status::Usage),

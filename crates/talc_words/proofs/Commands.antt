@@ -1,6 +1,7 @@
 -- What `clap` takes by the description is a command.
-use Rattle.std.proofs.Common.{◌≡◌, ◌≤◌, ◌||◌, ℕ, Bool, true, false, not, cond, List, [], ◌∷◌, drop, find, Option, Some}
+use Rattle.std.proofs.Common.{◌≡◌, ◌%◌, ◌||◌, ℕ, Bool, true, false, not, cond, List, [], ◌∷◌, drop, find, Option, Some}
 use Rattle.std.proofs.Common.{None, IsSome, IfSome, MatchOption, is_some, option_map, refl, sym, subst, inl, inr, codes}
+use Rattle.std.proofs.Common.{arith, nat_eq, eqb-true}
 use Rattle.std.specs.Option.{option_map_or}
 use Rattle.std.specs.List.{AllByRecursion}
 use Rattle.std.proofs.lemmas.Slice.Eq.{bytes_eq-Decides}
@@ -15,15 +16,15 @@ use Rattle.clap.specs.Kinds.{Kinds}
 use Rattle.clap.specs.declared.error.kind.ErrorKind.TheVariants.{MissingRequiredArgument}
 use Rattle.talc_words.specs.Description.{talc_app}
 use Rattle.talc_words.specs.declared.form.Form.{Form}
-use Rattle.talc_words.specs.Command.{Asked, Checks, CompilesWithin, Costs, EnoughRegisters, Evaluates, Explains}
-use Rattle.talc_words.specs.Command.{Generates}
-use Rattle.talc_words.specs.Command.{Lists, NamesForm, Runs, Shows, Types, TypesNames}
+use Rattle.talc_words.specs.Command.{Asked, Checks, CompilesWithin, Costs, Evaluates, Explains, Generates}
+use Rattle.talc_words.specs.Command.{HasOneResult, HasPages, IsHeapSize, Lists, NamesForm, NumbersAreInBounds, Runs}
+use Rattle.talc_words.specs.Command.{Shows, Types, TypesNames, asked_to_build, flag_in, heap_by, heap_in, in_pages}
 use Rattle.talc_words.specs.Command.{asked_between, asked_in, asked_of, asked_with, asked_within, command_of}
 use Rattle.talc_words.specs.Command.{number_in, number_of, shown_in, where_none}
-use Rattle.talc_words.specs.Laws.{CommandWhereTaken, RegistersAreEnough}
-use Rattle.talc_words.proofs.Taken.{IsAmong, IsPlain, ArePlain, AreRows, Each, IsNumberIf, IsRegistersIf, each}
-use Rattle.talc_words.proofs.Taken.{MayHaveValue}
-use Rattle.talc_words.proofs.Taken.{enough_given, none_first, none_next, level_rows, level_given, first_given}
+use Rattle.talc_words.specs.Laws.{CommandWhereTaken, CommandsAreInBounds}
+use Rattle.talc_words.proofs.NumberLemmas.{IsBetween}
+use Rattle.talc_words.proofs.Taken.{IsAmong, IsBetweenIf, IsPlain, ArePlain, AreRows, Each, IsNumberIf, MayHaveValue}
+use Rattle.talc_words.proofs.Taken.{each, between_given, none_first, none_next, level_rows, level_given, first_given}
 use Rattle.talc_words.proofs.Taken.{number_given}
 
 abbrev leaf : List Shape → Shape
@@ -69,6 +70,9 @@ listing_leaf = leaf (drop 11 (built talc_app).subs)
 
 abbrev types_leaf : Shape
 types_leaf = leaf (drop 12 (built talc_app).subs)
+
+abbrev native_leaf : Shape
+native_leaf = leaf (drop 13 (built talc_app).subs)
 
 -- the argument takes a value at each use, asks for help or is a flag, and its parser takes a default
 abbrev IsOrdinary : Rule → Type 0
@@ -116,8 +120,30 @@ listing_ordinary = ((inl (refl, refl), tt), ((inr (inl refl), tt), tt))
 types_ordinary : Each IsOrdinary types_leaf.rules
 types_ordinary = ((inl (refl, refl), tt), ((inr (inl refl), tt), tt))
 
-compile_numbers : Each (IsRegistersIf (codes "registers")) compile_leaf.rules
+native_ordinary : Each IsOrdinary native_leaf.rules
+native_ordinary = (
+  (inl (refl, refl), tt),
+  (
+    (inl (refl, refl), tt),
+    (
+      (inr (inr (refl, refl)), refl),
+      ((inl (refl, refl), tt), ((inr (inl refl), tt), tt)),
+    ),
+  ),
+)
+
+-- numbers of registers, and of bytes of a heap
+abbrev IsCountOf : Text → Rule → Type 0
+IsCountOf = IsBetweenIf 8 18446744073709551615
+
+abbrev IsSizeOf : Text → Rule → Type 0
+IsSizeOf = IsBetweenIf 65536 1099511627776
+
+compile_numbers : Each (IsCountOf (codes "registers")) compile_leaf.rules
 compile_numbers = (λ named. cc, (λ named. cc, (λ named. (refl, refl), (λ named. cc, tt))))
+
+native_numbers : Each (IsSizeOf (codes "heap")) native_leaf.rules
+native_numbers = (λ named. cc, (λ named. cc, (λ named. cc, (λ named. (refl, refl), (λ named. cc, tt)))))
 
 run_numbers : Each (IsNumberIf (codes "fuel")) run_leaf.rules
 run_numbers = (λ named. cc, (λ named. (refl, refl), (λ named. cc, tt)))
@@ -155,20 +181,22 @@ one_given : (a : Bool) → cond (not a || false) (MissingRequiredArgument ∷ []
 one_given true e = refl
 one_given false e = cc
 
--- something is asked for, and a number of registers is 8 at least
+-- something is asked for, and its numbers keep their bounds
 abbrev Asks : Option Asked → Type 0
 Asks None = ⊥
-Asks (Some asked) = EnoughRegisters asked
+Asks (Some asked) = NumbersAreInBounds asked
 
 -- the values of a level in which no error is found
-within : (input output : Text) (o : Option Text) → IfSome o (λ t. MatchOption (number_of t) ⊥ (λ k. 8 ≤ k)) →
+within : (input output : Text) (o : Option Text) →
+    IfSome o (λ t. MatchOption (number_of t) ⊥ (IsBetween 8 18446744073709551615)) →
     Asks (asked_within (Some input) (Some output) o)
 within input output None enough = tt
 within input output (Some text) enough = go (number_of text) enough
   where
-    go : (o : Option ℕ) → MatchOption o ⊥ (λ k. 8 ≤ k) → Asks (option_map (CompilesWithin input output) o)
+    go : (o : Option ℕ) → MatchOption o ⊥ (IsBetween 8 18446744073709551615) →
+        Asks (option_map (CompilesWithin input output) o)
     go None enough = absurd enough
-    go (Some k) enough = enough
+    go (Some k) enough = enough.0
 
 compile_asks : (rows : List Row) → AreRows compile_leaf.rules rows → f.check_fault compile_leaf rows false ≡ [] →
     Asks (asked_in (codes "compile") rows)
@@ -178,8 +206,8 @@ compile_asks rows held none =
     let output = first_given compile_leaf.rules (codes "OUT") rows held given.1 in
     rw (input.1, output.1)
     (within input.0 output.0 (one_of (codes "registers") rows)
-    (enough_given compile_leaf.rules (codes "registers") rows
-    (each (IsRegistersIf (codes "registers")) compile_leaf.rules compile_numbers) held))
+    (between_given 8 18446744073709551615 compile_leaf.rules (codes "registers") rows
+    (each (IsCountOf (codes "registers")) compile_leaf.rules compile_numbers) held))
 
 upgrade_asks : (rows : List Row) → AreRows upgrade_leaf.rules rows → f.check_fault upgrade_leaf rows false ≡ [] →
     Asks (asked_in (codes "upgrade") rows)
@@ -190,7 +218,7 @@ upgrade_asks rows held none =
     rw (input.1, output.1) tt
 
 -- a file alone
-file_asks : (asks : Text → Asked) → ((t : Text) → EnoughRegisters (asks t)) → (s : Shape) (rows : List Row) →
+file_asks : (asks : Text → Asked) → ((t : Text) → NumbersAreInBounds (asks t)) → (s : Shape) (rows : List Row) →
     AreRows s.rules rows → is_given (codes "IN") rows ≡ true → Asks (option_map asks (first_of (codes "IN") rows))
 file_asks asks free s rows held given =
     let input = first_given s.rules (codes "IN") rows held given in
@@ -206,7 +234,7 @@ typeof_asks : (rows : List Row) → AreRows typeof_leaf.rules rows → f.check_f
 typeof_asks rows held none =
     file_asks Types (λ t. tt) typeof_leaf rows held (one_given (is_given (codes "IN") rows) none)
 
-numbered : (asks : Text → ℕ → Asked) → ((t : Text) (n : ℕ) → EnoughRegisters (asks t n)) →
+numbered : (asks : Text → ℕ → Asked) → ((t : Text) (n : ℕ) → NumbersAreInBounds (asks t n)) →
     (input : Text) (number : Option ℕ) → IsSome number → Asks (asked_with asks (Some input) number)
 numbered asks free input None some = cc
 numbered asks free input (Some n) some = free input n
@@ -291,71 +319,122 @@ types_asks : (rows : List Row) → AreRows types_leaf.rules rows → f.check_fau
 types_asks rows held none =
     file_asks TypesNames (λ t. tt) types_leaf rows held (one_given (is_given (codes "IN") rows) none)
 
--- a level of the parse of a subcommand, no error in it, and a form that has its name
+-- a heap of so many bytes, where they are whole pages
+paged : (k : ℕ) → IsBetween 65536 1099511627776 k → (b : Bool) → nat_eq (k % 4096) 0 ≡ b →
+    IfSome (cond b (Some k) None) IsHeapSize
+paged k size true e = record {
+  low = size.0;
+  high = size.1;
+  whole = eqb-true (k % 4096) 0 e;
+}
+paged k size false e = tt
+
+sized : (o : Option Text) → IfSome o (λ t. MatchOption (number_of t) ⊥ (IsBetween 65536 1099511627776)) →
+    IfSome (heap_by o) IsHeapSize
+sized None size = record {
+  low = omega arith;
+  high = omega arith;
+  whole = refl;
+}
+sized (Some text) size = go (number_of text) size
+  where
+    go : (o : Option ℕ) → MatchOption o ⊥ (IsBetween 65536 1099511627776) → IfSome (in_pages o) IsHeapSize
+    go None size = tt
+    go (Some k) size = paged k size (nat_eq (k % 4096) 0) refl
+
+-- a file or its instructions, with a heap
+builds : (lists : Bool) (input : Text) (output : Option Text) (heap : Option ℕ) → is_some output ≡ not lists →
+    IsSome heap → IfSome heap IsHeapSize → Asks (asked_to_build lists (Some input) output heap)
+builds false input (Some output) (Some heap) one some size = size
+builds true input None (Some heap) one some size = size
+builds false input None heap one some size = cc
+builds true input (Some output) heap one some size = cc
+builds lists input output None one some size = cc
+
+native_asks : (rows : List Row) → AreRows native_leaf.rules rows → f.check_fault native_leaf rows false ≡ [] →
+    IsSome (heap_in rows) → is_some (first_of (codes "OUT") rows) ≡ not (flag_in (codes "listing") rows) →
+    Asks (asked_in (codes "native") rows)
+native_asks rows held none heap one =
+    let input = first_given native_leaf.rules (codes "IN") rows held (one_given (is_given (codes "IN") rows) none) in
+    rw input.1
+    (builds (flag_in (codes "listing") rows) input.0 (first_of (codes "OUT") rows) (heap_in rows) one heap
+    (sized (one_of (codes "heap") rows)
+    (between_given 65536 1099511627776 native_leaf.rules (codes "heap") rows
+    (each (IsSizeOf (codes "heap")) native_leaf.rules native_numbers) held)))
+
+-- a form has its name, a heap its pages, and there is one result
+abbrev IsFit : Option (Text × List Row) → Type 0
+IsFit entered = NamesForm entered × HasPages entered × HasOneResult entered
+
+-- a level of the parse of a subcommand, no error in it, and a value that fits
 level_asks : (s : Shape) → Each IsOrdinary s.rules →
-    ((rows : List Row) → AreRows s.rules rows → f.check_fault s rows false ≡ [] → NamesForm (Some (s.name, rows)) →
+    ((rows : List Row) → AreRows s.rules rows → f.check_fault s rows false ≡ [] → IsFit (Some (s.name, rows)) →
     Asks (asked_in s.name rows))
-    → (words : List Text) → f.level_fault s [] nothing_held words false [] ≡ [] → NamesForm (Some (rows_at s words)) →
+    → (words : List Text) → f.level_fault s [] nothing_held words false [] ≡ [] → IsFit (Some (rows_at s words)) →
     Asks (asked_of (Some (rows_at s words)))
-level_asks s ordinary asks words none form =
+level_asks s ordinary asks words none fit =
     let plain : ArePlain s.rules = λ a among. (each IsOrdinary s.rules ordinary a among).0 in
     let defaults : (a : Rule) → IsAmong a s.rules → MayHaveValue a a.defaults =
     λ a among. (each IsOrdinary s.rules ordinary a among).1 in
-    asks (rows_after s.rules [] words) (level_rows s plain defaults words none) (level_given s plain words none) form
+    asks (rows_after s.rules [] words) (level_rows s plain defaults words none) (level_given s plain words none) fit
 
--- a level without a form
-formless_asks : (s : Shape) → Each IsOrdinary s.rules →
+-- a level of another subcommand
+plain_asks : (s : Shape) → Each IsOrdinary s.rules →
     ((rows : List Row) → AreRows s.rules rows → f.check_fault s rows false ≡ [] → Asks (asked_in s.name rows))
-    → (words : List Text) → f.level_fault s [] nothing_held words false [] ≡ [] → NamesForm (Some (rows_at s words)) →
+    → (words : List Text) → f.level_fault s [] nothing_held words false [] ≡ [] → IsFit (Some (rows_at s words)) →
     Asks (asked_of (Some (rows_at s words)))
-formless_asks s ordinary asks = level_asks s ordinary (λ rows held none form. asks rows held none)
+plain_asks s ordinary asks = level_asks s ordinary (λ rows held none fit. asks rows held none)
 
 -- the words of a subcommand in which no error is found are a command
 abbrev LeafAsks : Shape → Type 0
 LeafAsks s = (words : List Text) → f.level_fault s [] nothing_held words false [] ≡ [] →
-    NamesForm (Some (rows_at s words)) → Asks (asked_of (Some (rows_at s words)))
+    IsFit (Some (rows_at s words)) → Asks (asked_of (Some (rows_at s words)))
 
 both : {A B : Type 0} → A → B → A × B
 both a b = (a, b)
 
 each_asks : AllByRecursion LeafAsks (built talc_app).subs
 each_asks =
-    both (formless_asks compile_leaf compile_ordinary compile_asks)
-    (both (formless_asks check_leaf check_ordinary check_asks)
-    (both (formless_asks run_leaf run_ordinary run_asks)
-    (both (formless_asks typeof_leaf typeof_ordinary typeof_asks)
-    (both (formless_asks eval_leaf eval_ordinary eval_asks)
-    (both (formless_asks gen_leaf gen_ordinary gen_asks)
-    (both (formless_asks upgrade_leaf upgrade_ordinary upgrade_asks)
-    (both (formless_asks trace_leaf trace_ordinary trace_asks)
-    (both (level_asks show_leaf show_ordinary (λ rows held given named. show_asks rows held given (named refl)))
-    (both (formless_asks explain_leaf explain_ordinary explain_asks)
-    (both (formless_asks cost_leaf cost_ordinary cost_asks)
-    (both (formless_asks listing_leaf listing_ordinary listing_asks)
-    (both (formless_asks types_leaf types_ordinary types_asks) tt))))))))))))
+    both (plain_asks compile_leaf compile_ordinary compile_asks)
+    (both (plain_asks check_leaf check_ordinary check_asks)
+    (both (plain_asks run_leaf run_ordinary run_asks)
+    (both (plain_asks typeof_leaf typeof_ordinary typeof_asks)
+    (both (plain_asks eval_leaf eval_ordinary eval_asks)
+    (both (plain_asks gen_leaf gen_ordinary gen_asks)
+    (both (plain_asks upgrade_leaf upgrade_ordinary upgrade_asks)
+    (both (plain_asks trace_leaf trace_ordinary trace_asks)
+    (both (level_asks show_leaf show_ordinary (λ rows held given fit. show_asks rows held given (fit.0 refl)))
+    (both (plain_asks explain_leaf explain_ordinary explain_asks)
+    (both (plain_asks cost_leaf cost_ordinary cost_asks)
+    (both (plain_asks listing_leaf listing_ordinary listing_asks)
+    (both (plain_asks types_leaf types_ordinary types_asks)
+    (both
+    (level_asks native_leaf native_ordinary
+    (λ rows held given fit. native_asks rows held given (fit.1 refl) (fit.2 refl)))
+    tt)))))))))))))
 
 -- so it is for the first subcommand for which a test holds, where there is one
 abbrev FoundAsks : Option Shape → List Text → Type 0
 FoundAsks found words =
     option_map_or (λ s. f.level_fault s [] nothing_held words false []) found [] ≡ [] →
-    NamesForm (option_map (λ s. rows_at s words) found) →
+    IsFit (option_map (λ s. rows_at s words) found) →
     is_some (option_map (λ s. rows_at s words) found) ≡ true → Asks (asked_of (option_map (λ s. rows_at s words) found))
 
 chosen_asks : (p : Shape → Bool) (subs : List Shape) → AllByRecursion LeafAsks subs → (words : List Text) →
     FoundAsks (find p subs) words
-chosen_asks p [] asks words = λ none form entered. cc
+chosen_asks p [] asks words = λ none fit entered. cc
 chosen_asks p (s ∷ rest) asks words = go (p s) (chosen_asks p rest asks.1 words)
   where
     go : (b : Bool) → FoundAsks (find p rest) words → FoundAsks (cond b (Some s) (find p rest)) words
-    go true later = λ none form entered. asks.0 words none form
+    go true later = λ none fit entered. asks.0 words none fit
     go false later = later
 
 stopped_asks : (stop : Option (Text × List Text)) → entered_fault (built talc_app) stop ≡ [] →
-    NamesForm (entered (built talc_app) stop) → is_some (entered (built talc_app) stop) ≡ true →
+    IsFit (entered (built talc_app) stop) → is_some (entered (built talc_app) stop) ≡ true →
     Asks (asked_of (entered (built talc_app) stop))
-stopped_asks None none form entered = cc
-stopped_asks (Some p) none form entered =
-    chosen_asks (λ s. answers_to p.0 (label_of s)) (built talc_app).subs each_asks p.1 none form entered
+stopped_asks None none fit entered = cc
+stopped_asks (Some p) none fit entered =
+    chosen_asks (λ s. answers_to p.0 (label_of s)) (built talc_app).subs each_asks p.1 none fit entered
 
 -- a subcommand is required
 met : (rows : List Row) (has : Bool) → f.check_fault (built talc_app).top rows has ≡ [] → has ≡ true
@@ -366,10 +445,10 @@ where_taken : (kinds : Kinds) (o : Option Asked) → kinds ≡ [] → Asks o →
 where_taken [] o none asks = asks
 where_taken (k ∷ ks) o none asks = cc
 
-taken_asks : (words : List Text) → fault_of talc_app words ≡ [] → NamesForm (subcommand_of talc_app words) →
+taken_asks : (words : List Text) → fault_of talc_app words ≡ [] → IsFit (subcommand_of talc_app words) →
     Asks (command_of words)
 unfolding command_of
-taken_asks words none form =
+taken_asks words none fit =
     let app : App = built talc_app in
     let after : List Text = drop 1 words in
     let end : Held = (walk app.top.rules (names_of app) nothing_held after).held in
@@ -381,7 +460,7 @@ taken_asks words none form =
     (none_next (settle_fault app.top.rules app.top.args_override_self end) _
     (none_next (entered_fault app stop) _ walked_on)) in
     where_taken (fault_of talc_app words) (asked_of (entered app stop)) none
-    (stopped_asks stop below form (met (finished app.top.rules end) (is_some (entered app stop)) checked))
+    (stopped_asks stop below fit (met (finished app.top.rules end) (is_some (entered app stop)) checked))
 
 there : (o : Option Asked) → Asks o → IsSome o
 there None asks = absurd asks
@@ -409,23 +488,45 @@ show_form name rows some is =
     let named : IsSome (asked_in (codes "show") rows) = subst (λ (t : Text). IsSome (asked_in t rows)) is some in
     with_some (first_of (codes "IN") rows) (shown_in rows) named
 
-asked_form : (entered : Option (Text × List Row)) → IsSome (asked_of entered) → NamesForm entered
-asked_form None some = tt
-asked_form (Some p) some = λ named. show_form p.0 p.1 some ((bytes_eq-Decides p.0 (codes "show")).0 named)
+-- what is asked of `native` has a heap, and one result
+to_build : (lists : Bool) (input output : Option Text) (heap : Option ℕ) →
+    IsSome (asked_to_build lists input output heap) → IsSome heap × (is_some output ≡ not lists)
+to_build false (Some input) (Some output) (Some heap) some = (refl, refl)
+to_build true (Some input) None (Some heap) some = (refl, refl)
+to_build false (Some input) None heap some = (cc, cc)
+to_build true (Some input) (Some output) heap some = (cc, cc)
+to_build lists (Some input) output None some = (cc, cc)
+to_build false None output heap some = (cc, cc)
+to_build true None output heap some = (cc, cc)
 
-command_form : (words : List Text) → IsSome (command_of words) → NamesForm (subcommand_of talc_app words)
+native_fit : (name : Text) (rows : List Row) → IsSome (asked_in name rows) → name ≡ codes "native" →
+    IsSome (heap_in rows) × (is_some (first_of (codes "OUT") rows) ≡ not (flag_in (codes "listing") rows))
+native_fit name rows some is =
+    let named : IsSome (asked_in (codes "native") rows) = subst (λ (t : Text). IsSome (asked_in t rows)) is some in
+    to_build (flag_in (codes "listing") rows) (first_of (codes "IN") rows) (first_of (codes "OUT") rows) (heap_in rows)
+    named
+
+asked_fit : (entered : Option (Text × List Row)) → IsSome (asked_of entered) → IsFit entered
+asked_fit None some = (tt, tt, tt)
+asked_fit (Some p) some = (
+  λ named. show_form p.0 p.1 some ((bytes_eq-Decides p.0 (codes "show")).0 named),
+  λ named. (native_fit p.0 p.1 some ((bytes_eq-Decides p.0 (codes "native")).0 named)).0,
+  λ named. (native_fit p.0 p.1 some ((bytes_eq-Decides p.0 (codes "native")).0 named)).1,
+)
+
+command_fit : (words : List Text) → IsSome (command_of words) → IsFit (subcommand_of talc_app words)
 unfolding command_of
-command_form words asks =
-    asked_form (subcommand_of talc_app words)
+command_fit words asks =
+    asked_fit (subcommand_of talc_app words)
     (some_where (fault_of talc_app words) (asked_of (subcommand_of talc_app words)) asks)
 
 pub command_where_taken : CommandWhereTaken
 command_where_taken words = (
-  λ asks. (command_taken words asks, command_form words asks),
-  λ taken. there (command_of words) (taken_asks words taken.0 taken.1),
+  λ asks. let fit = command_fit words asks in (command_taken words asks, fit.0, fit.1, fit.2),
+  λ taken. there (command_of words) (taken_asks words taken.0 (taken.1, taken.2, taken.3)),
 )
 
-pub registers_are_enough : RegistersAreEnough
-registers_are_enough words asked is =
+pub numbers_are_in_bounds : CommandsAreInBounds
+numbers_are_in_bounds words asked is =
     let some : IsSome (command_of words) = subst (λ (o : Option Asked). IsSome o) (sym is) refl in
-    subst Asks is (taken_asks words (command_taken words some) (command_form words some))
+    subst Asks is (taken_asks words (command_taken words some) (command_fit words some))

@@ -7,7 +7,8 @@ use Rattle.clap.specs.Kinds.{value_kinds}
 use Rattle.clap.specs.ValueTests.{accepts}
 use Rattle.clap.proofs.ValueTestLemmas.{Accepts-accepts, accepts-Accepts}
 use Rattle.talc_words.specs.Command.{number_of}
-use Rattle.talc_words.specs.Description.{register_number, whole_number}
+use Rattle.clap.specs.declared.builder.value_parser.ValueParser.TheVariants.{Unsigned}
+use Rattle.talc_words.specs.Description.{whole_number}
 
 -- a text that the reader takes is a number's
 pub taken_number : (text : Text) → value_kinds false whole_number text ≡ [] → IsSome (number_of text)
@@ -39,16 +40,21 @@ number_read E gives parses (Some t) None none some = go (accepts false whole_num
         absurd (parses t (Err read.0) read.1 (is_one.0, is_one.1))
     go false is = rw is refl
 
--- a text that the reader of numbers from 8 on takes is that of such a number
-pub taken_enough : (text : Text) → value_kinds false register_number text ≡ [] →
-    MatchOption (number_of text) ⊥ (λ k. 8 ≤ k)
-taken_enough text none = go (accepts false register_number text) refl
+-- the number lies between two others
+abbrev pub IsBetween : ℕ → ℕ → ℕ → Type 0
+IsBetween low high k = (low ≤ k) × (k ≤ high)
+
+-- a text that a reader of numbers from one to another takes is that of such a number
+pub taken_between : (low high : ℕ) (text : Text) → value_kinds false (Unsigned low high) text ≡ [] →
+    MatchOption (number_of text) ⊥ (IsBetween low high)
+taken_between low high text none = go (accepts false (Unsigned low high) text) refl
   where
-    go : (b : Bool) → accepts false register_number text ≡ b → MatchOption (number_of text) ⊥ (λ k. 8 ≤ k)
+    go : (b : Bool) → accepts false (Unsigned low high) text ≡ b → MatchOption (number_of text) ⊥ (IsBetween low high)
     go true is =
-        let is_one = accepts-Accepts false register_number text is in
+        let is_one = accepts-Accepts false (Unsigned low high) text is in
         let least : 0 ≤ digits_value 10 (without_leading_plus text) = omega arith in
+        let most : digits_value 10 (without_leading_plus text) ≤ 18446744073709551615 = omega (arith, is_one.1) in
         let takes : accepts false whole_number text ≡ true =
-        Accepts-accepts false whole_number text (is_one.0, is_one.1, least, is_one.3) in
-        rw takes is_one.2
+        Accepts-accepts false whole_number text (is_one.0, is_one.1, least, most) in
+        rw takes (is_one.2, is_one.3)
     go false is = let bad = rw is at none in cc

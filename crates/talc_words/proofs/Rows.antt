@@ -2,9 +2,8 @@
 use Rattle.std.proofs.Common.{◌≡◌, [], ◌∷◌, Some, None, false, true, refl}
 use Rattle.std.specs.Prelude.{codes}
 use Rattle.clap.proofs.OnLiterals.{clap_on_literals}
-use Rattle.talc_words.specs.Command.{Checks, Compiles, CompilesWithin, Evaluates, Generates}
-use Rattle.talc_words.specs.Command.{Runs}
-use Rattle.talc_words.specs.Command.{Shows, Traces, Types, Upgrades, command_of}
+use Rattle.talc_words.specs.Command.{Builds, Checks, Compiles, CompilesWithin, Disassembles, Evaluates, Generates}
+use Rattle.talc_words.specs.Command.{Runs, Shows, Traces, Types, Upgrades, command_of}
 use Rattle.talc_words.specs.declared.form.Form.TheVariants as form
 
 -- talc compile x.f x.tal
@@ -365,3 +364,99 @@ show_types_assembly :
     command_of (codes "talc" ∷ codes "show" ∷ codes "x.f" ∷ codes "--form=assembly" ∷ codes "--types" ∷ []) ≡ None
 unfolding command_of clap_on_literals
 show_types_assembly = refl
+
+-- talc native x.tal x, with a heap of 1 GiB
+native_words :
+    command_of (codes "talc" ∷ codes "native" ∷ codes "x.tal" ∷ codes "x" ∷ [])
+    ≡ Some (Builds (codes "x.tal") (codes "x") 1073741824)
+unfolding command_of clap_on_literals
+native_words = refl
+
+-- the same with a heap of the smallest and of the greatest size, before and behind the files
+native_heap :
+    command_of (codes "talc" ∷ codes "native" ∷ codes "--heap" ∷ codes "65536" ∷ codes "x.tal" ∷ codes "x" ∷ [])
+    ≡ Some (Builds (codes "x.tal") (codes "x") 65536)
+unfolding command_of clap_on_literals
+native_heap = refl
+
+native_most :
+    command_of (codes "talc" ∷ codes "native" ∷ codes "x.tal" ∷ codes "x" ∷ codes "--heap=1099511627776" ∷ [])
+    ≡ Some (Builds (codes "x.tal") (codes "x") 1099511627776)
+unfolding command_of clap_on_literals
+native_most = refl
+
+-- a heap that is too small, too large, no multiple of 4096, and no number; one that is given twice
+native_few :
+    command_of (codes "talc" ∷ codes "native" ∷ codes "--heap" ∷ codes "61440" ∷ codes "x.tal" ∷ codes "x" ∷ [])
+    ≡ None
+unfolding command_of clap_on_literals
+native_few = refl
+
+native_more :
+    command_of (codes "talc" ∷ codes "native" ∷ codes "--heap" ∷ codes "1099511631872" ∷ codes "x.tal" ∷ codes "x"
+    ∷ []) ≡ None
+unfolding command_of clap_on_literals
+native_more = refl
+
+native_pages :
+    command_of (codes "talc" ∷ codes "native" ∷ codes "--heap" ∷ codes "65537" ∷ codes "x.tal" ∷ codes "x" ∷ [])
+    ≡ None
+unfolding command_of clap_on_literals
+native_pages = refl
+
+native_no_number :
+    command_of (codes "talc" ∷ codes "native" ∷ codes "--heap" ∷ codes "64K" ∷ codes "x.tal" ∷ codes "x" ∷ [])
+    ≡ None
+unfolding command_of clap_on_literals
+native_no_number = refl
+
+native_twice :
+    command_of (codes "talc" ∷ codes "native" ∷ codes "--heap" ∷ codes "65536" ∷ codes "--heap" ∷ codes "65536"
+    ∷ codes "x.tal" ∷ codes "x" ∷ []) ≡ None
+unfolding command_of clap_on_literals
+native_twice = refl
+
+-- its instructions, with a heap of 1 GiB and of the smallest size
+native_listing :
+    command_of (codes "talc" ∷ codes "native" ∷ codes "--listing" ∷ codes "x.tal" ∷ [])
+    ≡ Some (Disassembles (codes "x.tal") 1073741824)
+unfolding command_of clap_on_literals
+native_listing = refl
+
+native_listing_heap :
+    command_of (codes "talc" ∷ codes "native" ∷ codes "x.tal" ∷ codes "--heap" ∷ codes "65536" ∷ codes "--listing"
+    ∷ []) ≡ Some (Disassembles (codes "x.tal") 65536)
+unfolding command_of clap_on_literals
+native_listing_heap = refl
+
+-- with a heap that is no multiple of 4096, with a second file, and without a file
+native_listing_pages :
+    command_of (codes "talc" ∷ codes "native" ∷ codes "--listing" ∷ codes "--heap=65537" ∷ codes "x.tal" ∷ [])
+    ≡ None
+unfolding command_of clap_on_literals
+native_listing_pages = refl
+
+native_listing_file :
+    command_of (codes "talc" ∷ codes "native" ∷ codes "--listing" ∷ codes "x.tal" ∷ codes "x" ∷ []) ≡ None
+unfolding command_of clap_on_literals
+native_listing_file = refl
+
+native_listing_nothing : command_of (codes "talc" ∷ codes "native" ∷ codes "--listing" ∷ []) ≡ None
+unfolding command_of clap_on_literals
+native_listing_nothing = refl
+
+-- neither the second file nor the flag, and the options on another command
+native_missing_file : command_of (codes "talc" ∷ codes "native" ∷ codes "x.tal" ∷ []) ≡ None
+unfolding command_of clap_on_literals
+native_missing_file = refl
+
+heap_elsewhere :
+    command_of (codes "talc" ∷ codes "upgrade" ∷ codes "--heap" ∷ codes "65536" ∷ codes "x.tal" ∷ codes "y.tal" ∷ [])
+    ≡ None
+unfolding command_of clap_on_literals
+heap_elsewhere = refl
+
+listing_elsewhere :
+    command_of (codes "talc" ∷ codes "upgrade" ∷ codes "--listing" ∷ codes "x.tal" ∷ codes "y.tal" ∷ []) ≡ None
+unfolding command_of clap_on_literals
+listing_elsewhere = refl

@@ -1,6 +1,6 @@
 -- Where `clap` finds no error in the words of a simple command, each argument that has a row has a value that its
 -- parser takes.
-use Rattle.std.proofs.Common.{◌≡◌, ◌≤◌, ◌⊎◌, ◌∙◌, ◌&&◌, ℕ, Bool, true, false, zero, suc, cond, List, [], ◌∷◌, ◌++◌}
+use Rattle.std.proofs.Common.{◌≡◌, ◌⊎◌, ◌∙◌, ◌&&◌, ℕ, Bool, true, false, zero, suc, cond, List, [], ◌∷◌, ◌++◌}
 use Rattle.std.proofs.Common.{length, drop, Option, Some, None, is_some, refl, sym, ap, subst, inl, inr, IfSome}
 use Rattle.std.proofs.Common.{MatchOption, true≢false, option_and_then, option_map, IsSome}
 use Rattle.std.specs.Prelude.{find, fold, encode_utf8, slice_get}
@@ -27,10 +27,11 @@ use Rattle.clap.specs.declared.error.kind.ErrorKind.TheVariants.{TooManyValues}
 use Rattle.clap.specs.declared.builder.action.ArgAction.TheVariants.{Set, SetTrue, Help}
 use Rattle.clap.specs.Values.{read_as, reading_of}
 use Rattle.clap.specs.declared.builder.value_parser.ValueParser.{ValueParser}
+use Rattle.clap.specs.declared.builder.value_parser.ValueParser.TheVariants.{Unsigned}
 use Rattle.clap.specs.declared.builder.value_parser.Reading.TheVariants.{AsWritten}
 use Rattle.talc_words.specs.Command.{number_in, number_of}
-use Rattle.talc_words.specs.Description.{register_number, whole_number}
-use Rattle.talc_words.proofs.NumberLemmas.{taken_enough, taken_number}
+use Rattle.talc_words.specs.Description.{whole_number}
+use Rattle.talc_words.proofs.NumberLemmas.{IsBetween, taken_between, taken_number}
 use Rattle.clap.specs.declared.parser.matches.ValueSource.{ValueSource}
 use Rattle.clap.specs.declared.parser.matches.ValueSource.TheVariants.{CommandLine, DefaultValue}
 
@@ -483,19 +484,19 @@ number_given rules id rows numbers held given =
     let one : one_of id rows ≡ Some value.0 = ap (λ (o : Option Row). option_and_then row_text o) found.1 ∙ text in
     subst (λ (o : Option Text). IsSome (option_and_then number_of o)) (sym one) (taken_number value.0 taken)
 
--- what has the id is an option of numbers of registers
-abbrev pub IsRegistersIf : Text → Rule → Type 0
-IsRegistersIf id a = bytes_eq a.id id ≡ true → (a.parser ≡ Some register_number) × (a.ignore_case ≡ false)
+-- what has the id is an option of numbers from one to another
+abbrev pub IsBetweenIf : ℕ → ℕ → Text → Rule → Type 0
+IsBetweenIf low high id a = bytes_eq a.id id ≡ true → (a.parser ≡ Some (Unsigned low high)) × (a.ignore_case ≡ false)
 
--- such an option has a number from 8 on, where it has a value
-pub enough_given : (rules : List Rule) (id : Text) (rows : List Row) →
-    ((a : Rule) → IsAmong a rules → IsRegistersIf id a) → AreRows rules rows →
-    IfSome (one_of id rows) (λ t. MatchOption (number_of t) ⊥ (λ k. 8 ≤ k))
-enough_given rules id rows numbers held =
+-- such an option has such a number, where it has a value
+pub between_given : (low high : ℕ) (rules : List Rule) (id : Text) (rows : List Row) →
+    ((a : Rule) → IsAmong a rules → IsBetweenIf low high id a) → AreRows rules rows →
+    IfSome (one_of id rows) (λ t. MatchOption (number_of t) ⊥ (IsBetween low high))
+between_given low high rules id rows numbers held =
     go (find (λ (x : Row). bytes_eq x.id id) rows) (found_row (λ (x : Row). bytes_eq x.id id) rules rows held)
   where
     go : (o : Option Row) → IfSome o (λ r. IsRow rules r × (bytes_eq r.id id ≡ true)) →
-        IfSome (option_and_then row_text o) (λ t. MatchOption (number_of t) ⊥ (λ k. 8 ≤ k))
+        IfSome (option_and_then row_text o) (λ t. MatchOption (number_of t) ⊥ (IsBetween low high))
     go None found = tt
     go (Some r) found =
         let number =
@@ -503,11 +504,11 @@ enough_given rules id rows numbers held =
         let value = first_value found.0.rule r.values found.0.value in
         let in_case : value_kinds false (parser_of_value found.0.rule.parser) value.0 ≡ [] =
         subst (λ (b : Bool). value_kinds b (parser_of_value found.0.rule.parser) value.0 ≡ []) number.1 value.2 in
-        let taken : value_kinds false register_number value.0 ≡ [] =
+        let taken : value_kinds false (Unsigned low high) value.0 ≡ [] =
         subst (λ (p : Option ValueParser). value_kinds false (parser_of_value p) value.0 ≡ []) number.0 in_case in
         let how : r.reading ≡ AsWritten =
         found.0.how ∙ ap (λ (p : Option ValueParser). reading_of (parser_of_value p)) number.0 in
         let text : option_map (read_as r.reading) (slice_get r.values 0) ≡ Some value.0 =
         ap (option_map (read_as r.reading)) value.1 ∙ ap (λ h. Some (read_as h value.0)) how in
-        subst (λ (o : Option Text). IfSome o (λ t. MatchOption (number_of t) ⊥ (λ k. 8 ≤ k))) (sym text)
-        (taken_enough value.0 taken)
+        subst (λ (o : Option Text). IfSome o (λ t. MatchOption (number_of t) ⊥ (IsBetween low high))) (sym text)
+        (taken_between low high value.0 taken)

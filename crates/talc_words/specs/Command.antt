@@ -1,6 +1,6 @@
 -- When words are a command, and what they ask for.
 use Rattle.std.specs.Prelude.{◌≡◌, ◌≤◌, ℕ, Bool, true, false, List, [], ◌∷◌, Option, Some, None, IsSome, codes}
-use Rattle.std.specs.Prelude.{if◌then◌else◌}
+use Rattle.std.specs.Prelude.{◌%◌, cond, if◌then◌else◌, is_some, nat_eq, not}
 use Rattle.std.specs.Prelude.{option_and_then, option_map}
 use Rattle.std.specs.Option.{option_map_or}
 use Rattle.std.specs.Str.{bytes_eq}
@@ -18,7 +18,9 @@ use Rattle.talc_words.specs.Description.{talc_app, whole_number}
 -- language, to run the TAL text of IN and show its states from one number of instructions to another, to show a form
 -- of the program of the source text of IN, with types or without, to show what is wrong with the source or TAL text of
 -- IN, to run the TAL text of IN for so many instructions and show what the run cost, to show the TAL text of IN with
--- the types of the registers at each place, or to show what the forms of the source text of IN bind, with the types
+-- the types of the registers at each place, to show what the forms of the source text of IN bind, with the types, to
+-- write an executable file of the TAL text of IN to the file OUT, with a heap of so many bytes, or to show the
+-- instructions of that file
 pub data Asked : Type 0 where
   Compiles : (input output : Text) → Asked
   CompilesWithin : (input output : Text) (registers : ℕ) → Asked
@@ -34,6 +36,8 @@ pub data Asked : Type 0 where
   Costs : (input : Text) (fuel : ℕ) → Asked
   Lists : (input : Text) → Asked
   TypesNames : (input : Text) → Asked
+  Builds : (input output : Text) (heap : ℕ) → Asked
+  Disassembles : (input : Text) (heap : ℕ) → Asked
 
 -- the number that a text writes, where `clap`'s reader of whole numbers takes it: decimal digits, perhaps after a plus,
 -- of a number below 2 ^ 64
@@ -75,6 +79,20 @@ with_types Assembly = None
 abbrev pub shown_in : List Row → Option Form
 shown_in rows = if flag_in (codes "types") rows then option_and_then with_types (form_in rows) else form_in rows
 
+-- a number of bytes, where it is a multiple of 4096
+abbrev pub in_pages : Option ℕ → Option ℕ
+in_pages (Some bytes) = cond (nat_eq (bytes % 4096) 0) (Some bytes) None
+in_pages None = None
+
+-- the heap that a text asks for; where there is none, 1 GiB
+abbrev pub heap_by : Option Text → Option ℕ
+heap_by (Some text) = in_pages (number_of text)
+heap_by None = Some 1073741824
+
+-- the heap that the first value of the argument `heap` asks for
+abbrev pub heap_in : List Row → Option ℕ
+heap_in rows = heap_by (one_of (codes "heap") rows)
+
 -- what both values ask for, where both are there
 abbrev pub asked_with : {X : Type 0} → (Text → X → Asked) → Option Text → Option X → Option Asked
 asked_with asks (Some input) (Some more) = Some (asks input more)
@@ -90,6 +108,13 @@ abbrev pub asked_within : Option Text → Option Text → Option Text → Option
 asked_within (Some input) (Some output) None = Some (Compiles input output)
 asked_within (Some input) (Some output) (Some text) = option_map (CompilesWithin input output) (number_of text)
 asked_within _ _ _ = None
+
+-- what a text and a heap ask for: a file where the text of its name is there, and its instructions where they are to
+-- be listed and there is no such text
+abbrev pub asked_to_build : Bool → Option Text → Option Text → Option ℕ → Option Asked
+asked_to_build false (Some input) (Some output) (Some heap) = Some (Builds input output heap)
+asked_to_build true (Some input) None (Some heap) = Some (Disassembles input heap)
+asked_to_build _ _ _ _ = None
 
 -- what a subcommand asks for, by its name and the values that `clap` gives its arguments
 abbrev pub asked_in : Text → List Row → Option Asked
@@ -111,7 +136,9 @@ asked_in name rows =
     else (if bytes_eq name (codes "cost") then asked_with Costs input (number_in (codes "fuel") rows)
     else (if bytes_eq name (codes "listing") then option_map Lists input
     else (if bytes_eq name (codes "types") then option_map TypesNames input
-    else None))))))))))))
+    else (if bytes_eq name (codes "native") then
+    asked_to_build (flag_in (codes "listing") rows) input (first_of (codes "OUT") rows) (heap_in rows)
+    else None)))))))))))))
 
 abbrev pub asked_of : Option (Text × List Row) → Option Asked
 asked_of entered = option_and_then (λ p. asked_in p.0 p.1) entered
@@ -127,13 +154,32 @@ abbrev pub NamesForm : Option (Text × List Row) → Type 0
 NamesForm None = Unit {0}
 NamesForm (Some entered) = bytes_eq entered.0 (codes "show") ≡ true → IsSome (shown_in entered.1)
 
--- The words are a command where they break no rule of `clap` by the description, a form has one of the six names, and
--- one that is asked for with types can be shown with them; then the subcommand and its values say what is asked. The
--- first word is the program's name.
+-- where the subcommand is `native`, its heap is a multiple of 4096 bytes
+abbrev pub HasPages : Option (Text × List Row) → Type 0
+HasPages None = Unit {0}
+HasPages (Some entered) = bytes_eq entered.0 (codes "native") ≡ true → IsSome (heap_in entered.1)
+
+-- where the subcommand is `native`, it has either OUT or `--listing`
+abbrev pub HasOneResult : Option (Text × List Row) → Type 0
+HasOneResult None = Unit {0}
+HasOneResult (Some entered) = bytes_eq entered.0 (codes "native") ≡ true →
+    is_some (first_of (codes "OUT") entered.1) ≡ not (flag_in (codes "listing") entered.1)
+
+-- The words are a command where they break no rule of `clap` by the description, a form has one of the six names, one
+-- that is asked for with types can be shown with them, a heap is a multiple of 4096 bytes, and `native` has either OUT
+-- or `--listing`; then the subcommand and its values say what is asked. The first word is the program's name.
 unfoldable pub command_of : List Text → Option Asked
 command_of words = where_none (fault_of talc_app words) (asked_of (subcommand_of talc_app words))
 
--- the registers to which a text is bounded are 8 at least
-abbrev pub EnoughRegisters : Asked → Type 0
-EnoughRegisters (CompilesWithin input output registers) = 8 ≤ registers
-EnoughRegisters other = Unit {0}
+-- the bytes of a heap: from 64 KiB to 1 TiB, and whole pages
+pub record IsHeapSize (heap : ℕ) : Type 0 where
+  pub low : 65536 ≤ heap
+  pub high : heap ≤ 1099511627776
+  pub whole : heap % 4096 ≡ 0
+
+-- the registers to which a text is bounded are 8 at least, and a heap has a size that heaps have
+abbrev pub NumbersAreInBounds : Asked → Type 0
+NumbersAreInBounds (CompilesWithin input output registers) = 8 ≤ registers
+NumbersAreInBounds (Builds input output heap) = IsHeapSize heap
+NumbersAreInBounds (Disassembles input heap) = IsHeapSize heap
+NumbersAreInBounds other = Unit {0}

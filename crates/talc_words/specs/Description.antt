@@ -10,6 +10,10 @@ use Rattle.clap.specs.declared.builder.value_parser.ValueParser.TheVariants.{Uns
 abbrev pub file_rule : Text → Rule
 file_rule name = record (new_rule name) { required = true; action = Some Set }
 
+-- a text of one value that may be left out
+abbrev pub optional_file_rule : Text → Rule
+optional_file_rule name = record (new_rule name) { action = Some Set }
+
 -- the reader of whole numbers below 2 ^ 64
 abbrev pub whole_number : ValueParser
 whole_number = Unsigned 0 18446744073709551615
@@ -39,6 +43,21 @@ registers_rule =
       parser = Some register_number;
     }
 
+-- the reader of numbers of bytes of a heap: from 64 KiB to 1 TiB; that they are whole pages is said by `in_pages` of
+-- Command
+abbrev pub heap_number : ValueParser
+heap_number = Unsigned 65536 1099511627776
+
+-- the option of one such number, called `heap`, with BYTES for its value in the help, which may be left out
+abbrev pub heap_rule : Rule
+heap_rule =
+    record (new_rule (codes "heap")) {
+      long = Some (codes "heap");
+      value_names = 1;
+      action = Some Set;
+      parser = Some heap_number;
+    }
+
 -- the required option of a form, called `form`, with F for its value in the help; which texts are forms is said by
 -- `form_named` of Command
 abbrev pub form_rule : Rule
@@ -50,9 +69,9 @@ form_rule =
       action = Some Set;
     }
 
--- the flag called `types`
-abbrev pub types_rule : Rule
-types_rule = record (new_rule (codes "types")) { long = Some (codes "types"); action = Some SetTrue }
+-- a flag, called by its name
+abbrev pub flag_rule : Text → Rule
+flag_rule name = record (new_rule name) { long = Some name; action = Some SetTrue }
 
 -- compile IN OUT, perhaps with --registers K
 abbrev pub compile_app : App
@@ -92,7 +111,8 @@ trace_app =
 
 -- show IN --form F, perhaps with --types
 abbrev pub show_app : App
-show_app = with_rule (with_rule (with_rule (new_app (codes "show")) (file_rule (codes "IN"))) form_rule) types_rule
+show_app = with_rule (with_rule (with_rule (new_app (codes "show")) (file_rule (codes "IN"))) form_rule)
+    (flag_rule (codes "types"))
 
 -- explain IN
 abbrev pub explain_app : App
@@ -110,6 +130,13 @@ listing_app = with_rule (new_app (codes "listing")) (file_rule (codes "IN"))
 abbrev pub types_app : App
 types_app = with_rule (new_app (codes "types")) (file_rule (codes "IN"))
 
+-- native IN OUT or native --listing IN, perhaps with --heap BYTES; that it is one of the two is said by
+-- `asked_to_build` of Command
+abbrev pub native_app : App
+native_app =
+    with_rule (with_rule (with_rule (with_rule (new_app (codes "native")) (file_rule (codes "IN")))
+    (optional_file_rule (codes "OUT"))) (flag_rule (codes "listing"))) heap_rule
+
 -- the command line without its subcommands: one must be given, and there is no `help` among them
 abbrev pub bare_app : App
 bare_app =
@@ -121,4 +148,4 @@ talc_app =
     fold with_subcommand bare_app
     (compile_app.top ∷ check_app.top ∷ run_app.top ∷ typeof_app.top ∷ eval_app.top ∷ gen_app.top ∷ upgrade_app.top
     ∷ trace_app.top ∷ show_app.top ∷ explain_app.top ∷ cost_app.top ∷ listing_app.top
-    ∷ types_app.top ∷ [])
+    ∷ types_app.top ∷ native_app.top ∷ [])

@@ -4,11 +4,12 @@ use Rattle.clap.specs.Words.{Text}
 use Rattle.talc_words.specs.declared.command.Command.{Command}
 use Rattle.talc_words.specs.declared.command.Command.TheVariants.{Compile, CompileWithin, Check, Run, Typeof, Eval, Gen}
 use Rattle.talc_words.specs.declared.command.Command.TheVariants.{Upgrade, Trace, Show, Explain, Cost, Listing}
-use Rattle.talc_words.specs.declared.command.Command.TheVariants.{Types as TypesPage}
+use Rattle.talc_words.specs.declared.command.Command.TheVariants.{Types as TypesPage, Native, Disassembly}
 use Rattle.talc_words.specs.declared.command.NoCommand.{NoCommand}
 use Rattle.talc_words.specs.declared.command.NoCommand.TheVariants.{Usage, Memory}
 use Rattle.talc_words.specs.Command.{Asked, Compiles, CompilesWithin, Checks, Runs, Types, Evaluates, Generates}
-use Rattle.talc_words.specs.Command.{Upgrades, Traces, Shows, Explains, Costs, Lists, TypesNames, command_of}
+use Rattle.talc_words.specs.Command.{Upgrades, Traces, Shows, Explains, Costs, Lists, TypesNames, Builds}
+use Rattle.talc_words.specs.Command.{Disassembles, command_of}
 
 -- what a command as the code has it asks for
 abbrev pub asked_by : Command → Asked
@@ -26,6 +27,8 @@ asked_by (Explain input) = Explains input.now
 asked_by (Cost input fuel) = Costs input.now fuel
 asked_by (Listing input) = Lists input.now
 asked_by (TypesPage input) = TypesNames input.now
+asked_by (Native input output heap) = Builds input.now output.now heap
+asked_by (Disassembly input heap) = Disassembles input.now heap
 
 -- a command where this is asked for, and a text where nothing is
 abbrev pub AsksFor : Option Asked → Result Command NoCommand → Type 0

@@ -76,6 +76,18 @@ pub enum Command<'a> {
     Types {
         input: &'a str,
     },
+    /// `native [--heap BYTES] IN OUT`: writes an executable file of the assembly text of one file to another, with a
+    /// heap of so many bytes.
+    Native {
+        input: &'a str,
+        output: &'a str,
+        heap: u64,
+    },
+    /// `native --listing [--heap BYTES] IN`: shows the instructions of that executable file.
+    Disassembly {
+        input: &'a str,
+        heap: u64,
+    },
 }
 
 /// Why words come to no command.

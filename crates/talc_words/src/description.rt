@@ -3,8 +3,9 @@ ghost use Rattle.std.specs.Prelude.{◌≡◌, IfOk, codes, false, true};
 ghost use Rattle.clap.specs.Words.{App, Rule, app_of, new_app, rule_of, with_rule, with_subcommand};
 ghost use Rattle.talc_words.specs.Description.{file_rule, number_rule, registers_rule, compile_app, check_app, run_app};
 ghost use Rattle.talc_words.specs.Description.{typeof_app, eval_app, gen_app, upgrade_app, trace_app};
-ghost use Rattle.talc_words.specs.Description.{cost_app, explain_app, form_rule, listing_app, show_app, types_rule};
-ghost use Rattle.talc_words.specs.Description.{bare_app, talc_app, types_app};
+ghost use Rattle.talc_words.specs.Description.{cost_app, explain_app, flag_rule, form_rule, listing_app, show_app};
+ghost use Rattle.talc_words.specs.Description.{bare_app, heap_rule, native_app, optional_file_rule, talc_app};
+ghost use Rattle.talc_words.specs.Description.{types_app};
 
 use clap::builder::ValueParser;
 use clap::{Arg, ArgAction, Command, value_parser};
@@ -17,6 +18,14 @@ fn file<'a>(alloc: Global, name: &'a str, help: &'a str) -> Arg<'a>
 {
     let arg = Arg::new(alloc, name).help(help);
     arg.required(true).action(ArgAction::Set)
+}
+
+// A text of one value, the name of a file, that may be left out.
+fn optional_file<'a>(alloc: Global, name: &'a str, help: &'a str) -> Arg<'a>
+    ensures rule { rule_of result ≡ optional_file_rule name.entry.now }
+    ensures local { result.global ≡ false }
+{
+    Arg::new(alloc, name).help(help).action(ArgAction::Set)
 }
 
 // A required option of one whole number below 2 ^ 64, called by its name.
@@ -45,6 +54,20 @@ fn registers<'a>(alloc: Global) -> Arg<'a>
         .value_parser(ValueParser::unsigned(8, u64::MAX))
 }
 
+// The option of the bytes of a heap, a whole number from 64 KiB to 1 TiB.
+fn heap<'a>(alloc: Global) -> Arg<'a>
+    ensures rule { rule_of result ≡ heap_rule }
+    ensures local { result.global ≡ false }
+{
+    let arg = Arg::new(alloc, "heap").help(
+        "The bytes of the heap, a multiple of 4096 from 65536 to 1099511627776; if left out, 1073741824",
+    );
+    arg.long("heap")
+        .value_name("BYTES")
+        .action(ArgAction::Set)
+        .value_parser(ValueParser::unsigned(65536, 1_099_511_627_776))
+}
+
 // The required option of a form.
 fn form<'a>(alloc: Global) -> Arg<'a>
     ensures rule { rule_of result ≡ form_rule }
@@ -59,15 +82,13 @@ fn form<'a>(alloc: Global) -> Arg<'a>
         .action(ArgAction::Set)
 }
 
-// The option that shows types.
-fn types<'a>(alloc: Global) -> Arg<'a>
-    ensures rule { rule_of result ≡ types_rule }
+// A flag, called by its name.
+fn flag<'a>(alloc: Global, name: &'a str, help: &'a str) -> Arg<'a>
+    ensures rule { rule_of result ≡ flag_rule name.entry.now }
     ensures local { result.global ≡ false }
 {
-    let arg = Arg::new(alloc, "types").help(
-        "Shows the type of what each `let` binds, in each form but source and assembly",
-    );
-    arg.long("types").action(ArgAction::SetTrue)
+    let arg = Arg::new(alloc, name).help(help).long(name);
+    arg.action(ArgAction::SetTrue)
 }
 
 // A command without its arguments.
@@ -101,6 +122,16 @@ fn with<'a>(
         rule_of arg.entry ≡ rule → arg.entry.global ≡ false → IfOk result (λ c. app_of c ≡ with_rule above rule) }
 {
     command?.arg(arg)
+}
+
+// A command with a text that shows how it is used.
+fn with_usage<'a>(
+    command: Result<Command<'a>, AllocError>,
+    usage: &'a str,
+) -> Result<Command<'a>, AllocError>
+    ensures { (above : App) → IfOk command.entry (λ c. app_of c ≡ above) → IfOk result (λ c. app_of c ≡ above) }
+{
+    Ok(command?.override_usage(usage))
 }
 
 fn compile_words<'a>(alloc: Global) -> Result<Command<'a>, AllocError>
@@ -198,7 +229,14 @@ pub(crate) fn show_words<'a>(alloc: Global) -> Result<Command<'a>, AllocError>
         "Shows a form of the program of the source text IN",
     );
     let command = with(command, form(alloc));
-    with(command, types(alloc))
+    with(
+        command,
+        flag(
+            alloc,
+            "types",
+            "Shows the type of what each `let` binds, in each form but source and assembly",
+        ),
+    )
 }
 
 fn explain_words<'a>(alloc: Global) -> Result<Command<'a>, AllocError>
@@ -245,6 +283,33 @@ fn types_words<'a>(alloc: Global) -> Result<Command<'a>, AllocError>
     )
 }
 
+// `native`, with a usage that shows its two forms.
+pub(crate) fn native_words<'a>(alloc: Global) -> Result<Command<'a>, AllocError>
+    ensures { IfOk result (λ c. app_of c ≡ native_app) }
+{
+    let about =
+        "Writes an x86-64 Linux executable of the TAL text IN to OUT, or shows its instructions";
+    let command = reads(alloc, "native", about);
+    let command = with(
+        command,
+        optional_file(alloc, "OUT", "The executable file to write over"),
+    );
+    let command = with(
+        command,
+        flag(
+            alloc,
+            "listing",
+            "Shows the instructions that the file would have, and writes no file",
+        ),
+    );
+    let command = with(command, heap(alloc));
+    with_usage(
+        command,
+        "talc native [--heap <BYTES>] <IN> <OUT>
+       talc native --listing [--heap <BYTES>] <IN>",
+    )
+}
+
 // The command line without its subcommands: one must be given, and there is no `help` among them.
 fn bare_words<'a>(alloc: Global) -> Command<'a>
     ensures { app_of result ≡ bare_app }
@@ -282,5 +347,6 @@ pub(crate) fn talc_words<'a>(alloc: Global) -> Result<Command<'a>, AllocError>
     let all = with_words(all, explain_words(alloc));
     let all = with_words(all, cost_words(alloc));
     let all = with_words(all, listing_words(alloc));
-    with_words(all, types_words(alloc))
+    let all = with_words(all, types_words(alloc));
+    with_words(all, native_words(alloc))
 }

@@ -9,5 +9,5 @@ mod reading;
 
 pub use command::{Command, NoCommand};
 pub use form::Form;
-pub use laws::{command_where_taken, registers_are_enough};
+pub use laws::{command_where_taken, numbers_are_in_bounds};
 pub use reading::read;

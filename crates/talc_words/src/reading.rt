@@ -4,12 +4,12 @@ ghost use Rattle.std.specs.Option.{option_map};
 ghost use Rattle.clap.specs.Words.{first_of, found_of, kind_of, one_of, rows_of, subcommand_rows_of};
 ghost use Rattle.clap.specs.declared.error.kind.ErrorKind.TheVariants.{OutOfMemory};
 ghost use Rattle.talc_words.specs.Command.{asked_between, asked_in, asked_of, asked_with, asked_within, form_in};
-ghost use Rattle.talc_words.specs.Command.{flag_in, number_in, shown_in};
+ghost use Rattle.talc_words.specs.Command.{asked_to_build, flag_in, heap_in, number_in, shown_in};
 ghost use Rattle.talc_words.specs.Command.{Costs, Evaluates, Generates, Runs, Shows, Upgrades};
 ghost use Rattle.talc_words.specs.Reads.{asked_by, AsksFor, Reads};
 
 use crate::command::{Command, NoCommand};
-use crate::description::{show_words, talc_words};
+use crate::description::{native_words, show_words, talc_words};
 use crate::form::{Form, form_named, with_types};
 use clap::error::ErrorKind;
 use clap::{ArgMatches, Error};
@@ -149,6 +149,39 @@ fn costing<'a>(matches: &ArgMatches<'a>) -> Option<Command<'a>>
     Some(Command::Cost { input, fuel })
 }
 
+// The heap that `native` asks for: a multiple of 4096 bytes, 1 GiB where none is given.
+fn heap(matches: &ArgMatches) -> Option<u64>
+    ensures { result ≡ heap_in (rows_of (found_of matches.now)) }
+{
+    if !is_there(matches, "heap") {
+        return Some(1_073_741_824);
+    }
+    let bytes = number(matches, "heap")?;
+    if bytes % 4096 != 0 {
+        return None;
+    }
+    Some(bytes)
+}
+
+// What `native` asks for, with its flag or without.
+fn building<'a>(matches: &ArgMatches<'a>) -> Option<Command<'a>>
+    ensures { option_map asked_by result ≡ asked_to_build (flag_in (codes "listing") (rows_of (found_of matches.now)))
+        (first_of (codes "IN") (rows_of (found_of matches.now)))
+        (first_of (codes "OUT") (rows_of (found_of matches.now))) (heap_in (rows_of (found_of matches.now))) }
+{
+    let input = value(matches, "IN")?;
+    let heap = heap(matches)?;
+    match (flag(matches, "listing"), value(matches, "OUT")) {
+        (false, Some(output)) => Some(Command::Native {
+            input,
+            output,
+            heap,
+        }),
+        (true, None) => Some(Command::Disassembly { input, heap }),
+        _ => None,
+    }
+}
+
 // What the subcommand that was entered asks for.
 fn entered<'a>(name: &str, matches: &ArgMatches<'a>) -> Option<Command<'a>>
     ensures { option_map asked_by result ≡ asked_in name.now (rows_of (found_of matches.now)) }
@@ -182,6 +215,7 @@ fn entered<'a>(name: &str, matches: &ArgMatches<'a>) -> Option<Command<'a>>
             let input = value(matches, "IN")?;
             Some(Command::Types { input })
         }
+        "native" => building(matches),
         _ => None,
     }
 }
@@ -245,13 +279,40 @@ fn no_form(alloc: Global, name: &str) -> Result<Error, AllocError> {
     show.error(ErrorKind::InvalidValue, text.as_str())
 }
 
+// `clap`'s error on a value of `heap` that is no multiple of 4096, on OUT and `--listing` together, and on neither.
+fn no_file(alloc: Global, found: &ArgMatches) -> Result<Error, AllocError> {
+    let mut native = native_words(alloc)?.bin_name("talc native")?;
+    if heap(found).is_none() {
+        let bytes = value(found, "heap").unwrap_or("");
+        let text = format!(in alloc;
+            "invalid value '{bytes}' for '--heap <BYTES>': {bytes} is not a multiple of 4096"
+        )?;
+        return native.error(ErrorKind::ValueValidation, text.as_str());
+    }
+    if flag(found, "listing") {
+        let text = "the argument '--listing' cannot be used with '[OUT]'";
+        return native.error(ErrorKind::ArgumentConflict, text);
+    }
+    let text = "the following required arguments were not provided:
+  <OUT>";
+    native.error(ErrorKind::MissingRequiredArgument, text)
+}
+
+// `clap`'s error on a value of a subcommand that it takes, and that asks for nothing.
+fn no_value(alloc: Global, name: &str, found: &ArgMatches) -> Result<Error, AllocError> {
+    if name == "native" {
+        return no_file(alloc, found);
+    }
+    no_form(alloc, value(found, "form").unwrap_or(""))
+}
+
 // The text on words that `clap` takes, and that ask for nothing.
 fn not_asked(alloc: Global, matches: &ArgMatches) -> NoCommand {
-    let name = match matches.subcommand() {
-        Some((_, found)) => value(found, "form"),
-        None => None,
+    let made = match matches.subcommand() {
+        Some((name, found)) => no_value(alloc, name, found),
+        None => no_form(alloc, ""),
     };
-    match no_form(alloc, name.unwrap_or("")) {
+    match made {
         Ok(error) => not_taken(alloc, &error),
         Err(_) => NoCommand::Memory,
     }
@@ -268,8 +329,9 @@ fn asked_or_not<'a>(alloc: Global, matches: &ArgMatches<'a>) -> Result<Command<'
 }
 
 /// What the words ask for, where they are a command by the description of the command line; the program's own name is
-/// the first of them, a form has one of the six names, and with `--types` it is one that can be shown with types. Words
-/// that are none come back as `clap`'s text for the user.
+/// the first of them, a form has one of the six names, with `--types` it is one that can be shown with types, a heap is
+/// a multiple of 4096 bytes, and `native` has either OUT or `--listing`. Words that are none come back as `clap`'s text
+/// for the user.
 pub fn read<'a>(alloc: Global, words: &'a Vec<String>) -> Result<Command<'a>, NoCommand>
     ensures { Reads (map string_bytes words.entry.now.items) result }
 {

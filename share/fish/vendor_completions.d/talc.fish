@@ -35,3 +35,7 @@ complete -c talc -n __fish_use_subcommand -a listing -d 'Shows the TAL text IN w
 complete -c talc -n '__fish_seen_subcommand_from listing' -k -a '(__fish_complete_suffix .tal)'
 complete -c talc -n __fish_use_subcommand -a types -d 'Shows the names that the source text IN binds, with their types'
 complete -c talc -n '__fish_seen_subcommand_from types' -k -a '(__fish_complete_suffix .f)'
+complete -c talc -n __fish_use_subcommand -a native -d 'Writes an x86-64 Linux executable of the TAL text IN to OUT, or shows its instructions'
+complete -c talc -n '__fish_seen_subcommand_from native' -l listing -d 'Shows the instructions that the file would have, and writes no file'
+complete -c talc -n '__fish_seen_subcommand_from native' -l heap -x -d 'The bytes of the heap, a multiple of 4096 from 65536 to 1099511627776; if left out, 1073741824'
+complete -c talc -n '__fish_seen_subcommand_from native' -k -a '(__fish_complete_suffix .tal)'

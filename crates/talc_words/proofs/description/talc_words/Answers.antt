@@ -15,4 +15,5 @@ returns c =
     let explain = c.with_words-all-10.ensures _ _ show c.explain_words.ensures refl in
     let cost = c.with_words-all-11.ensures _ _ explain c.cost_words.ensures refl in
     let listing = c.with_words-all-12.ensures _ _ cost c.listing_words.ensures refl in
-    c.with_words.ensures _ _ listing c.types_words.ensures refl
+    let types = c.with_words-all-13.ensures _ _ listing c.types_words.ensures refl in
+    c.with_words.ensures _ _ types c.native_words.ensures refl

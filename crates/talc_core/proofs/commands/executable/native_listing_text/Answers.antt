@@ -1,0 +1,11 @@
+use Rattle.t_terms.specs.ReadProgram.{spanned_program}
+use Rattle.t_check.specs.Checked.{checked_program}
+use Rattle.talc_core.proofs.commands.executable.native_listing_text.Goals as goal
+
+pub returns : goal.returns
+returns c = record {
+  program = spanned_program (checked_program c.in_ok-checked.checked);
+  accepted = c.in_ok-checked.ensures;
+  listing = c.in_ok-line.ensures.listing;
+  bounds = c.in_ok-line.ensures.fits;
+}

@@ -1,0 +1,5 @@
+use Rattle.talc_core.proofs.NativeLemmas as lemmas
+use Rattle.talc_core.proofs.laws.native_shows_the_same.Goals as goal
+
+pub returns : goal.returns
+returns c = lemmas.native_shows_the_same c.texts_keep_laws.ensures

@@ -7,8 +7,16 @@ const $ = (id) => document.getElementById(id);
 const token = document.querySelector('meta[name=token]').content;
 
 // The tabs of the views, of which the first six are forms of a program; all but the assembly text are told by `show`.
+// The two behind them are told by `native --listing` of the assembly text, where the program has that command.
 const TABS = Object.fromEntries([...document.querySelectorAll('[role=tab]')].map((it) => [it.id.slice(4), it]));
-const VIEWS = Object.keys(TABS), FORMS = VIEWS.slice(0, 6), SHOWN = FORMS.slice(0, 5);
+const VIEWS = Object.keys(TABS), FORMS = VIEWS.slice(0, 6), SHOWN = FORMS.slice(0, 5), NATIVE = VIEWS.slice(6, 8);
+const LANGUAGES = { source: 'source', assembly: 'tal', word: 'listing', native: 'listing' };
+// The lines of instructions and those at which blocks begin. In an assembly text that is written each instruction is a
+// line, and labels have large letters. In a listing word code stands in comments, and machine code behind addresses.
+const BLOCK = /^[0-9a-f]{16} </gm, MACHINE = /^ *[0-9a-f]+:\t.*\n/gm;
+const COUNTED = {
+    assembly: [/^(?!tal )[a-z]/gm, /^L\d+: code/gm], word: [/^ {2}; /gm, BLOCK], native: [MACHINE, BLOCK],
+};
 const EXTENSIONS = { source: 'f', tal: 'tal', assembly: 'tal' };
 // Of a longer text only the forms in sight are asked for.
 const MOST_EAGER = 30000;
@@ -118,7 +126,7 @@ async function refresh() {
             machine.clear('Nothing runs while the text has a fault.');
         } else {
             machine.pane ?? machine.clear('');
-            await (mode === 'tal' ? showRun(text, editors.tal, signal) : showProgram(mine));
+            await (mode === 'tal' ? showAssembly(mine, text, editors.tal) : showProgram(mine));
         }
         document.body.classList.remove('busy');
     });
@@ -132,11 +140,31 @@ async function showProgram(mine) {
         say('compile', found, fill('assembly', found));
         if (found.status === 0) {
             panes.machine.show(found.out, 'tal');
-            await showRun(found.out, panes.machine, signal);
+            await showAssembly(mine, found.out, panes.machine);
+        } else {
+            NATIVE.forEach((it) => fill(it, found, ''));
         }
     };
     const evaluate = async () => say('eval', await ask('eval', { turns: $('turns').value }, text, signal));
     await Promise.all([evaluate(), showForms(mine), compile()]);
+}
+
+// Shows the run and the native code of an assembly text.
+function showAssembly(mine, assembly, pane) {
+    mine.assembly = assembly;
+    return Promise.all([showRun(assembly, pane, mine.aborter.signal), showNative(mine)]);
+}
+
+// Shows word code and machine code, of a long text where they are in sight. One listing has both.
+function showNative(mine) {
+    const { assembly, aborter: { signal } } = mine;
+    const isWanted = assembly?.length <= MOST_EAGER || NATIVE.some((it) => !articles[it].hidden);
+    const show = async () => {
+        const found = await ask('native', {}, assembly, signal), listing = found.status === 0 ? found.out : '';
+        fill('word', found, listing.replace(MACHINE, ''));
+        fill('native', found, listing);
+    };
+    return commands.has('native') && assembly !== undefined && isWanted ? mine.native ??= show() : null;
 }
 
 // Shows the forms in sight, and of a short text all, each asked for once.
@@ -152,14 +180,14 @@ function counted(count, word) {
 }
 
 // Puts a form, or why there is none, into its pane, and gives its size in words.
-function fill(form, found) {
-    const text = articles[form].text = found.status === 0 ? found.out : '';
-    panes[form].show(text || found.said, { source: 'source', assembly: 'tal' }[form] ?? 'inner');
+function fill(form, found, text = found.status === 0 ? found.out : '') {
+    articles[form].text = text;
+    panes[form].show(text || found.said, LANGUAGES[form] ?? 'inner');
     const lines = text.split('\n').length - 1;
-    // In an assembly text that is written each instruction is a line, and labels have large letters.
     const many = (pattern, word) => counted((text.match(pattern) ?? []).length, word);
-    const size = form !== 'assembly' ? counted(lines, 'line')
-        : `${many(/^(?!tal )[a-z]/gm, 'instruction')} in ${many(/^L\d+: code/gm, 'block')}`;
+    const [instructions, blocks] = COUNTED[form] ?? [];
+    const size = !instructions ? counted(lines, 'line')
+        : `${many(instructions, 'instruction')} in ${many(blocks, 'block')}`;
     Object.assign(articles[form].querySelector('.sizes'), { textContent: size, title: commandOf(found) });
     TABS[form].querySelector('small').textContent = text ? lines.toLocaleString('en') : '';
     return text ? size : found.said;
@@ -216,8 +244,8 @@ function choose(name, focus) {
     if (focus) {
         TABS[name].focus();
     }
-    if (mode === 'source' && !document.body.classList.contains('refused') && turn.forms) {
-        attempt(() => showForms(turn));
+    if (!document.body.classList.contains('refused') && turn.forms) {
+        attempt(() => Promise.all([mode === 'source' ? showForms(turn) : null, showNative(turn)]));
     }
     machine.pane?.reveal('now');
 }
@@ -308,9 +336,10 @@ function build() {
             panes[view] = new Pane(article.querySelector('.text'));
         }
     }
-    for (const form of FORMS) {
+    NATIVE.forEach((it) => (TABS[it].hidden = !commands.has('native')));
+    for (const form of [...FORMS, ...NATIVE]) {
         const part = (name) => articles[form].querySelector(name);
-        const named = () => `${nameOf('source').replace(/\.\w+$/, '') || 'program'}.${EXTENSIONS[form] ?? `${form}.txt`}`;
+        const named = () => `${nameOf(mode).replace(/\.\w+$/, '') || 'program'}.${EXTENSIONS[form] ?? `${form}.txt`}`;
         part('h2').textContent = TABS[form].firstChild.textContent;
         part('.about').textContent = TABS[form].title;
         part('.save').onclick = () => save(articles[form].text ?? '', named());
@@ -319,7 +348,7 @@ function build() {
     }
     machine = new Machine(articles.machine, ask, attempt);
     document.querySelector('[role=tablist]').addEventListener('keydown', (event) => {
-        const tabs = mode === 'tal' ? ['machine'] : VIEWS, at = tabs.indexOf(views[mode]);
+        const tabs = VIEWS.filter((it) => TABS[it].checkVisibility()), at = tabs.indexOf(views[mode]);
         const to = { ArrowRight: at + 1, ArrowLeft: at - 1 + tabs.length, Home: 0, End: tabs.length - 1 }[event.key];
         if (to !== undefined) {
             event.preventDefault();

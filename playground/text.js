@@ -2,8 +2,17 @@
 // What a text means is never decided here, but asked of the program.
 
 const TOKEN = /--[^\n]*|[A-Za-z]\w*|~?\d+|->|:=|\s+|[^]/gu;
+// In a listing of native code: a comment that is no word code; what stands before an instruction; words and numbers.
+const LISTED = new RegExp([
+    /^; [^\n]*/, /^ {2};/, /^ *[0-9a-f]+:\t[^\t\n]*\t/, /^[0-9a-f]{16} /,
+    /L\d+(?:\.\d+\+?)?/, /[A-Za-z][\w.]*/, /0x[0-9a-f]+/, /\n+/, /[ \t]+/, /[^]/,
+].map((it) => it.source).join('|'), 'gmu');
+const LISTED_REGISTER = /^(?:w\d+|r\d+|r[abcd]x|r[sd]i|rbp)$/;
 // Where labels are defined, in each language.
-const DEFINED = { source: /(?!)/g, tal: /(\w+)\s*:\s*(?:code|data)\b/g, inner: /\b([LD]\d+)\s*:/g };
+const DEFINED = {
+    source: /(?!)/g, tal: /(\w+)\s*:\s*(?:code|data)\b/g, inner: /\b([LD]\d+)\s*:/g,
+    listing: /^[0-9a-f]{16} <([^>\n]+)>/gm,
+};
 // A text is put on the page in parts of so many lines, of fewer where these are long. Of a long line so many characters
 // have colours.
 const PART_LINES = 50, PART_LENGTH = 10000;
@@ -37,14 +46,33 @@ function outlineOf(text, language) {
 
 // The tokens of a part of a text, which begins at a place of it, in order and without holes: text, start, end and kind.
 export function cut(text, language, labels = outlineOf(text, language).labels, from = 0) {
-    return Array.from(text.matchAll(TOKEN), (found) => {
+    return Array.from(text.matchAll(language === 'listing' ? LISTED : TOKEN), (found) => {
         const [it] = found, start = from + found.index;
         return { text: it, start, end: start + it.length, kind: kindOf(it, language, labels) };
     });
 }
 
+function kindOfListed(it, labels) {
+    if (/^\s+$/.test(it)) {
+        return '';
+    } else if (it.startsWith('; ')) {
+        return 'comment';
+    } else if (it.startsWith('0x')) {
+        return 'number';
+    } else if (labels.has(it)) {
+        return 'label';
+    } else if (LISTED_REGISTER.test(it)) {
+        return 'register';
+    } else if (['QWORD', 'PTR', 'ds'].includes(it)) {
+        return 'type';
+    }
+    return /^[a-z]/.test(it) && !/\s/.test(it) ? 'instruction' : 'sign';
+}
+
 function kindOf(it, language, labels) {
-    if (/^\s/.test(it)) {
+    if (language === 'listing') {
+        return kindOfListed(it, labels);
+    } else if (/^\s/.test(it)) {
         return '';
     } else if (it.startsWith('--')) {
         return 'comment';
